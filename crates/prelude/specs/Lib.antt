@@ -1,0 +1,5 @@
+pub mod Choice
+pub mod Bytes
+pub mod Walk
+pub mod Lists
+pub mod Fault
