@@ -1,0 +1,4 @@
+pub mod Ends
+pub mod Ahead
+pub mod Cases
+pub mod Loops

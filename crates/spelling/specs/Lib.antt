@@ -1,0 +1,5 @@
+pub mod Classes
+pub mod Continuation
+pub mod Escape
+pub mod Text
+pub mod Pair
