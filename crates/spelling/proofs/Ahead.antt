@@ -4,6 +4,7 @@ use mathlib.Core.Path.{_≡_, refl, sym, _∙_, ap, subst}
 use mathlib.Core.Bool.{Bool, true, false}
 use mathlib.Core.List.{List, [], _∷_}
 use Prim.Native.Nat.{ℕ, zero, suc, _+_, _-_, _*_, _≤_, _<_}
+use native.Mathlib.Decide.{decLt}
 use native.Mathlib.Omega.{arith}
 use lib.ListN.{length}
 use Rattle.prelude.specs.Choice.{ifLt, ifEq, ifTrue}
@@ -22,6 +23,7 @@ use Rattle.spelling.specs.declared.Character.the-variants.{One, Broken, 
 use Rattle.spelling.specs.declared.Paired.{Paired}
 use Rattle.spelling.specs.declared.Paired.the-variants.{On, Differ, Ended}
 use Rattle.spelling.proofs.Ends.{name-byte, joined-from, joined-in}
+use Rattle.spelling.proofs.Cases.{character-past}
 
 -- a value below its bound was read from a byte
 hex-byte : (c : ℕ) → hexOf c < 16 → c < 256
@@ -106,16 +108,31 @@ unfolding characterAt
 character-in q s at l =
     later s at (joined s at) (characterFrom q s (joined s at)) (joined-from s at) (from-in q s (joined s at) (joined-in s at l))
 
--- the character that was read
-pub read-in : (q : Bool) (s : List ℕ) (at : ℕ) (x : Character) → at ≤ length s → x ≡ characterAt q s at → CharacterIn s at x
-read-in q s at x l e = subst (CharacterIn s at) (sym e) (character-in q s at l)
+-- a decoded byte that was read at any place stands within the text
+abbrev pub OneIn : List ℕ → ℕ → Character → Type 0
+OneIn s at (One value next) = (at < next) × (next ≤ length s) × (value < 256)
+OneIn s at (Broken place) = Unit {0}
+OneIn s at (Stop place) = Unit {0}
+
+only-one : (s : List ℕ) (at : ℕ) (x : Character) → CharacterIn s at x → OneIn s at x
+only-one s at (One value next) h = h
+only-one s at (Broken place) h = tt
+only-one s at (Stop place) h = tt
+
+pub one-in : (q : Bool) (s : List ℕ) (at : ℕ) (x : Character) → x ≡ characterAt q s at → OneIn s at x
+one-in q s at x e =
+    subst (OneIn s at) (sym e)
+    (elim (decLt (length s) at) [
+      | yes h ↦ subst (OneIn s at) (character-past q s at (joined s at) refl (omega (arith, joined-from s at))) tt
+      | no h ↦ only-one s at (characterAt q s at) (character-in q s at (omega arith))
+    ])
 
 abbrev pub PairIn : List ℕ → ℕ → ℕ → Paired → Type 0
 PairIn s i j (On one two) = ((i < one) × (one ≤ length s)) × ((j < two) × (two ≤ length s))
 PairIn s i j Differ = Unit {0}
 PairIn s i j Ended = Unit {0}
 
-pair-in : (s : List ℕ) (i j : ℕ) (x y : Character) → CharacterIn s i x → CharacterIn s j y → PairIn s i j (pairOf x y)
+pair-in : (s : List ℕ) (i j : ℕ) (x y : Character) → OneIn s i x → OneIn s j y → PairIn s i j (pairOf x y)
 unfolding pairOf pairOne pairEnd
 pair-in s i j (One v n) (One w m) h g = either-eq (PairIn s i j) v w _ _ (λ _. ((h .0, h .1), (g .0, g .1))) (λ _. tt)
 pair-in s i j (One v n) (Broken p) h g = tt
@@ -127,7 +144,8 @@ pair-in s i j (Stop p) (One w m) h g = tt
 pair-in s i j (Stop p) (Broken q) h g = tt
 pair-in s i j (Stop p) (Stop q) h g = tt
 
-pub paired-in : (s : List ℕ) (i j : ℕ) (z : Paired) → i ≤ length s → j ≤ length s → z ≡ pairAt s i j → PairIn s i j z
+pub paired-in : (s : List ℕ) (i j : ℕ) (z : Paired) → z ≡ pairAt s i j → PairIn s i j z
 unfolding pairAt
-paired-in s i j z l m e =
-    subst (PairIn s i j) (sym e) (pair-in s i j (characterAt false s i) (characterAt false s j) (character-in false s i l) (character-in false s j m))
+paired-in s i j z e =
+    subst (PairIn s i j) (sym e)
+    (pair-in s i j (characterAt false s i) (characterAt false s j) (one-in false s i _ refl) (one-in false s j _ refl))

@@ -21,7 +21,7 @@ use Rattle.spelling.specs.declared.Ending.the-variants as ending
 use Rattle.spelling.specs.declared.Spelled.{Spelled}
 use Rattle.spelling.specs.declared.Paired.{Paired}
 use Rattle.spelling.specs.declared.Paired.the-variants.{On, Differ, Ended}
-use Rattle.spelling.proofs.Ahead.{CharacterIn, read-in, PairIn, paired-in}
+use Rattle.spelling.proofs.Ahead.{OneIn, one-in, PairIn, paired-in}
 
 -- the text from a place on, by the character there
 text-by : (k : ℕ) (q : Bool) (s : List ℕ) (at : ℕ) (x : Character) → x ≡ characterAt q s at
@@ -63,40 +63,40 @@ measure-start t =
     ap (λ (n : ℕ). record { size = n; hash = hashFrom 0 (t .bytes); ending = t .ending }) p
 
 pub record Spelling (q : Bool) (s : List ℕ) (at i size hash : ℕ) : Type 0 where
-  pub within : i ≤ length s
   pub few : size ≤ i
+  pub fits : size ≤ length s
   pub count : ℕ
   pub enough : length s - i ≤ count
   pub rest : measuredFrom size hash (spelledWithin (suc count) q s i) ≡ measured (spelledAt q s at)
 
-pub spelling-start : (q : Bool) (s : List ℕ) (at : ℕ) → at ≤ length s → Spelling q s at at 0 0
+pub spelling-start : (q : Bool) (s : List ℕ) (at : ℕ) → Spelling q s at at 0 0
 unfolding spelledAt
-spelling-start q s at h =
-    record { within = h; few = omega arith; count = length s; enough = omega arith; rest = measure-start (spelledWithin (suc (length s)) q s at) }
+spelling-start q s at =
+    record { few = omega arith; fits = omega arith; count = length s; enough = omega arith; rest = measure-start (spelledWithin (suc (length s)) q s at) }
 
 more-spelt : (q : Bool) (s : List ℕ) (at i size hash v n h′ : ℕ) (x : Character) (c : ℕ) → length s - i ≤ c
-    → measuredFrom size hash (spelledWithin (suc c) q s i) ≡ measured (spelledAt q s at) → size ≤ i → CharacterIn s i (One v n)
+    → measuredFrom size hash (spelledWithin (suc c) q s i) ≡ measured (spelledAt q s at) → size ≤ i → OneIn s i (One v n)
     → x ≡ characterAt q s i → x ≡ One v n → h′ ≡ mix hash v → Spelling q s at n (size + 1) h′
 more-spelt q s at i size hash v n h′ x zero g r f a p e m = let z : ⊥ = omega (arith, a .0, a .1) in absurd z
 more-spelt q s at i size hash v n h′ x (suc c) g r f a p e m =
     record {
-      within = a .1;
       few = omega (arith, a .0);
+      fits = omega (arith, a .0, a .1);
       count = c;
       enough = omega (arith, a .0);
       rest = ap (λ (y : ℕ). measuredFrom (size + 1) y (spelledWithin (suc c) q s n)) m ∙ sym (measure-more size hash v (spelledWithin (suc c) q s n)) ∙ ap (measuredFrom size hash) (sym (text-one (suc c) q s i v n x p e)) ∙ r;
     }
 
 module _ (q : Bool) (s : List ℕ) (at i size hash : ℕ) (x : Character) where
-  one-in : (v n : ℕ) → Spelling q s at i size hash → x ≡ characterAt q s i → x ≡ One v n → CharacterIn s i (One v n)
-  one-in v n h p e = subst (CharacterIn s i) e (read-in q s i x (h .within) p)
+  one-here : (v n : ℕ) → Spelling q s at i size hash → x ≡ characterAt q s i → x ≡ One v n → OneIn s i (One v n)
+  one-here v n h p e = subst (OneIn s i) e (one-in q s i x p)
 
   pub spelling-more : (v n h′ : ℕ) → Spelling q s at i size hash → x ≡ characterAt q s i → x ≡ One v n → h′ ≡ mix hash v → Spelling q s at n (size + 1) h′
   spelling-more v n h′ h p e m =
-      more-spelt q s at i size hash v n h′ x (h .count) (h .enough) (h .rest) (h .few) (one-in v n h p e) p e m
+      more-spelt q s at i size hash v n h′ x (h .count) (h .enough) (h .rest) (h .few) (one-here v n h p e) p e m
 
   pub spelling-less : (v n : ℕ) → Spelling q s at i size hash → x ≡ characterAt q s i → x ≡ One v n → length s - n < length s - i
-  spelling-less v n h p e = let a : CharacterIn s i (One v n) = one-in v n h p e in omega (arith, a .0, a .1)
+  spelling-less v n h p e = let a : OneIn s i (One v n) = one-here v n h p e in omega (arith, a .0, a .1)
 
   pub spelling-broken : (b : ℕ) → Spelling q s at i size hash → x ≡ characterAt q s i → x ≡ Broken b
       → record { size = size; hash = hash; ending = ending.Broken b } ≡ measured (spelledAt q s at)
@@ -133,18 +133,16 @@ pair-rest (Stop p) (Broken q) f g = refl
 pair-rest (Stop p) (Stop q) f g = refl
 
 pub record Comparing (s : List ℕ) (p q i j : ℕ) : Type 0 where
-  pub within : i ≤ length s
-  pub inside : j ≤ length s
   pub one : ℕ
   pub two : ℕ
   pub enough : length s - i ≤ one
   pub room : length s - j ≤ two
   pub rest : sameList (spelledWithin (suc one) false s i .bytes) (spelledWithin (suc two) false s j .bytes) ≡ sameList (nameAt s p) (nameAt s q)
 
-pub comparing-start : (s : List ℕ) (p q : ℕ) → p ≤ length s → q ≤ length s → Comparing s p q p q
+pub comparing-start : (s : List ℕ) (p q : ℕ) → Comparing s p q p q
 unfolding nameAt spelledAt
-comparing-start s p q h g =
-    record { within = h; inside = g; one = length s; two = length s; enough = omega arith; room = omega arith; rest = refl }
+comparing-start s p q =
+    record { one = length s; two = length s; enough = omega arith; room = omega arith; rest = refl }
 
 -- both texts one character on
 rest-is : (s : List ℕ) (i j : ℕ) (z : Paired) (c d : ℕ) → z ≡ pairAt s i j
@@ -167,7 +165,7 @@ module _ (s : List ℕ) (p q i j : ℕ) (z : Paired) where
       ∙ sym (rest-is s i j z (h .one) (h .two) e) ∙ h .rest
 
   on-in : (a b : ℕ) → Comparing s p q i j → z ≡ pairAt s i j → z ≡ On a b → PairIn s i j (On a b)
-  on-in a b h e f = subst (PairIn s i j) f (paired-in s i j z (h .within) (h .inside) e)
+  on-in a b h e f = subst (PairIn s i j) f (paired-in s i j z e)
 
   pub comparing-less : (a b : ℕ) → Comparing s p q i j → z ≡ pairAt s i j → z ≡ On a b → length s - a < length s - i
   comparing-less a b h e f = let w : PairIn s i j (On a b) = on-in a b h e f in omega (arith, w .0 .0, w .0 .1)
@@ -179,8 +177,6 @@ module _ (s : List ℕ) (p q i j : ℕ) (z : Paired) where
   on-more a b (suc c) zero g k w r e f = let x : ⊥ = omega (arith, w .1 .0, w .1 .1) in absurd x
   on-more a b (suc c) (suc d) g k w r e f =
       record {
-        within = w .0 .1;
-        inside = w .1 .1;
         one = c;
         two = d;
         enough = omega (arith, w .0 .0);
@@ -225,24 +221,22 @@ overlay-more k v xs out h =
     (append-snoc (take k out) v (overlay xs (drop (suc k) out)) ∙ ap (λ (l : List ℕ). take k out ++ l) (sym (overlay-one v xs (getD out k 0) (drop (suc k) out))) ∙ ap (λ (l : List ℕ). take k out ++ overlay (v ∷ xs) l) (sym (drop-cons out k 0 h)))
 
 pub record Copying (q : Bool) (s : List ℕ) (at : ℕ) (out₀ out : List ℕ) (i k : ℕ) : Type 0 where
-  pub within : i ≤ length s
   pub long : length out ≡ length out₀
   pub count : ℕ
   pub enough : length s - i ≤ count
   pub rest : overlayFrom k (spelledWithin (suc count) q s i .bytes) out ≡ overlay (spelledAt q s at .bytes) out₀
 
-pub copying-start : (q : Bool) (s : List ℕ) (at : ℕ) (out : List ℕ) → at ≤ length s → Copying q s at out out at 0
+pub copying-start : (q : Bool) (s : List ℕ) (at : ℕ) (out : List ℕ) → Copying q s at out out at 0
 unfolding spelledAt
-copying-start q s at out h =
-    record { within = h; long = refl; count = length s; enough = omega arith; rest = overlay-start (spelledWithin (suc (length s)) q s at .bytes) out }
+copying-start q s at out =
+    record { long = refl; count = length s; enough = omega arith; rest = overlay-start (spelledWithin (suc (length s)) q s at .bytes) out }
 
 copied : (q : Bool) (s : List ℕ) (at : ℕ) (out₀ out : List ℕ) (i k v n : ℕ) (x : Character) (c : ℕ) → length s - i ≤ c
-    → overlayFrom k (spelledWithin (suc c) q s i .bytes) out ≡ overlay (spelledAt q s at .bytes) out₀ → length out ≡ length out₀ → CharacterIn s i (One v n)
+    → overlayFrom k (spelledWithin (suc c) q s i .bytes) out ≡ overlay (spelledAt q s at .bytes) out₀ → length out ≡ length out₀ → OneIn s i (One v n)
     → k < length out → x ≡ characterAt q s i → x ≡ One v n → Copying q s at out₀ (set out k v) n (k + 1)
 copied q s at out₀ out i k v n x zero g r l a w p e = let z : ⊥ = omega (arith, a .0, a .1) in absurd z
 copied q s at out₀ out i k v n x (suc c) g r l a w p e =
     record {
-      within = a .1;
       long = length-set out k v ∙ l;
       count = c;
       enough = omega (arith, a .0);
@@ -250,8 +244,8 @@ copied q s at out₀ out i k v n x (suc c) g r l a w p e =
     }
 
 module _ (q : Bool) (s : List ℕ) (at : ℕ) (out₀ out : List ℕ) (i k : ℕ) (x : Character) where
-  pub copying-in : (v n : ℕ) → Copying q s at out₀ out i k → x ≡ characterAt q s i → x ≡ One v n → CharacterIn s i (One v n)
-  copying-in v n h p e = subst (CharacterIn s i) e (read-in q s i x (h .within) p)
+  pub copying-in : (v n : ℕ) → Copying q s at out₀ out i k → x ≡ characterAt q s i → x ≡ One v n → OneIn s i (One v n)
+  copying-in v n h p e = subst (OneIn s i) e (one-in q s i x p)
 
   pub copying-byte : (v n : ℕ) → Copying q s at out₀ out i k → x ≡ characterAt q s i → x ≡ One v n → v < 256
   copying-byte v n h p e = copying-in v n h p e .2

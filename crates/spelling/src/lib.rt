@@ -324,7 +324,6 @@ fn mixed(hash: u32, value: u32) -> u32
 
 // The text of a string (quoted) or a symbol from a place on, measured.
 pub fn spell(quoted: bool, s: &[u8], at: usize) -> Spelled
-    requires { ⌜ at ≤ length (now s) ⌝ }
     ensures { λ r. ⌜ r ≡ measured (spelledAt quoted (now (s .entry)) at) ⌝ }
 {
     let mut i = at;
@@ -405,7 +404,6 @@ fn pair_at(s: &[u8], i: usize, j: usize) -> Paired
 
 // Whether the symbols at two places have the same decoded bytes, all of them.
 pub fn same_name(s: &[u8], p: usize, q: usize) -> bool
-    requires { ⌜ (p ≤ length (now s)) × (q ≤ length (now s)) ⌝ }
     ensures { λ r. ⌜ r ≡ sameList (nameAt (now (s .entry)) p) (nameAt (now (s .entry)) q) ⌝ }
 {
     let mut i = p;
@@ -435,7 +433,6 @@ fn narrow(v: u32) -> u8
 
 // The decoded bytes of a string (quoted) or a symbol over the front of a buffer, as many as it has room for.
 pub fn copy_text(quoted: bool, s: &[u8], at: usize, out: &mut [u8])
-    requires { ⌜ at ≤ length (now s) ⌝ }
     ensures { λ _. ⌜ now (out .exit) ≡ overlay (spelledAt quoted (now (s .entry)) at .bytes) (now (out .entry)) ⌝ }
 {
     let mut i = at;
