@@ -2,7 +2,8 @@
 -- steps left. A loop of measure μ keeps `Runs f d r a (suc μ)`, r being the answer of the whole.
 -- Assumes nothing.
 use mathlib.Core.Path.{_≡_, refl, sym, _∙_, ap}
-use Prim.Native.Nat.{ℕ, zero, suc, _≤_}
+use Prim.Native.Nat.{ℕ, zero, suc, _≤_, _<_}
+use native.Mathlib.Omega.{arith}
 use native.Mathlib.Nat.{le-trans, le-of-suc-le-suc, not-suc-le-zero}
 use Rattle.prelude.specs.Walk.{Step, go, stop, after, walk}
 
@@ -51,3 +52,20 @@ module _ {A R : Type 0} where
   unfolding walk
   walk-kept P Q f d z h zero a p = z
   walk-kept P Q f d z h (suc k) a p = after-kept P Q (f a) (λ b. walk f d k b) (h a p) (λ b q. walk-kept P Q f d z h k b q)
+
+  -- where a number falls with each step and the count is above it, the answer is that of a step that stops
+  abbrev pub Ends : (A → Type 0) → (R → Type 0) → (A → ℕ) → A → Step A R → Type 0
+  Ends P Q m a (go b) = P b × (m b < m a)
+  Ends P Q m a (stop r) = Q r
+
+  after-ends : (P : A → Type 0) (Q : R → Type 0) (m : A → ℕ) (a : A) (x : Step A R) (g : A → R) → Ends P Q m a x
+      → ((b : A) → P b → m b < m a → Q (g b)) → Q (after x g)
+  after-ends P Q m a (go b) g h k = k b (h .0) (h .1)
+  after-ends P Q m a (stop r) g h k = h
+
+  pub walk-ends : (P : A → Type 0) (Q : R → Type 0) (m : A → ℕ) (f : A → Step A R) (d : R) → ((a : A) → P a → Ends P Q m a (f a))
+      → (k : ℕ) (a : A) → m a < k → P a → Q (walk f d k a)
+  unfolding walk
+  walk-ends P Q m f d h zero a l p = absurd (not-suc-le-zero l)
+  walk-ends P Q m f d h (suc k) a l p =
+      after-ends P Q m a (f a) (λ b. walk f d k b) (h a p) (λ b q g. walk-ends P Q m f d h k b (omega arith) q)

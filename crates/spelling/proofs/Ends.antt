@@ -11,7 +11,7 @@ use Rattle.prelude.specs.Bytes.{byteAt}
 use Rattle.prelude.specs.Walk.{Step, go, stop, walk}
 use Rattle.prelude.proofs.Choice.{ifTrue-yes, ifTrue-no, ifEq-no, ifEq-yes, either, either-eq, either-true, true-false}
 use Rattle.prelude.proofs.Bytes.{byte-within}
-use Rattle.prelude.proofs.Walk.{Runs, runs-start, runs-go, runs-stop, Kept, walk-kept}
+use Rattle.prelude.proofs.Walk.{Runs, runs-start, runs-go, runs-stop, Kept, walk-kept, Ends, walk-ends, walk-stop}
 use Rattle.spelling.specs.Classes.{isBlank, isDigit, isLetter, isNameByte}
 use Rattle.spelling.specs.Continuation.{blankStep, blanksEnd, isJoint, joinStep, joined}
 
@@ -132,6 +132,28 @@ module _ (s : List ℕ) (at : ℕ) where
   unfolding joined
   joined-in h =
       walk-kept (λ (j : ℕ). j ≤ length s) (λ (j : ℕ). j ≤ length s) (joinStep s) at h join-in (suc (length s)) at h
+
+-- behind continuations no continuation stands
+join-ends : (s : List ℕ) (i : ℕ) → Ends (λ (j : ℕ). Unit {0}) (λ (j : ℕ). isJoint s j ≡ false) (λ (j : ℕ). length s - j) i (joinStep s i)
+unfolding joinStep
+join-ends s i =
+    either-true (Ends (λ (j : ℕ). Unit {0}) (λ (j : ℕ). isJoint s j ≡ false) (λ (j : ℕ). length s - j) i) (isJoint s i) _ _
+    (λ e. let w : i + 2 ≤ length s = joint-within s i e in (tt, omega (arith, blanks-from s (i + 2))))
+    (λ e. e)
+
+pub joined-none : (s : List ℕ) (at : ℕ) → isJoint s (joined s at) ≡ false
+unfolding joined
+joined-none s at =
+    walk-ends (λ (j : ℕ). Unit {0}) (λ (j : ℕ). isJoint s j ≡ false) (λ (j : ℕ). length s - j) (joinStep s) at (λ i _. join-ends s i) (suc (length s)) at (omega arith) tt
+
+-- where none stands, the place is the same
+join-here : (s : List ℕ) (i : ℕ) → isJoint s i ≡ false → joinStep s i ≡ stop i
+unfolding joinStep
+join-here s i e = ifTrue-no _ _ e
+
+pub joined-same : (s : List ℕ) (at : ℕ) → isJoint s at ≡ false → joined s at ≡ at
+unfolding joined
+joined-same s at e = walk-stop (joinStep s) at (length s) at at (join-here s at e)
 
 -- the loop of `blanks_end`
 pub record Blanks (s : List ℕ) (at i : ℕ) : Type 0 where

@@ -2,3 +2,4 @@ pub mod Ends
 pub mod Ahead
 pub mod Cases
 pub mod Loops
+pub mod Within

@@ -44,6 +44,11 @@ pub record Text : Type 0 where
   pub bytes : List ℕ
   pub ending : Ending
 
+-- the place at which a text ends
+abbrev pub endOf : Ending → ℕ
+endOf (ending.Stopped place) = place
+endOf (ending.Broken place) = place
+
 unfoldable pub spellMore : Character → (ℕ → Text) → Text
 spellMore (One value next) rest = record { bytes = value ∷ rest next .bytes; ending = rest next .ending }
 spellMore (Broken place) rest = record { bytes = []; ending = ending.Broken place }

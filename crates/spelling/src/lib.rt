@@ -126,7 +126,7 @@ pub fn blanks_end(s: &[u8], at: usize) -> usize
 }
 
 // Whether a continuation starts at a place.
-fn is_joint(s: &[u8], at: usize) -> bool
+pub fn is_joint(s: &[u8], at: usize) -> bool
     requires { ⌜ at < length (now s) ⌝ }
     ensures { λ r. ⌜ r ≡ isJoint (now (s .entry)) at ⌝ }
 {

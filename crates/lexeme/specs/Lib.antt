@@ -1,0 +1,4 @@
+pub mod Kinds
+pub mod Number
+pub mod Gap
+pub mod Reading
