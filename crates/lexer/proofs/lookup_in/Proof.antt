@@ -1,0 +1,33 @@
+use borrow.Author.Needs.{needs}
+use Rattle.lexer.proofs.lookup_in.Statement.{statement}
+use Rattle.lexer.proofs.lookup_in.Tie as tie
+use Rattle.lexer.proofs.lookup_in.Reads as reads
+use Rattle.lexer.proofs.lookup_in.Lts as lts
+use Rattle.lexer.proofs.is_substitute.Reads as is-substitute-reads
+use Rattle.vocabulary.proofs.lookup.Reads as lookup-reads
+use Rattle.vocabulary.proofs.substitute.Reads as substitute-reads
+
+-- src/lib.rt:204:8
+is-substitute-requires : tie.Need-is-substitute-requires
+is-substitute-requires c κs = search needs
+
+-- src/lib.rt:205:9
+substitute-requires : tie.Need-substitute-requires
+substitute-requires c κs = search needs
+
+-- src/lib.rt:205:9
+returns : tie.Need-returns
+returns c = ?
+
+-- src/lib.rt:207:5
+lookup-requires : tie.Need-lookup-requires
+lookup-requires c κs = search needs
+
+-- src/lib.rt:201:1
+returns-2 : tie.Need-returns-2
+returns-2 c = ?
+
+pub lookup-in-spec : {M : Type 1} → statement M
+lookup-in-spec =
+    tie.close
+    (tie.spec is-substitute-requires substitute-requires returns lookup-requires returns-2)

@@ -1,0 +1,21 @@
+use borrow.Author.Needs.{needs}
+use Rattle.lexer.proofs.range_fault.Statement.{statement}
+use Rattle.lexer.proofs.range_fault.Tie as tie
+use Rattle.lexer.proofs.range_fault.Reads as reads
+use Rattle.lexer.proofs.range_fault.Lts as lts
+use Rattle.prelude.proofs.fault.Reads as fault-reads
+
+-- src/lib.rt:112:9
+returns : tie.Need-returns
+returns c = ?
+
+-- src/lib.rt:114:5
+fault-requires : tie.Need-fault-requires
+fault-requires c κs = search needs
+
+-- src/lib.rt:108:1
+returns-2 : tie.Need-returns-2
+returns-2 c = ?
+
+pub range-fault-spec : {M : Type 1} → statement M
+range-fault-spec = tie.close (tie.spec returns fault-requires returns-2)

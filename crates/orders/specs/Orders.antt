@@ -1,0 +1,29 @@
+-- The table "Orders to get right": each field is a row, or a part of one, and holds by computation.
+-- Still to come: rows 1, 2, 3 and 7.
+-- Assumes nothing.
+use mathlib.Core.Path.{_≡_, refl}
+use Prim.Native.Nat.{ℕ, _-_, _^_}
+use Rattle.word.specs.declared.Answer.the-variants.{Word}
+use Rattle.word.specs.Word.{addOf, divOf, modOf, bsrOf, asrOf, shlOf}
+
+-- the 32-bit word of -n
+abbrev minus : ℕ → ℕ
+minus n = 2 ^ 32 - n
+
+pub record Orders : Type 0 where
+  -- "(4) `add 2147483647 1` is -2147483648"
+  pub row4 : addOf 32 2147483647 1 ≡ minus 2147483648
+  -- "(5) `div -7 2` is -3"
+  pub row5-div : divOf 32 (minus 7) 2 ≡ Word (minus 3)
+  -- "(5) [..] `mod -7 2` is -1"
+  pub row5-mod : modOf 32 (minus 7) 2 ≡ Word (minus 1)
+  -- "(6) `bsr -8 1` is 2147483644"
+  pub row6-bsr : bsrOf 32 (minus 8) 1 ≡ Word 2147483644
+  -- "(6) [..] `asr -8 1` is -4"
+  pub row6-asr : asrOf 32 (minus 8) 1 ≡ Word (minus 4)
+  -- "(8) `shl 1 32` is 1"
+  pub row8 : shlOf 32 1 32 ≡ Word 1
+
+pub orders : Orders
+unfolding addOf divOf modOf bsrOf asrOf shlOf
+orders = record { row4 = refl; row5-div = refl; row5-mod = refl; row6-bsr = refl; row6-asr = refl; row8 = refl }

@@ -1,0 +1,1 @@
+// No code: the table of worked cases is in specs/Orders.

@@ -1,0 +1,6 @@
+pub mod Rule
+pub mod Matching
+pub mod Searching
+pub mod Exact
+pub mod Names
+pub mod Substituting

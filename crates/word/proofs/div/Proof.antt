@@ -1,0 +1,29 @@
+use Rattle.word.proofs.Cases.{div-zero, div-lacks, div-word}
+use borrow.Author.Needs.{needs}
+use Rattle.word.proofs.div.Statement.{statement}
+use Rattle.word.proofs.div.Tie as tie
+use Rattle.word.proofs.div.Reads as reads
+use Rattle.word.proofs.div.Lts as lts
+use Rattle.word.proofs.divide.Reads as divide-reads
+use Rattle.word.proofs.lacks_word.Reads as lacks-word-reads
+
+returns : tie.Need-returns
+returns c =
+    search (div-zero)
+
+lacks-word-requires : tie.Need-lacks-word-requires
+lacks-word-requires c κs = search needs
+
+returns-2 : tie.Need-returns-2
+returns-2 c =
+    search (div-lacks)
+
+divide-requires : tie.Need-divide-requires
+divide-requires c κs = search needs
+
+returns-3 : tie.Need-returns-3
+returns-3 c =
+    search (div-word)
+
+pub div-spec : {M : Type 1} → statement M
+div-spec = tie.close (tie.spec returns lacks-word-requires returns-2 divide-requires returns-3)
