@@ -21,7 +21,7 @@ use Rattle.spelling.proofs.Ends.{digit-byte, letter-byte, joined-in}
 use Rattle.spelling.proofs.Within.{spelled-in}
 use Rattle.lexeme.specs.Number.{Digits, digitsAt, valueOf, numberOf, decimalOf}
 use Rattle.lexeme.specs.Gap.{gapEnd}
-use Rattle.lexeme.specs.Reading.{startsSymbol, startsInteger, texted, valued, symbolTo, symbolEnd, symbolBy, symbolAt, stringTo, stringEnd, stringBy, stringRead, integerFrom, integerBy, digitsRead, integerAt, markedFrom, markedAt, atFrom, atRead, plainRead, readAt, nextRead}
+use Rattle.lexeme.specs.Reading.{startsSymbol, startsInteger, texted, valued, symbolTo, symbolEnd, symbolBy, symbolAt, stringTo, stringEnd, stringBy, stringRead, integerFrom, integerBy, digitsRead, integerAt, markedFrom, markedAt, atFrom, atRead, plainRead, readAt, nextRead, nameStart}
 use Rattle.lexeme.specs.declared.Number.{Number}
 use Rattle.lexeme.specs.declared.Number.the-variants.{Word, OutOfRange}
 use Rattle.lexeme.specs.declared.Decimal.{Decimal}
@@ -285,3 +285,18 @@ pub ruleset marks = (marked-symbol, marked-lone, marked-is, at-percent, at-name,
 pub ruleset plains = (plain-symbol, plain-integer, plain-lone)
 
 pub ruleset reads = (token-end, token-newline, token-string, token-percent, token-at, token-plain, next-is)
+
+module _ (s : List ℕ) (kind first : ℕ) where
+  pub start-plain : kind < 4 → first ≡ nameStart s kind first
+  unfolding nameStart
+  start-plain h = search tests
+
+  pub start-inner : (i j : ℕ) → 4 ≤ kind → kind ≡ 6 → i ≡ joined s (first + 1) → j ≡ joined s (i + 1) → j ≡ nameStart s kind first
+  unfolding nameStart
+  start-inner i j h e p q = rw (← p, ← q) (search tests)
+
+  pub start-marked : (j : ℕ) → 4 ≤ kind → (kind ≡ 6 → ⊥) → j ≡ joined s (first + 1) → j ≡ nameStart s kind first
+  unfolding nameStart
+  start-marked j h e q = rw (← q) (search tests)
+
+pub ruleset name-starting = (start-plain, start-inner, start-marked)

@@ -66,7 +66,7 @@ pub ruleset digiting = (digit-one, digit-stop, digit-here, digit-past)
 -- a digit that was read stands within the text
 abbrev pub DigitIn : List ℕ → ℕ → Digit → Type 0
 DigitIn s at (One value next) = (at < next) × (next ≤ length s) × (value < 10)
-DigitIn s at (Stop place) = Unit {0}
+DigitIn s at (Stop place) = (at ≤ place) × (at ≤ length s → place ≤ length s)
 
 from-in : (s : List ℕ) (at : ℕ) → DigitIn s at (digitFrom s at)
 unfolding digitFrom
@@ -75,15 +75,16 @@ from-in s at =
     (λ e. let w : at < length s = byte-within s at (digit-byte (byteAt s at) e) in
     let r : (48 ≤ byteAt s at) × (byteAt s at < 58) = digit-range (byteAt s at) e in
     (omega arith, omega arith, omega (arith, r .0, r .1)))
-    (λ _. tt)
+    (λ _. (omega arith, λ h. h))
 
-later : (s : List ℕ) (at i : ℕ) (x : Digit) → at ≤ i → DigitIn s i x → DigitIn s at x
-later s at i (One v n) h d = (omega (arith, d .0), d .1, d .2)
-later s at i (Stop p) h d = tt
+later : (s : List ℕ) (at i : ℕ) (x : Digit) → at ≤ i → (at ≤ length s → i ≤ length s) → DigitIn s i x → DigitIn s at x
+later s at i (One v n) h g d = (omega (arith, d .0), d .1, d .2)
+later s at i (Stop p) h g d = (omega (arith, d .0), λ l. d .1 (g l))
 
 pub digit-in : (s : List ℕ) (at : ℕ) (x : Digit) → x ≡ digitAt s at → DigitIn s at x
 unfolding digitAt
-digit-in s at x e = subst (DigitIn s at) (sym e) (later s at (joined s at) (digitFrom s (joined s at)) (joined-from s at) (from-in s (joined s at)))
+digit-in s at x e =
+    subst (DigitIn s at) (sym e) (later s at (joined s at) (digitFrom s (joined s at)) (joined-from s at) (joined-in s at) (from-in s (joined s at)))
 
 -- the value of more digits is no lower
 value-up : (v : ℕ) (ds : List ℕ) → v ≤ valueFrom v ds

@@ -10,7 +10,7 @@ use lib.ListN.{length}
 use Rattle.prelude.specs.Choice.{ifLt, ifEq, ifTrue}
 use Rattle.prelude.specs.Bytes.{byteAt}
 use Rattle.prelude.specs.Walk.{Step, go, stop, walk}
-use Rattle.prelude.proofs.Choice.{tests, either, either-eq, either-true, ifLt-yes, ifLt-no, ifEq-yes, ifEq-no, ifTrue-yes, ifTrue-no}
+use Rattle.prelude.proofs.Choice.{tests, either, either-eq, either-true, ifLt-yes, ifLt-no, ifEq-yes, ifEq-no, ifTrue-yes, ifTrue-no, true-false}
 use Rattle.prelude.proofs.Bytes.{byte-within}
 use Rattle.prelude.proofs.Walk.{Runs, runs-start, runs-go, runs-stop, Kept, walk-kept, Ends, walk-ends, walk-stop}
 use Rattle.spelling.specs.Classes.{isBlank}
@@ -109,6 +109,16 @@ skip-in s i =
     (λ _. either-true (λ (j : ℕ). (i ≤ j) × (i ≤ length s → j ≤ length s)) (isJoint s i) _ _
     (λ e. (omega arith, λ _. joint-within s i e))
     (λ _. (omega arith, λ h. h))))
+
+-- a continuation is skipped
+pub joint-skips : (s : List ℕ) (i : ℕ) → isJoint s i ≡ true → gapSkip s i ≤ i → ⊥
+unfolding gapSkip
+joint-skips s i e =
+    either-true (λ (j : ℕ). j ≤ i → ⊥) (isBlank (byteAt s i)) _ _ (λ _ h. let z : ⊥ = omega arith in z)
+    (λ _. either-eq (λ (j : ℕ). j ≤ i → ⊥) (byteAt s i) 35 _ _
+    (λ _ h. let z : ⊥ = omega (arith, comments-from s (i + 1)) in z)
+    (λ _. either-true (λ (j : ℕ). j ≤ i → ⊥) (isJoint s i) _ _ (λ _ h. let z : ⊥ = omega arith in z)
+    (λ f _. true-false (sym e ∙ f))))
 
 no-skip : (s : List ℕ) (i : ℕ) → length s ≤ i → gapSkip s i ≤ i
 unfolding gapSkip

@@ -1,3 +1,4 @@
 pub mod Digits
 pub mod Gaps
 pub mod Cases
+pub mod Within

@@ -9,7 +9,7 @@ use Rattle.prelude.specs.Bytes.{byteAt}
 use Rattle.limits.specs.declared.Width.{Width}
 use Rattle.spelling.specs.Classes.{isLetter, isDigit}
 use Rattle.spelling.specs.Continuation.{joined}
-use Rattle.spelling.specs.Text.{spelledAt, measured}
+use Rattle.spelling.specs.Text.{spelledAt, measured, nameAt, stringAt}
 use Rattle.spelling.specs.declared.Spelled.{Spelled}
 use Rattle.spelling.specs.declared.Ending.{Ending}
 use Rattle.spelling.specs.declared.Ending.the-variants as ending
@@ -131,3 +131,18 @@ readAt w s at =
 -- the first token from a place on
 unfoldable pub nextRead : Width → List ℕ → ℕ → Reading
 nextRead w s at = readAt w s (gapEnd s at)
+
+-- a token with a name: a symbol, plain, as a label, or under `%` or `@`
+unfoldable pub isNamed : ℕ → Bool
+isNamed kind = ifLt kind 2 false (ifLt kind 7 true false)
+
+-- where the symbol of a token starts: behind its marks
+unfoldable pub nameStart : List ℕ → ℕ → ℕ → ℕ
+nameStart s kind first =
+    ifLt kind 4 first
+    (ifEq kind 6 (joined s (joined s (first + 1) + 1))
+    (joined s (first + 1)))
+
+-- the decoded bytes of a name or a string
+unfoldable pub textOf : List ℕ → ℕ → ℕ → List ℕ
+textOf s kind start = ifTrue (isNamed kind) (nameAt s start) (ifEq kind 9 (stringAt s start) [])

@@ -7,7 +7,7 @@ ghost use lib.ListN.{length};
 ghost use Rattle.limits.specs.Width.{bitsOf};
 ghost use Rattle.lexeme.specs.Number.{digitFrom, digitAt, digitsAt, decimalOf, halfOf, wholeOf, numberOf};
 ghost use Rattle.lexeme.specs.Gap.{commentEnd, gapSkip, gapEnd};
-ghost use Rattle.lexeme.specs.Reading.{startsSymbol, startsInteger, texted, valued, symbolTo, symbolEnd, symbolAt, stringTo, stringEnd, stringRead, integerFrom, digitsRead, integerAt, markedFrom, markedAt, atFrom, atRead, plainRead, readAt, nextRead};
+ghost use Rattle.lexeme.specs.Reading.{startsSymbol, startsInteger, texted, valued, symbolTo, symbolEnd, symbolAt, stringTo, stringEnd, stringRead, integerFrom, digitsRead, integerAt, markedFrom, markedAt, atFrom, atRead, plainRead, readAt, nextRead, isNamed, nameStart};
 ghost use Rattle.spelling.specs.Text.{endOf};
 
 pub enum Digit {
@@ -476,4 +476,31 @@ pub fn next_token(w: Width, s: &[u8], at: usize) -> Reading
     ensures { λ r. ⌜ r ≡ nextRead w (now (s .entry)) at ⌝ }
 {
     read_token(w, s, gap_end(s, at))
+}
+
+// A symbol, plain, as a label, or under a mark.
+pub fn is_named(kind: u32) -> bool
+    ensures { λ r. ⌜ r ≡ isNamed kind ⌝ }
+{
+    if kind < 2 {
+        return false;
+    }
+    if kind < 7 {
+        return true;
+    }
+    false
+}
+
+// Where the symbol of a token starts.
+pub fn name_start(s: &[u8], kind: u32, first: u32) -> usize
+    ensures { λ r. ⌜ r ≡ nameStart (now (s .entry)) kind first ⌝ }
+{
+    let at = first as usize;
+    if kind < 4 {
+        return at;
+    }
+    if kind == 6 {
+        return spelling::join(s, spelling::join(s, at + 1) + 1);
+    }
+    spelling::join(s, at + 1)
 }

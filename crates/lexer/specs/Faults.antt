@@ -10,7 +10,7 @@ use Rattle.spelling.specs.Classes.{isSeparator}
 use Rattle.lexeme.specs.declared.Lexeme.{Lexeme}
 use Rattle.lexeme.specs.declared.Reading.{Reading}
 use Rattle.lexeme.specs.declared.Reading.the-variants.{End, Lone, Broken, Open, Whole}
-use Rattle.lexer.specs.Token.{isNamed}
+use Rattle.lexeme.specs.Reading.{isNamed}
 
 -- 2: "no token can be read here: the byte; a lone sign, `%` or `@` itself"
 unfoldable pub loneRule : Reading → ℕ

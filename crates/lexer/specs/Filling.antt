@@ -12,11 +12,11 @@ use Rattle.limits.specs.declared.Width.{Width}
 use Rattle.vocabulary.specs.Words as vocabulary
 use Rattle.vocabulary.specs.Substitutes.{substituteOf}
 use Rattle.spelling.specs.Text.{nameAt}
-use Rattle.lexeme.specs.Reading.{nextRead}
+use Rattle.lexeme.specs.Reading.{isNamed, nameStart, nextRead}
 use Rattle.lexeme.specs.declared.Lexeme.{Lexeme}
 use Rattle.lexeme.specs.declared.Reading.{Reading}
 use Rattle.lexeme.specs.declared.Reading.the-variants.{End, Lone, Broken, Open, Whole}
-use Rattle.lexer.specs.Token.{isNamed, isSubstitute, nameStart, valueOf}
+use Rattle.lexer.specs.Token.{isSubstitute, valueOf}
 use Rattle.lexer.specs.Faults.{faultOf}
 use Rattle.lexer.specs.declared.Row.{Row}
 use Rattle.lexer.specs.declared.Turn.{Turn}
@@ -27,8 +27,8 @@ unfoldable pub rowNamed : List ℕ → List ℕ → ℕ → ℕ → ℕ → Bool
 rowNamed s t k hash start =
     ifEq (getD t (k * 8 + 6) 0) hash
     (ifTrue (isNamed (getD t (k * 8) 0))
-      (sameList (nameAt s (nameStart s (getD t (k * 8) 0) (getD t (k * 8 + 1) 0))) (nameAt s start))
-      false)
+    (sameList (nameAt s (nameStart s (getD t (k * 8) 0) (getD t (k * 8 + 1) 0))) (nameAt s start))
+    false)
     false
 
 unfoldable pub findWithin : ℕ → List ℕ → List ℕ → ℕ → ℕ → ℕ → ℕ

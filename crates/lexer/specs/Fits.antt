@@ -9,7 +9,7 @@ use Rattle.spelling.specs.Text.{nameAt}
 use Rattle.lexeme.specs.declared.Lexeme.{Lexeme}
 use Rattle.lexeme.specs.declared.Reading.{Reading}
 use Rattle.lexeme.specs.declared.Reading.the-variants.{End, Lone, Broken, Open, Whole}
-use Rattle.lexer.specs.Token.{isNamed}
+use Rattle.lexeme.specs.Reading.{isNamed}
 
 pub record LexemeFits (s t : List ℕ) (n : ℕ) (x : Lexeme) : Type 0 where
   pub room : n * 8 + 8 ≤ length t

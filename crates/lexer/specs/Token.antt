@@ -10,8 +10,7 @@ use Rattle.limits.specs.Width.{bitsOf, bytesOf}
 use Rattle.limits.specs.declared.Width.{Width}
 use Rattle.vocabulary.specs.Words as vocabulary
 use Rattle.vocabulary.specs.Substitutes.{substituteOf}
-use Rattle.spelling.specs.Continuation.{joined}
-use Rattle.spelling.specs.Text.{nameAt, stringAt, hashOf}
+use Rattle.lexeme.specs.Reading.{isNamed, nameStart, textOf}
 use Rattle.lexeme.specs.declared.Lexeme.{Lexeme}
 
 -- kind, first byte, next byte; an integer's word or a text's size; the decoded text; the name's number; the word's number
@@ -24,24 +23,9 @@ pub record Token : Type 0 where
   pub name : ℕ
   pub word : ℕ
 
--- a token with a name: a symbol, plain, as a label, or under `%` or `@`
-unfoldable pub isNamed : ℕ → Bool
-isNamed kind = ifLt kind 2 false (ifLt kind 7 true false)
-
 -- under a `%`
 unfoldable pub isSubstitute : ℕ → Bool
 isSubstitute kind = ifEq kind 4 true (ifEq kind 6 true false)
-
--- where the symbol of a token starts: behind its marks
-unfoldable pub nameStart : List ℕ → ℕ → ℕ → ℕ
-nameStart s kind first =
-    ifLt kind 4 first
-    (ifEq kind 6 (joined s (joined s (first + 1) + 1))
-    (joined s (first + 1)))
-
--- the decoded bytes of a name or a string
-unfoldable pub textOf : List ℕ → ℕ → ℕ → List ℕ
-textOf s kind start = ifTrue (isNamed kind) (nameAt s start) (ifEq kind 9 (stringAt s start) [])
 
 -- "`%bits-per-word` is 32, `%bytes-per-word` 4, as integers everywhere"
 unfoldable pub substituteValue : Width → ℕ → ℕ

@@ -5,10 +5,10 @@ use limits::Machine;
 use limits::Width;
 ghost use mathlib.Core.Path.{_≡_};
 ghost use Prim.Native.Nat.{_+_, _*_, _≤_, _<_, _-_, min};
-ghost use lib.ListN.{length};
+ghost use lib.ListN.{length, take};
 ghost use Rattle.prelude.specs.Fault.{none};
 ghost use Rattle.spelling.specs.Text.{nameAt, hashOf};
-ghost use Rattle.lexer.specs.Token.{isNamed, isSubstitute, nameStart, substituteValue, valueOf};
+ghost use Rattle.lexer.specs.Token.{isSubstitute, substituteValue, valueOf};
 ghost use Rattle.lexer.specs.Faults.{rangeFault, lengthFault, limitFault, followFault, faultOf};
 ghost use Rattle.lexer.specs.Filling.{rowNamed, findName, wordNamed, rowFrom, putRow, turned, fillBy, fillTurn, turnAt};
 ghost use mathlib.Core.List.{[]};
@@ -40,19 +40,6 @@ pub enum Turn {
     Fault(u64),
 }
 
-// A symbol, plain, as a label, or under a mark.
-pub fn is_named(kind: u32) -> bool
-    ensures { λ r. ⌜ r ≡ isNamed kind ⌝ }
-{
-    if kind < 2 {
-        return false;
-    }
-    if kind < 7 {
-        return true;
-    }
-    false
-}
-
 // Under a `%`.
 pub fn is_substitute(kind: u32) -> bool
     ensures { λ r. ⌜ r ≡ isSubstitute kind ⌝ }
@@ -64,20 +51,6 @@ pub fn is_substitute(kind: u32) -> bool
         return true;
     }
     false
-}
-
-// Where the symbol of a token starts.
-pub fn name_start(s: &[u8], kind: u32, first: u32) -> usize
-    ensures { λ r. ⌜ r ≡ nameStart (now (s .entry)) kind first ⌝ }
-{
-    let at = first as usize;
-    if kind < 4 {
-        return at;
-    }
-    if kind == 6 {
-        return spelling::join(s, spelling::join(s, at + 1) + 1);
-    }
-    spelling::join(s, at + 1)
 }
 
 fn substitute_value(w: Width, k: u32) -> u32
@@ -120,7 +93,7 @@ fn range_fault(x: Lexeme) -> u64
 fn length_fault(x: Lexeme) -> u64
     ensures { λ r. ⌜ r ≡ lengthFault x ⌝ }
 {
-    if is_named(x.kind) {
+    if lexeme::is_named(x.kind) {
         if Machine::NAME_BYTES < x.size {
             return prelude::fault(x.first, 6);
         }
@@ -178,8 +151,8 @@ fn row_named(s: &[u8], t: &[u32], k: usize, hash: u32, start: usize) -> bool
 {
     if t[k * 8 + 6] == hash {
         let kind = t[k * 8];
-        if is_named(kind) {
-            return spelling::same_name(s, name_start(s, kind, t[k * 8 + 1]), start);
+        if lexeme::is_named(kind) {
+            return spelling::same_name(s, lexeme::name_start(s, kind, t[k * 8 + 1]), start);
         }
         return false;
     }
@@ -210,6 +183,13 @@ fn lookup_in(kind: u32, name: &[u8]) -> u32
     vocabulary::lookup(name)
 }
 
+fn lookup_front(kind: u32, name: &[u8], size: usize) -> u32
+    requires { ⌜ size ≤ length (now name) ⌝ }
+    ensures { λ r. ⌜ r ≡ wordNamed kind (take size (now (name .entry))) ⌝ }
+{
+    lookup_in(kind, &name[..size])
+}
+
 // The reserved word or substitute that a name is.
 fn word_at(s: &[u8], kind: u32, start: usize, size: usize) -> u32
     requires { ⌜ (size ≡ length (nameAt (now s) start)) × (size ≤ 64) ⌝ }
@@ -217,7 +197,7 @@ fn word_at(s: &[u8], kind: u32, start: usize, size: usize) -> u32
 {
     let mut name = [0u8; Machine::NAME_BYTES];
     spelling::copy_text(false, s, start, &mut name);
-    lookup_in(kind, &name[..size])
+    lookup_front(kind, &name, size)
 }
 
 // The row of a token behind n others.
@@ -225,7 +205,7 @@ fn row_from(w: Width, s: &[u8], t: &[u32], n: usize, x: Lexeme) -> Row
     requires { ⌜ LexemeFits (now s) (now t) n x ⌝ }
     ensures { λ r. ⌜ r ≡ rowFrom w (now (s .entry)) (now (t .entry)) n x ⌝ }
 {
-    if is_named(x.kind) {
+    if lexeme::is_named(x.kind) {
         let word = word_at(s, x.kind, x.start, x.size);
         return Row {
             kind: x.kind,

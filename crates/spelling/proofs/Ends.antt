@@ -133,6 +133,19 @@ module _ (s : List ℕ) (at : ℕ) where
   joined-in h =
       walk-kept (λ (j : ℕ). j ≤ length s) (λ (j : ℕ). j ≤ length s) (joinStep s) at h join-in (suc (length s)) at h
 
+-- from any place, at most the text's length further
+joint-top : (s : List ℕ) (at i : ℕ) → i ≤ at + length s → Kept (λ (j : ℕ). j ≤ at + length s) (λ (j : ℕ). j ≤ at + length s) (joinStep s i)
+unfolding joinStep
+joint-top s at i h =
+    either-true (Kept (λ (j : ℕ). j ≤ at + length s) (λ (j : ℕ). j ≤ at + length s)) (isJoint s i) _ _
+    (λ e. omega (arith, blanks-in s (i + 2) (joint-within s i e)))
+    (λ _. h)
+
+pub joined-top : (s : List ℕ) (at : ℕ) → joined s at ≤ at + length s
+unfolding joined
+joined-top s at =
+    walk-kept (λ (j : ℕ). j ≤ at + length s) (λ (j : ℕ). j ≤ at + length s) (joinStep s) at (omega arith) (joint-top s at) (suc (length s)) at (omega arith)
+
 -- behind continuations no continuation stands
 join-ends : (s : List ℕ) (i : ℕ) → Ends (λ (j : ℕ). Unit {0}) (λ (j : ℕ). isJoint s j ≡ false) (λ (j : ℕ). length s - j) i (joinStep s i)
 unfolding joinStep

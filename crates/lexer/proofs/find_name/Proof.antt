@@ -1,3 +1,8 @@
+use borrow.Author.Needs.{needs}
+use Prim.Native.Nat.{_-_}
+use Rattle.lexer.proofs.Finding.{Finding, finding}
+use native.Mathlib.Omega.{arith}
+use mathlib.Core.Path.{_≡_, refl, sym, _∙_, ap, subst}
 use Rattle.lexer.proofs.find_name.Statement.{statement}
 use Rattle.lexer.proofs.find_name.Tie as tie
 use Rattle.lexer.proofs.find_name.Reads as reads
@@ -5,38 +10,37 @@ use Rattle.lexer.proofs.find_name.Lts as lts
 use Rattle.lexer.proofs.row_named.Reads as row-named-reads
 
 abbrev Inv-loop : tie.InvT-loop
-Inv-loop s t n hash start k₀ k = ?
+Inv-loop s t n hash start k₀ k =
+    Finding s t n hash start k
 
 abbrev μ-loop : tie.MeasureT-loop
-μ-loop s t n hash start k₀ k = ?
+μ-loop s t n hash start k₀ k =
+    n - k
 
--- src/lib.rt:192:5
 loop-holds : tie.Need-loop-holds Inv-loop μ-loop
-loop-holds c = ?
+loop-holds c =
+    search finding
 
--- src/lib.rt:193:12
 row-named-requires : tie.Need-row-named-requires Inv-loop μ-loop
-row-named-requires c κs = ?
+row-named-requires c κs = search needs
 
--- src/lib.rt:194:13
 returns : tie.Need-returns Inv-loop μ-loop
-returns c = ?
+returns c =
+    search finding
 
--- src/lib.rt:196:9
 add-k : tie.Need-add-k Inv-loop μ-loop
-add-k c = ?
+add-k c = search needs
 
--- src/lib.rt:192:5
 loop-less : tie.Need-loop-less Inv-loop μ-loop
-loop-less c = ?
+loop-less c = search needs
 
--- src/lib.rt:192:5
 loop-again : tie.Need-loop-again Inv-loop μ-loop
-loop-again c = ?
+loop-again c =
+    search finding
 
--- src/lib.rt:187:1
 returns-2 : tie.Need-returns-2 Inv-loop μ-loop
-returns-2 c = ?
+returns-2 c =
+    search finding
 
 pub find-name-spec : {M : Type 1} → statement M
 find-name-spec =

@@ -1,3 +1,6 @@
+use Rattle.lexer.proofs.Cases.{faulting}
+use native.Mathlib.Omega.{arith}
+use mathlib.Core.Path.{_≡_, refl, sym, _∙_, ap, subst}
 use borrow.Author.Needs.{needs}
 use Rattle.lexer.proofs.follow_fault.Statement.{statement}
 use Rattle.lexer.proofs.follow_fault.Tie as tie
@@ -7,29 +10,26 @@ use Rattle.prelude.proofs.byte_at.Reads as byte-at-reads
 use Rattle.prelude.proofs.fault.Reads as fault-reads
 use Rattle.spelling.proofs.is_separator.Reads as is-separator-reads
 
--- src/lib.rt:142:9
 returns : tie.Need-returns
-returns c = ?
+returns c =
+    search faulting
 
--- src/lib.rt:145:31
 byte-at-requires : tie.Need-byte-at-requires
 byte-at-requires c κs = search needs
 
--- src/lib.rt:145:8
 is-separator-requires : tie.Need-is-separator-requires
 is-separator-requires c κs = search needs
 
--- src/lib.rt:146:9
 returns-2 : tie.Need-returns-2
-returns-2 c = ?
+returns-2 c =
+    search faulting
 
--- src/lib.rt:148:5
 fault-requires : tie.Need-fault-requires
 fault-requires c κs = search needs
 
--- src/lib.rt:138:1
 returns-3 : tie.Need-returns-3
-returns-3 c = ?
+returns-3 c =
+    search faulting
 
 pub follow-fault-spec : {M : Type 1} → statement M
 follow-fault-spec =

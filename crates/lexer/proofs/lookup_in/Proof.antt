@@ -1,3 +1,6 @@
+use Rattle.lexer.proofs.Cases.{wording}
+use native.Mathlib.Omega.{arith}
+use mathlib.Core.Path.{_≡_, refl, sym, _∙_, ap, subst}
 use borrow.Author.Needs.{needs}
 use Rattle.lexer.proofs.lookup_in.Statement.{statement}
 use Rattle.lexer.proofs.lookup_in.Tie as tie
@@ -7,25 +10,22 @@ use Rattle.lexer.proofs.is_substitute.Reads as is-substitute-reads
 use Rattle.vocabulary.proofs.lookup.Reads as lookup-reads
 use Rattle.vocabulary.proofs.substitute.Reads as substitute-reads
 
--- src/lib.rt:204:8
 is-substitute-requires : tie.Need-is-substitute-requires
 is-substitute-requires c κs = search needs
 
--- src/lib.rt:205:9
 substitute-requires : tie.Need-substitute-requires
 substitute-requires c κs = search needs
 
--- src/lib.rt:205:9
 returns : tie.Need-returns
-returns c = ?
+returns c =
+    search wording
 
--- src/lib.rt:207:5
 lookup-requires : tie.Need-lookup-requires
 lookup-requires c κs = search needs
 
--- src/lib.rt:201:1
 returns-2 : tie.Need-returns-2
-returns-2 c = ?
+returns-2 c =
+    search wording
 
 pub lookup-in-spec : {M : Type 1} → statement M
 lookup-in-spec =

@@ -1,3 +1,6 @@
+use Rattle.lexer.proofs.Cases.{comparing}
+use native.Mathlib.Omega.{arith}
+use mathlib.Core.Path.{_≡_, refl, sym, _∙_, ap, subst}
 use borrow.Author.Needs.{needs}
 use Rattle.lexer.proofs.row_named.Statement.{statement}
 use Rattle.lexer.proofs.row_named.Tie as tie
@@ -7,73 +10,59 @@ use Rattle.lexer.proofs.is_named.Reads as is-named-reads
 use Rattle.lexer.proofs.name_start.Reads as name-start-reads
 use Rattle.spelling.proofs.same_name.Reads as same-name-reads
 
--- src/lib.rt:176:10
 mul-if1 : tie.Need-mul-if1
 mul-if1 c = search needs
 
--- src/lib.rt:176:10
 add-if1 : tie.Need-add-if1
 add-if1 c = search needs
 
--- src/lib.rt:176:8
 mul-if1-2 : tie.Need-mul-if1-2
 mul-if1-2 c = search needs
 
--- src/lib.rt:176:8
 shared-slice-read-if1 : tie.Need-shared-slice-read-if1
 shared-slice-read-if1 c = search needs
 
--- src/lib.rt:177:22
 mul-kind : tie.Need-mul-kind
 mul-kind c = search needs
 
--- src/lib.rt:177:20
 mul-kind-2 : tie.Need-mul-kind-2
 mul-kind-2 c = search needs
 
--- src/lib.rt:177:20
 shared-slice-read-kind : tie.Need-shared-slice-read-kind
 shared-slice-read-kind c = search needs
 
--- src/lib.rt:178:12
 is-named-requires : tie.Need-is-named-requires
 is-named-requires c κs = search needs
 
--- src/lib.rt:179:65
 mul-name-start : tie.Need-mul-name-start
 mul-name-start c = search needs
 
--- src/lib.rt:179:65
 add-name-start : tie.Need-add-name-start
 add-name-start c = search needs
 
--- src/lib.rt:179:63
 mul-name-start-2 : tie.Need-mul-name-start-2
 mul-name-start-2 c = search needs
 
--- src/lib.rt:179:63
 shared-slice-read-name-start : tie.Need-shared-slice-read-name-start
 shared-slice-read-name-start c = search needs
 
--- src/lib.rt:179:43
 name-start-requires : tie.Need-name-start-requires
 name-start-requires c κs = search needs
 
--- src/lib.rt:179:13
 same-name-requires : tie.Need-same-name-requires
 same-name-requires c κs = search needs
 
--- src/lib.rt:179:13
 returns : tie.Need-returns
-returns c = ?
+returns c =
+    search comparing
 
--- src/lib.rt:181:9
 returns-2 : tie.Need-returns-2
-returns-2 c = ?
+returns-2 c =
+    search comparing
 
--- src/lib.rt:172:1
 returns-3 : tie.Need-returns-3
-returns-3 c = ?
+returns-3 c =
+    search comparing
 
 pub row-named-spec : {M : Type 1} → statement M
 row-named-spec =

@@ -1,3 +1,6 @@
+use Rattle.lexer.proofs.Cases.{standing}
+use native.Mathlib.Omega.{arith}
+use mathlib.Core.Path.{_≡_, refl, sym, _∙_, ap, subst}
 use borrow.Author.Needs.{needs}
 use Rattle.lexer.proofs.substitute_value.Statement.{statement}
 use Rattle.lexer.proofs.substitute_value.Tie as tie
@@ -6,25 +9,23 @@ use Rattle.lexer.proofs.substitute_value.Lts as lts
 use Rattle.limits.proofs.bits_of.Reads as bits-of-reads
 use Rattle.limits.proofs.bytes_of.Reads as bytes-of-reads
 
--- src/lib.rt:84:9
 bits-of-requires : tie.Need-bits-of-requires
 bits-of-requires c κs = search needs
 
--- src/lib.rt:84:9
 returns : tie.Need-returns
-returns c = ?
+returns c =
+    search standing
 
--- src/lib.rt:87:9
 bytes-of-requires : tie.Need-bytes-of-requires
 bytes-of-requires c κs = search needs
 
--- src/lib.rt:87:9
 returns-2 : tie.Need-returns-2
-returns-2 c = ?
+returns-2 c =
+    search standing
 
--- src/lib.rt:80:1
 returns-3 : tie.Need-returns-3
-returns-3 c = ?
+returns-3 c =
+    search standing
 
 pub substitute-value-spec : {M : Type 1} → statement M
 substitute-value-spec =

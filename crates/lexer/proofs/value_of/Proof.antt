@@ -1,3 +1,6 @@
+use Rattle.lexer.proofs.Cases.{valuing}
+use native.Mathlib.Omega.{arith}
+use mathlib.Core.Path.{_≡_, refl, sym, _∙_, ap, subst}
 use borrow.Author.Needs.{needs}
 use Rattle.lexer.proofs.value_of.Statement.{statement}
 use Rattle.lexer.proofs.value_of.Tie as tie
@@ -6,33 +9,30 @@ use Rattle.lexer.proofs.value_of.Lts as lts
 use Rattle.lexer.proofs.is_substitute.Reads as is-substitute-reads
 use Rattle.lexer.proofs.substitute_value.Reads as substitute-value-reads
 
--- src/lib.rt:96:8
 is-substitute-requires : tie.Need-is-substitute-requires
 is-substitute-requires c κs = search needs
 
--- src/lib.rt:97:9
 substitute-value-requires : tie.Need-substitute-value-requires
 substitute-value-requires c κs = search needs
 
--- src/lib.rt:97:9
 returns : tie.Need-returns
-returns c = ?
+returns c =
+    search valuing
 
--- src/lib.rt:100:9
 returns-2 : tie.Need-returns-2
-returns-2 c = ?
+returns-2 c =
+    search valuing
 
--- src/lib.rt:103:9
 returns-3 : tie.Need-returns-3
-returns-3 c = ?
+returns-3 c =
+    search valuing
 
--- src/lib.rt:105:5
 cast-result : tie.Need-cast-result
 cast-result c = search needs
 
--- src/lib.rt:92:1
 returns-4 : tie.Need-returns-4
-returns-4 c = ?
+returns-4 c =
+    search valuing
 
 pub value-of-spec : {M : Type 1} → statement M
 value-of-spec =

@@ -1,45 +1,45 @@
+use Rattle.spelling.proofs.Ends.{joined-top}
+use Rattle.lexeme.proofs.Cases.{name-starting}
+use Prim.Native.Nat.{_+_}
+use native.Mathlib.Omega.{arith}
+use mathlib.Core.Path.{_≡_, refl, sym, _∙_, ap, subst}
 use borrow.Author.Needs.{needs}
-use Rattle.lexer.proofs.name_start.Statement.{statement}
-use Rattle.lexer.proofs.name_start.Tie as tie
-use Rattle.lexer.proofs.name_start.Reads as reads
-use Rattle.lexer.proofs.name_start.Lts as lts
+use Rattle.lexeme.proofs.name_start.Statement.{statement}
+use Rattle.lexeme.proofs.name_start.Tie as tie
+use Rattle.lexeme.proofs.name_start.Reads as reads
+use Rattle.lexeme.proofs.name_start.Lts as lts
 use Rattle.spelling.proofs.join.Reads as join-reads
 
--- src/lib.rt:72:9
 returns : tie.Need-returns
-returns c = ?
+returns c =
+    search name-starting
 
--- src/lib.rt:75:52
 add-join : tie.Need-add-join
 add-join c = search needs
 
--- src/lib.rt:75:34
 join-requires : tie.Need-join-requires
 join-requires c κs = search needs
 
--- src/lib.rt:75:34
 add-join-2 : tie.Need-add-join-2
-add-join-2 c = ?
+add-join-2 c =
+    omega (arith, joined-top (c .before .before .before .before .args .s .now) (c .before .before .before .before .args .first + 1))
 
--- src/lib.rt:75:9
 join-requires-2 : tie.Need-join-requires-2
 join-requires-2 c κs = search needs
 
--- src/lib.rt:75:9
 returns-2 : tie.Need-returns-2
-returns-2 c = ?
+returns-2 c =
+    search name-starting
 
--- src/lib.rt:77:23
 add-join-3 : tie.Need-add-join-3
 add-join-3 c = search needs
 
--- src/lib.rt:77:5
 join-requires-3 : tie.Need-join-requires-3
 join-requires-3 c κs = search needs
 
--- src/lib.rt:67:1
 returns-3 : tie.Need-returns-3
-returns-3 c = ?
+returns-3 c =
+    search name-starting
 
 pub name-start-spec : {M : Type 1} → statement M
 name-start-spec =
