@@ -73,11 +73,11 @@ nothing-named : isNamed 1 ≡ false
 unfolding isNamed
 nothing-named = ifLt-yes _ _ (omega arith)
 
-text-named : (s : List ℕ) (kind start : ℕ) → isNamed kind ≡ true → textOf s kind start ≡ nameAt s start
+pub text-named : (s : List ℕ) (kind start : ℕ) → isNamed kind ≡ true → textOf s kind start ≡ nameAt s start
 unfolding textOf
 text-named s kind start e = ifTrue-yes _ _ e
 
-text-none : (s : List ℕ) (kind start : ℕ) → isNamed kind ≡ false → (kind ≡ 9 → ⊥) → textOf s kind start ≡ []
+pub text-none : (s : List ℕ) (kind start : ℕ) → isNamed kind ≡ false → (kind ≡ 9 → ⊥) → textOf s kind start ≡ []
 unfolding textOf
 text-none s kind start e f = ifTrue-no _ _ e ∙ ifEq-no _ _ f
 

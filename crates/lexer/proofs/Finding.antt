@@ -6,7 +6,7 @@ use mathlib.Core.List.{List, [], _∷_}
 use Prim.Native.Nat.{ℕ, zero, suc, _+_, _*_, _-_, _≤_, _<_}
 use native.Mathlib.Omega.{arith}
 use Rattle.prelude.specs.Choice.{ifTrue}
-use Rattle.prelude.proofs.Choice.{ifTrue-yes, ifTrue-no}
+use Rattle.prelude.proofs.Choice.{ifTrue-yes, ifTrue-no, either-true}
 use Rattle.lexer.specs.Filling.{rowNamed, findWithin, findName}
 
 pub record Finding (s t : List ℕ) (n hash start k : ℕ) : Type 0 where
@@ -48,3 +48,14 @@ module _ (s t : List ℕ) (n hash start : ℕ) where
         sym (ap (λ (m : ℕ). findWithin m s t k hash start) q ∙ none-is k) ∙ h .rest
 
 pub ruleset finding = (finding-start, finding-here, finding-more, finding-none)
+
+-- a number found is at most the number of rows
+within-most : (left : ℕ) (s t : List ℕ) (k hash start : ℕ) → findWithin left s t k hash start ≤ k + left
+unfolding findWithin
+within-most zero s t k hash start = omega arith
+within-most (suc left) s t k hash start =
+    either-true (λ (j : ℕ). j ≤ k + suc left) (rowNamed s t k hash start) _ _ (λ _. omega arith) (λ _. omega (arith, within-most left s t (k + 1) hash start))
+
+pub find-most : (s t : List ℕ) (n hash start : ℕ) → findName s t n hash start ≤ n
+unfolding findName
+find-most s t n hash start = omega (arith, within-most n s t 0 hash start)

@@ -8,8 +8,9 @@ use native.Mathlib.Nat.{min-eq-left, min-eq-right, min-le-left, min-le-right, le
 use native.Mathlib.Omega.{arith}
 use Rattle.prelude.specs.Fault.{none, key, leastOf}
 use Rattle.prelude.specs.Choice.{ifLt, ifTrue}
-use Rattle.prelude.proofs.Choice.{either, either-true}
+use Rattle.prelude.proofs.Choice.{either, either-true, ifTrue-yes}
 use Rattle.prelude.proofs.Keys.{key-fault}
+use Rattle.lexeme.specs.Reading.{isNamed}
 use Rattle.lexeme.specs.declared.Lexeme.{Lexeme}
 use Rattle.lexeme.specs.declared.Reading.{Reading}
 use Rattle.lexeme.specs.declared.Reading.the-variants.{End, Lone, Broken, Open, Whole}
@@ -111,3 +112,11 @@ pub clean-limit : (n p : ℕ) → none ≤ limitFault n p → n < 4096
 unfolding limitFault
 clean-limit n p =
     either (λ (k : ℕ). none ≤ k → n < 4096) n 4096 _ _ (λ h _. h) (λ _ g. let z : ⊥ = omega (arith, key-fault p 14 (omega arith)) in absurd z)
+
+pub clean-length : (x : Lexeme) → isNamed (x .kind) ≡ true → none ≤ lengthFault x → x .size ≤ 64
+unfolding lengthFault
+clean-length x e h = long (subst (λ (k : ℕ). none ≤ k) (ifTrue-yes _ _ e) h)
+  where
+    long : none ≤ ifLt 64 (x .size) (key (x .first) 6) none → x .size ≤ 64
+    long =
+        either (λ (k : ℕ). none ≤ k → x .size ≤ 64) 64 (x .size) _ _ (λ _ g. let z : ⊥ = omega (arith, key-fault (x .first) 6 (omega arith)) in absurd z) (λ l _. l)

@@ -1,3 +1,6 @@
 pub mod Cases
 pub mod Least
 pub mod Finding
+pub mod Rows
+pub mod Tokens
+pub mod Filling

@@ -1,3 +1,5 @@
+use native.Mathlib.Omega.{arith}
+use mathlib.Core.Path.{_≡_, refl, sym, _∙_, ap, subst}
 use borrow.Author.Needs.{needs}
 use Rattle.lexer.proofs.add_token.Statement.{statement}
 use Rattle.lexer.proofs.add_token.Tie as tie
@@ -6,21 +8,18 @@ use Rattle.lexer.proofs.add_token.Lts as lts
 use Rattle.lexer.proofs.put_row.Reads as put-row-reads
 use Rattle.lexer.proofs.row_from.Reads as row-from-reads
 
--- src/lib.rt:269:9
 row-from-requires : tie.Need-row-from-requires
 row-from-requires c κs = search needs
 
--- src/lib.rt:270:5
 put-row-requires : tie.Need-put-row-requires
 put-row-requires c κs = search needs
 
--- src/lib.rt:265:1
 same-length : tie.Need-same-length
 same-length c = search needs
 
--- src/lib.rt:265:1
 returns : tie.Need-returns
-returns c = ?
+returns c =
+    cc
 
 pub add-token-spec : {M : Type 1} → statement M
 add-token-spec = tie.close (tie.spec row-from-requires put-row-requires same-length returns)

@@ -1,3 +1,6 @@
+use Rattle.lexer.proofs.Filling.{filling, reading-fits}
+use native.Mathlib.Omega.{arith}
+use mathlib.Core.Path.{_≡_, refl, sym, _∙_, ap, subst}
 use borrow.Author.Needs.{needs}
 use Rattle.lexer.proofs.fill.Statement.{statement}
 use Rattle.lexer.proofs.fill.Tie as tie
@@ -5,53 +8,47 @@ use Rattle.lexer.proofs.fill.Reads as reads
 use Rattle.lexer.proofs.fill.Lts as lts
 use Rattle.lexer.proofs.add_token.Reads as add-token-reads
 
--- src/lib.rt:278:25
 enum-told : tie.Need-enum-told
 enum-told c = search needs
 
--- src/lib.rt:279:29
 enum-told-2 : tie.Need-enum-told-2
 enum-told-2 c = search needs
 
--- src/lib.rt:280:31
 enum-told-3 : tie.Need-enum-told-3
 enum-told-3 c = search needs
 
--- src/lib.rt:281:29
 enum-told-4 : tie.Need-enum-told-4
 enum-told-4 c = search needs
 
--- src/lib.rt:282:24
 enum-known-r : tie.Need-enum-known-r
 enum-known-r c = search needs
 
--- src/lib.rt:283:13
 add-token-requires : tie.Need-add-token-requires
-add-token-requires c κs = ?
+add-token-requires c κs =
+    search reading-fits
 
--- src/lib.rt:273:1
 returns : tie.Need-returns
-returns c = ?
+returns c =
+    search filling
 
--- src/lib.rt:273:1
 returns-2 : tie.Need-returns-2
-returns-2 c = ?
+returns-2 c =
+    search filling
 
--- src/lib.rt:273:1
 returns-3 : tie.Need-returns-3
-returns-3 c = ?
+returns-3 c =
+    search filling
 
--- src/lib.rt:273:1
 returns-4 : tie.Need-returns-4
-returns-4 c = ?
+returns-4 c =
+    search filling
 
--- src/lib.rt:273:1
 same-length : tie.Need-same-length
 same-length c = search needs
 
--- src/lib.rt:273:1
 returns-5 : tie.Need-returns-5
-returns-5 c = ?
+returns-5 c =
+    search filling
 
 pub fill-spec : {M : Type 1} → statement M
 fill-spec =

@@ -6,7 +6,7 @@ use Rattle.lexer.proofs.length_fault.Statement.{statement}
 use Rattle.lexer.proofs.length_fault.Tie as tie
 use Rattle.lexer.proofs.length_fault.Reads as reads
 use Rattle.lexer.proofs.length_fault.Lts as lts
-use Rattle.lexer.proofs.is_named.Reads as is-named-reads
+use Rattle.lexeme.proofs.is_named.Reads as is-named-reads
 use Rattle.prelude.proofs.fault.Reads as fault-reads
 
 is-named-requires : tie.Need-is-named-requires

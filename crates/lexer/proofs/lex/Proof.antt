@@ -1,3 +1,6 @@
+use Rattle.lexer.proofs.Filling.{wholes}
+use native.Mathlib.Omega.{arith}
+use mathlib.Core.Path.{_≡_, refl, sym, _∙_, ap, subst}
 use borrow.Author.Needs.{needs}
 use Rattle.lexer.proofs.lex.Statement.{statement}
 use Rattle.lexer.proofs.lex.Tie as tie
@@ -6,21 +9,19 @@ use Rattle.lexer.proofs.lex.Lts as lts
 use Rattle.lexer.proofs.lex_from.Reads as lex-from-reads
 use Rattle.lexer.proofs.refuse_long.Reads as refuse-long-reads
 
--- src/lib.rt:345:9
 refuse-long-requires : tie.Need-refuse-long-requires
 refuse-long-requires c κs = search needs
 
--- src/lib.rt:345:9
 returns : tie.Need-returns
-returns c = ?
+returns c =
+    search (wholes, needs)
 
--- src/lib.rt:347:5
 lex-from-requires : tie.Need-lex-from-requires
 lex-from-requires c κs = search needs
 
--- src/lib.rt:340:1
 returns-2 : tie.Need-returns-2
-returns-2 c = ?
+returns-2 c =
+    search (wholes, needs)
 
 pub lex-spec : {M : Type 1} → statement M
 lex-spec = tie.close (tie.spec refuse-long-requires returns lex-from-requires returns-2)

@@ -1,3 +1,9 @@
+use borrow.Author.Needs.{needs}
+use Prim.Native.Nat.{_-_}
+use lib.ListN.{length}
+use Rattle.lexer.proofs.Filling.{Lexing, lexing, lexing-less}
+use native.Mathlib.Omega.{arith}
+use mathlib.Core.Path.{_≡_, refl, sym, _∙_, ap, subst}
 use Rattle.lexer.proofs.lex_from.Statement.{statement}
 use Rattle.lexer.proofs.lex_from.Tie as tie
 use Rattle.lexer.proofs.lex_from.Reads as reads
@@ -6,74 +12,65 @@ use Rattle.lexer.proofs.take_turn.Reads as take-turn-reads
 use Rattle.prelude.proofs.clear_from.Reads as clear-from-reads
 
 abbrev Inv-loop : tie.InvT-loop
-Inv-loop w s t₀ at₀ n₀ t at n = ?
+Inv-loop w s t₀ at₀ n₀ t at n =
+    Lexing w s t at n
 
 abbrev μ-loop : tie.MeasureT-loop
-μ-loop w s t₀ at₀ n₀ t at n = ?
+μ-loop w s t₀ at₀ n₀ t at n =
+    length s - at
 
--- src/lib.rt:308:5
 loop-holds : tie.Need-loop-holds Inv-loop μ-loop
-loop-holds c = ?
+loop-holds c =
+    search (lexing, needs)
 
--- src/lib.rt:309:15
 take-turn-requires : tie.Need-take-turn-requires Inv-loop μ-loop
-take-turn-requires c κs = ?
+take-turn-requires c κs = search needs
 
--- src/lib.rt:310:24
 enum-known-next : tie.Need-enum-known-next Inv-loop μ-loop
-enum-known-next c = ?
+enum-known-next c = search needs
 
--- src/lib.rt:311:17
 add-n : tie.Need-add-n Inv-loop μ-loop
-add-n c = ?
+add-n c = search needs
 
--- src/lib.rt:308:5
 loop-less : tie.Need-loop-less Inv-loop μ-loop
-loop-less c = ?
+loop-less c =
+    search lexing-less
 
--- src/lib.rt:308:5
 loop-again : tie.Need-loop-again Inv-loop μ-loop
-loop-again c = ?
+loop-again c =
+    search lexing
 
--- src/lib.rt:315:37
 enum-told : tie.Need-enum-told Inv-loop μ-loop
-enum-told c = ?
+enum-told c = search needs
 
--- src/lib.rt:315:40
 mul-clear-from : tie.Need-mul-clear-from Inv-loop μ-loop
-mul-clear-from c = ?
+mul-clear-from c = search needs
 
--- src/lib.rt:315:17
 clear-from-requires : tie.Need-clear-from-requires Inv-loop μ-loop
-clear-from-requires c κs = ?
+clear-from-requires c κs = search needs
 
--- src/lib.rt:316:17
 same-length : tie.Need-same-length Inv-loop μ-loop
-same-length c = ?
+same-length c = search needs
 
--- src/lib.rt:316:17
 returns : tie.Need-returns Inv-loop μ-loop
-returns c = ?
+returns c =
+    search lexing
 
--- src/lib.rt:318:25
 enum-known-k : tie.Need-enum-known-k Inv-loop μ-loop
-enum-known-k c = ?
+enum-known-k c = search needs
 
--- src/lib.rt:319:17
 clear-from-requires-2 : tie.Need-clear-from-requires-2 Inv-loop μ-loop
-clear-from-requires-2 c κs = ?
+clear-from-requires-2 c κs = search needs
 
--- src/lib.rt:321:29
 cast-t19 : tie.Need-cast-t19 Inv-loop μ-loop
-cast-t19 c = ?
+cast-t19 c = search needs
 
--- src/lib.rt:320:17
 same-length-2 : tie.Need-same-length-2 Inv-loop μ-loop
-same-length-2 c = ?
+same-length-2 c = search needs
 
--- src/lib.rt:320:17
 returns-2 : tie.Need-returns-2 Inv-loop μ-loop
-returns-2 c = ?
+returns-2 c =
+    search lexing
 
 pub lex-from-spec : {M : Type 1} → statement M
 lex-from-spec =

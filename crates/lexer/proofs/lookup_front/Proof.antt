@@ -1,3 +1,4 @@
+use Rattle.lexer.proofs.Rows.{take-long}
 use native.Mathlib.Omega.{arith}
 use mathlib.Core.Path.{_≡_, refl, sym, _∙_, ap, subst}
 use borrow.Author.Needs.{needs}
@@ -8,7 +9,8 @@ use Rattle.lexer.proofs.lookup_front.Lts as lts
 use Rattle.lexer.proofs.lookup_in.Reads as lookup-in-reads
 
 slice-aggregate-lookup-in : tie.Need-slice-aggregate-lookup-in
-slice-aggregate-lookup-in c = search needs
+slice-aggregate-lookup-in c =
+    search (take-long, needs)
 
 lookup-in-requires : tie.Need-lookup-in-requires
 lookup-in-requires c κs = search needs

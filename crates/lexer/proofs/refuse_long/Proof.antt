@@ -1,3 +1,6 @@
+use Rattle.lexer.proofs.Filling.{clear-all}
+use native.Mathlib.Omega.{arith}
+use mathlib.Core.Path.{_≡_, refl, sym, _∙_, ap, subst}
 use borrow.Author.Needs.{needs}
 use Rattle.lexer.proofs.refuse_long.Statement.{statement}
 use Rattle.lexer.proofs.refuse_long.Tie as tie
@@ -5,17 +8,15 @@ use Rattle.lexer.proofs.refuse_long.Reads as reads
 use Rattle.lexer.proofs.refuse_long.Lts as lts
 use Rattle.prelude.proofs.clear_from.Reads as clear-from-reads
 
--- src/lib.rt:332:5
 clear-from-requires : tie.Need-clear-from-requires
 clear-from-requires c κs = search needs
 
--- src/lib.rt:329:1
 same-length : tie.Need-same-length
 same-length c = search needs
 
--- src/lib.rt:329:1
 returns : tie.Need-returns
-returns c = ?
+returns c =
+    search (clear-all, needs)
 
 pub refuse-long-spec : {M : Type 1} → statement M
 refuse-long-spec = tie.close (tie.spec clear-from-requires same-length returns)

@@ -1,60 +1,55 @@
+use Rattle.lexer.proofs.Filling.{rowing, named-size, named-short, name-fits}
+use native.Mathlib.Omega.{arith}
+use mathlib.Core.Path.{_≡_, refl, sym, _∙_, ap, subst}
 use borrow.Author.Needs.{needs}
 use Rattle.lexer.proofs.row_from.Statement.{statement}
 use Rattle.lexer.proofs.row_from.Tie as tie
 use Rattle.lexer.proofs.row_from.Reads as reads
 use Rattle.lexer.proofs.row_from.Lts as lts
+use Rattle.lexeme.proofs.is_named.Reads as is-named-reads
 use Rattle.lexer.proofs.find_name.Reads as find-name-reads
-use Rattle.lexer.proofs.is_named.Reads as is-named-reads
 use Rattle.lexer.proofs.value_of.Reads as value-of-reads
 use Rattle.lexer.proofs.word_at.Reads as word-at-reads
 
--- src/lib.rt:228:8
 is-named-requires : tie.Need-is-named-requires
 is-named-requires c κs = search needs
 
--- src/lib.rt:229:13
 word-at-requires : tie.Need-word-at-requires
-word-at-requires c κs = ?
+word-at-requires c κs =
+    search (named-size, named-short, needs)
 
--- src/lib.rt:232:20
 cast-t8 : tie.Need-cast-t8
 cast-t8 c = search needs
 
--- src/lib.rt:233:19
 cast-t9 : tie.Need-cast-t9
 cast-t9 c = search needs
 
--- src/lib.rt:234:20
 value-of-requires : tie.Need-value-of-requires
 value-of-requires c κs = search needs
 
--- src/lib.rt:235:19
 find-name-requires : tie.Need-find-name-requires
 find-name-requires c κs = search needs
 
--- src/lib.rt:235:19
 cast-t12 : tie.Need-cast-t12
-cast-t12 c = ?
+cast-t12 c =
+    search (name-fits, needs)
 
--- src/lib.rt:230:9
 returns : tie.Need-returns
-returns c = ?
+returns c =
+    search rowing
 
--- src/lib.rt:242:16
 cast-t13 : tie.Need-cast-t13
 cast-t13 c = search needs
 
--- src/lib.rt:243:15
 cast-t14 : tie.Need-cast-t14
 cast-t14 c = search needs
 
--- src/lib.rt:244:16
 value-of-requires-2 : tie.Need-value-of-requires-2
 value-of-requires-2 c κs = search needs
 
--- src/lib.rt:224:1
 returns-2 : tie.Need-returns-2
-returns-2 c = ?
+returns-2 c =
+    search rowing
 
 pub row-from-spec : {M : Type 1} → statement M
 row-from-spec =

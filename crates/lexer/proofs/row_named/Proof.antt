@@ -6,8 +6,8 @@ use Rattle.lexer.proofs.row_named.Statement.{statement}
 use Rattle.lexer.proofs.row_named.Tie as tie
 use Rattle.lexer.proofs.row_named.Reads as reads
 use Rattle.lexer.proofs.row_named.Lts as lts
-use Rattle.lexer.proofs.is_named.Reads as is-named-reads
-use Rattle.lexer.proofs.name_start.Reads as name-start-reads
+use Rattle.lexeme.proofs.is_named.Reads as is-named-reads
+use Rattle.lexeme.proofs.name_start.Reads as name-start-reads
 use Rattle.spelling.proofs.same_name.Reads as same-name-reads
 
 mul-if1 : tie.Need-mul-if1
