@@ -4,3 +4,4 @@ pub mod Finding
 pub mod Rows
 pub mod Tokens
 pub mod Filling
+pub mod Laws
