@@ -1,14 +1,24 @@
 -- The table "Orders to get right": each field is a row, or a part of one, and holds by computation.
--- Still to come: rows 1, 2, 3 and 7.
+-- Still to come: rows 1, 2 and 3.
 -- Assumes nothing.
 use mathlib.Core.Path.{_≡_, refl}
+use mathlib.Core.List.{List, [], _∷_}
 use Prim.Native.Nat.{ℕ, _-_, _^_}
 use Rattle.word.specs.declared.Answer.the-variants.{Word}
+use lib.ListN.{length}
+use Rattle.limits.specs.declared.Width.the-variants.{Bits32}
+use Rattle.lexer.specs.Token.{Token}
+use Rattle.lexer.specs.Lex.{lexOf, accepted}
+use Rattle.orders.specs.Lexing.{text-two}
 use Rattle.word.specs.Word.{addOf, divOf, modOf, bsrOf, asrOf, shlOf}
 
 -- the 32-bit word of -n
 abbrev minus : ℕ → ℕ
 minus n = 2 ^ 32 - n
+
+-- a string token
+abbrev quoted : ℕ → ℕ → List ℕ → Token
+quoted first next text = record { kind = 9; first = first; next = next; value = length text; text = text; name = 0; word = 0 }
 
 pub record Orders : Type 0 where
   -- "(4) `add 2147483647 1` is -2147483648"
@@ -21,9 +31,11 @@ pub record Orders : Type 0 where
   pub row6-bsr : bsrOf 32 (minus 8) 1 ≡ Word 2147483644
   -- "(6) [..] `asr -8 1` is -4"
   pub row6-asr : asrOf 32 (minus 8) 1 ≡ Word (minus 4)
+  -- "(7) `"a\\"` is two bytes"
+  pub row7 : lexOf Bits32 (34 ∷ 97 ∷ 92 ∷ 92 ∷ 34 ∷ []) ≡ accepted (quoted 0 5 (97 ∷ 92 ∷ []) ∷ [])
   -- "(8) `shl 1 32` is 1"
   pub row8 : shlOf 32 1 32 ≡ Word 1
 
 pub orders : Orders
 unfolding addOf divOf modOf bsrOf asrOf shlOf
-orders = record { row4 = refl; row5-div = refl; row5-mod = refl; row6-bsr = refl; row6-asr = refl; row8 = refl }
+orders = record { row4 = refl; row5-div = refl; row5-mod = refl; row6-bsr = refl; row6-asr = refl; row7 = text-two; row8 = refl }
