@@ -13,7 +13,7 @@ use Rattle.prelude.specs.Lists.{sameList, overlay}
 use Rattle.prelude.proofs.Choice.{tests}
 use Rattle.limits.specs.Width.{bitsOf, bytesOf}
 use Rattle.limits.specs.declared.Width.{Width}
-use Rattle.vocabulary.specs.Words as vocabulary
+use Rattle.vocabulary.specs.Sections.{knownOf}
 use Rattle.vocabulary.specs.Substitutes.{substituteOf}
 use Rattle.spelling.specs.Classes.{isSeparator}
 use Rattle.spelling.specs.Continuation.{joined}
@@ -110,7 +110,7 @@ module _ (kind : ℕ) (name : List ℕ) (b : Bool) (v : ℕ) (p : b ≡ isSubsti
   unfolding wordNamed
   word-substitute e q = rw (← p, ← q) (search tests)
 
-  pub word-reserved : b ≡ false → v ≡ vocabulary.numberOf name → v ≡ wordNamed kind name
+  pub word-reserved : b ≡ false → v ≡ knownOf name → v ≡ wordNamed kind name
   unfolding wordNamed
   word-reserved e q = rw (← p, ← q) (search tests)
 

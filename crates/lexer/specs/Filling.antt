@@ -9,7 +9,7 @@ use Rattle.prelude.specs.Choice.{ifLt, ifEq, ifTrue}
 use Rattle.prelude.specs.Fault.{none}
 use Rattle.prelude.specs.Lists.{sameList}
 use Rattle.limits.specs.declared.Width.{Width}
-use Rattle.vocabulary.specs.Words as vocabulary
+use Rattle.vocabulary.specs.Sections.{knownOf}
 use Rattle.vocabulary.specs.Substitutes.{substituteOf}
 use Rattle.spelling.specs.Text.{nameAt}
 use Rattle.lexeme.specs.Reading.{isNamed, nameStart, nextRead}
@@ -40,7 +40,7 @@ unfoldable pub findName : List ℕ → List ℕ → ℕ → ℕ → ℕ → ℕ
 findName s t n hash start = findWithin n s t 0 hash start
 
 unfoldable pub wordNamed : ℕ → List ℕ → ℕ
-wordNamed kind text = ifTrue (isSubstitute kind) (substituteOf text) (vocabulary.numberOf text)
+wordNamed kind text = ifTrue (isSubstitute kind) (substituteOf text) (knownOf text)
 
 unfoldable pub rowFrom : Width → List ℕ → List ℕ → ℕ → Lexeme → Row
 rowFrom w s t n x =

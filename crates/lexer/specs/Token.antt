@@ -8,7 +8,7 @@ use Rattle.prelude.specs.Choice.{ifLt, ifEq, ifTrue}
 use Rattle.prelude.specs.Lists.{sameList}
 use Rattle.limits.specs.Width.{bitsOf, bytesOf}
 use Rattle.limits.specs.declared.Width.{Width}
-use Rattle.vocabulary.specs.Words as vocabulary
+use Rattle.vocabulary.specs.Sections.{knownOf}
 use Rattle.vocabulary.specs.Substitutes.{substituteOf}
 use Rattle.lexeme.specs.Reading.{isNamed, nameStart, textOf}
 use Rattle.lexeme.specs.declared.Lexeme.{Lexeme}
@@ -31,9 +31,9 @@ isSubstitute kind = ifEq kind 4 true (ifEq kind 6 true false)
 unfoldable pub substituteValue : Width → ℕ → ℕ
 substituteValue w k = ifEq k 1 (bitsOf w) (ifEq k 2 (bytesOf w) 0)
 
--- which reserved word a symbol is, which substitute a substitute is; 0 where it is none
+-- which reserved word or section identifier a symbol is, which substitute a substitute is; 0 where it is none
 unfoldable pub wordOf : ℕ → List ℕ → ℕ
-wordOf kind text = ifTrue (isNamed kind) (ifTrue (isSubstitute kind) (substituteOf text) (vocabulary.numberOf text)) 0
+wordOf kind text = ifTrue (isNamed kind) (ifTrue (isSubstitute kind) (substituteOf text) (knownOf text)) 0
 
 -- an integer's word, also a substitute's; the number of bytes of any other text
 unfoldable pub valueOf : Width → ℕ → ℕ → ℕ → ℕ → ℕ

@@ -180,7 +180,7 @@ fn lookup_in(kind: u32, name: &[u8]) -> u32
     if is_substitute(kind) {
         return vocabulary::substitute(name);
     }
-    vocabulary::lookup(name)
+    vocabulary::known(name)
 }
 
 fn lookup_front(kind: u32, name: &[u8], size: usize) -> u32

@@ -13,6 +13,7 @@ use Rattle.limits.specs.declared.Width.the-variants.{Bits32}
 use Rattle.vocabulary.specs.Words as vocabulary
 use Rattle.vocabulary.specs.Words.{words, firstOf, entryNamed, numberOf}
 use Rattle.vocabulary.specs.Substitutes.{substituteOf}
+use Rattle.vocabulary.specs.Sections.{sectionOf, knownOf}
 use Rattle.spelling.specs.Classes.{isBlank, isDigit, isLetter, isNameByte, isSeparator}
 use Rattle.spelling.specs.Continuation.{blankStep, blanksEnd, isJoint, joinStep, joined}
 use Rattle.spelling.specs.Escape.{hexOf, plainOf, badPlace, plainAt, hexAt, escapeAt}
@@ -25,7 +26,7 @@ use Rattle.lexer.specs.Lex.{lexOf, accepted, tokenStep, turnOf, lexStep, tokens
 
 -- `"a\\"` is one string of two bytes
 pub text-two : lexOf Bits32 (34 ∷ 97 ∷ 92 ∷ 92 ∷ 34 ∷ []) ≡ accepted (record { kind = 9; first = 0; next = 5; value = 2; text = 97 ∷ 92 ∷ []; name = 0; word = 0 } ∷ [])
-unfolding ifLt ifEq ifTrue byteAt key leastOf sameList walk words firstOf entryNamed numberOf substituteOf isBlank isDigit isLetter isNameByte isSeparator blankStep blanksEnd isJoint joinStep joined hexOf plainOf badPlace plainAt hexAt escapeAt inString inSymbol escaped rawAt characterFrom characterAt spellMore spelledWithin spelledAt nameAt stringAt mix hashFrom measured commentStep commentEnd gapSkip gapStep gapEnd startsSymbol startsInteger symbolTo symbolEnd symbolBy symbolAt stringTo stringEnd stringBy stringRead plainRead readAt nextRead isNamed textOf isSubstitute wordOf valueOf hasName firstFrom nameNumber tokenOf loneRule escapeRule openRule rangeFault lengthFault limitFault followFault rangeRule lengthRule limitRule followRule faultsOf faultOf lexOf tokenStep turnOf lexStep tokensFrom
+unfolding ifLt ifEq ifTrue byteAt key leastOf sameList walk words firstOf entryNamed numberOf substituteOf sectionOf knownOf isBlank isDigit isLetter isNameByte isSeparator blankStep blanksEnd isJoint joinStep joined hexOf plainOf badPlace plainAt hexAt escapeAt inString inSymbol escaped rawAt characterFrom characterAt spellMore spelledWithin spelledAt nameAt stringAt mix hashFrom measured commentStep commentEnd gapSkip gapStep gapEnd startsSymbol startsInteger symbolTo symbolEnd symbolBy symbolAt stringTo stringEnd stringBy stringRead plainRead readAt nextRead isNamed textOf isSubstitute wordOf valueOf hasName firstFrom nameNumber tokenOf loneRule escapeRule openRule rangeFault lengthFault limitFault followFault rangeRule lengthRule limitRule followRule faultsOf faultOf lexOf tokenStep turnOf lexStep tokensFrom
 text-two = refl
 
 -- a habit to rule out, "a backslash at a comment's end joining lines": `#\`, byte 10, `x` are a newline and a symbol
@@ -35,5 +36,5 @@ pub comment-joins-nothing : lexOf Bits32 (35 ∷ 92 ∷ 10 ∷ 120 ∷ [])
       ∷ record { kind = 3; first = 3; next = 4; value = 1; text = 120 ∷ []; name = 1; word = 0 }
       ∷ []
     )
-unfolding ifLt ifEq ifTrue byteAt key leastOf sameList walk words firstOf entryNamed numberOf substituteOf isBlank isDigit isLetter isNameByte isSeparator blankStep blanksEnd isJoint joinStep joined hexOf plainOf badPlace plainAt hexAt escapeAt inString inSymbol escaped rawAt characterFrom characterAt spellMore spelledWithin spelledAt nameAt stringAt mix hashFrom measured commentStep commentEnd gapSkip gapStep gapEnd startsSymbol startsInteger symbolTo symbolEnd symbolBy symbolAt stringTo stringEnd stringBy stringRead plainRead readAt nextRead isNamed textOf isSubstitute wordOf valueOf hasName firstFrom nameNumber tokenOf loneRule escapeRule openRule rangeFault lengthFault limitFault followFault rangeRule lengthRule limitRule followRule faultsOf faultOf lexOf tokenStep turnOf lexStep tokensFrom vocabulary.isNamed
+unfolding ifLt ifEq ifTrue byteAt key leastOf sameList walk words firstOf entryNamed numberOf substituteOf sectionOf knownOf isBlank isDigit isLetter isNameByte isSeparator blankStep blanksEnd isJoint joinStep joined hexOf plainOf badPlace plainAt hexAt escapeAt inString inSymbol escaped rawAt characterFrom characterAt spellMore spelledWithin spelledAt nameAt stringAt mix hashFrom measured commentStep commentEnd gapSkip gapStep gapEnd startsSymbol startsInteger symbolTo symbolEnd symbolBy symbolAt stringTo stringEnd stringBy stringRead plainRead readAt nextRead isNamed textOf isSubstitute wordOf valueOf hasName firstFrom nameNumber tokenOf loneRule escapeRule openRule rangeFault lengthFault limitFault followFault rangeRule lengthRule limitRule followRule faultsOf faultOf lexOf tokenStep turnOf lexStep tokensFrom vocabulary.isNamed
 comment-joins-nothing = refl

@@ -4,3 +4,4 @@ pub mod Searching
 pub mod Exact
 pub mod Names
 pub mod Substituting
+pub mod Sectioning

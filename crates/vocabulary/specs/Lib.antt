@@ -2,3 +2,4 @@ pub mod Words
 pub mod Table
 pub mod Numbers
 pub mod Substitutes
+pub mod Sections

@@ -9,6 +9,7 @@ ghost use Rattle.vocabulary.specs.Words.{numberOf, leastOperands, mostOp
 ghost use Rattle.vocabulary.specs.Table.{rows, letterAt, spelled};
 ghost use Rattle.vocabulary.specs.Numbers.{numbers};
 ghost use Rattle.vocabulary.specs.Substitutes.{substituteOf};
+ghost use Rattle.vocabulary.specs.Sections.{sectionOf, knownOf};
 
 // The numbers of the words.
 pub struct Word {}
@@ -115,6 +116,13 @@ impl Word {
     pub const SUB: u32 = 50;
 
     pub const XOR: u32 = 51;
+
+    // Identifiers of sections, which are not reserved.
+    pub const DATA: u32 = 52;
+
+    pub const FUNCTIONS: u32 = 53;
+
+    pub const CODE: u32 = 54;
 }
 
 // The numbers of the substitutes.
@@ -359,4 +367,31 @@ pub fn substitute(name: &[u8]) -> u32
         return Substitutes::SAVED_FRAME_SIZE;
     }
     0
+}
+
+// The identifier of a section that a name is, 0 for any other.
+pub fn section(name: &[u8]) -> u32
+    ensures { λ r. ⌜ r ≡ sectionOf (now (name .entry)) ⌝ }
+{
+    if prelude::same(name, b"data") {
+        return Word::DATA;
+    }
+    if prelude::same(name, b"functions") {
+        return Word::FUNCTIONS;
+    }
+    if prelude::same(name, b"code") {
+        return Word::CODE;
+    }
+    0
+}
+
+// The reserved word or section identifier that a name is, 0 for any other.
+pub fn known(name: &[u8]) -> u32
+    ensures { λ r. ⌜ r ≡ knownOf (now (name .entry)) ⌝ }
+{
+    let k = lookup(name);
+    if k == 0 {
+        return section(name);
+    }
+    k
 }

@@ -7,7 +7,7 @@ use Rattle.lexer.proofs.lookup_in.Tie as tie
 use Rattle.lexer.proofs.lookup_in.Reads as reads
 use Rattle.lexer.proofs.lookup_in.Lts as lts
 use Rattle.lexer.proofs.is_substitute.Reads as is-substitute-reads
-use Rattle.vocabulary.proofs.lookup.Reads as lookup-reads
+use Rattle.vocabulary.proofs.known.Reads as known-reads
 use Rattle.vocabulary.proofs.substitute.Reads as substitute-reads
 
 is-substitute-requires : tie.Need-is-substitute-requires
@@ -20,8 +20,8 @@ returns : tie.Need-returns
 returns c =
     search wording
 
-lookup-requires : tie.Need-lookup-requires
-lookup-requires c κs = search needs
+known-requires : tie.Need-known-requires
+known-requires c κs = search needs
 
 returns-2 : tie.Need-returns-2
 returns-2 c =
@@ -30,4 +30,4 @@ returns-2 c =
 pub lookup-in-spec : {M : Type 1} → statement M
 lookup-in-spec =
     tie.close
-    (tie.spec is-substitute-requires substitute-requires returns lookup-requires returns-2)
+    (tie.spec is-substitute-requires substitute-requires returns known-requires returns-2)
