@@ -1,0 +1,35 @@
+-- `lexer_cases::add_times` is safe and ends.
+-- Assumes nothing.
+use borrow.Author.Needs.{needs}
+use Prim.Native.Nat.{_-_}
+use Rattle.lexer_cases.proofs.add_times.Statement.{statement}
+use Rattle.lexer_cases.proofs.add_times.Tie as tie
+
+abbrev Inv-loop : tie.InvT-loop
+Inv-loop l from times text₀ size n₀ k₀ text n k = Unit {0}
+
+abbrev μ-loop : tie.MeasureT-loop
+μ-loop l from times text₀ size n₀ k₀ text n k = times - k
+
+loop-holds : tie.Need-loop-holds Inv-loop μ-loop
+loop-holds c = search needs
+
+add-text-requires : tie.Need-add-text-requires Inv-loop μ-loop
+add-text-requires c κs = search needs
+
+add-k : tie.Need-add-k Inv-loop μ-loop
+add-k c = search needs
+
+loop-less : tie.Need-loop-less Inv-loop μ-loop
+loop-less c = search needs
+
+loop-again : tie.Need-loop-again Inv-loop μ-loop
+loop-again c = search needs
+
+returns : tie.Need-returns Inv-loop μ-loop
+returns c = search needs
+
+pub add-times-spec : {M : Type 1} → statement M
+add-times-spec =
+    tie.close
+    (tie.spec Inv-loop μ-loop loop-holds add-text-requires add-k loop-less loop-again returns)

@@ -1,0 +1,52 @@
+-- `lexer_cases::field_start` is safe and ends.
+-- Assumes nothing.
+use borrow.Author.Needs.{needs}
+use Prim.Native.Nat.{_-_, _≤_}
+use lib.ListN.{length}
+use Rattle.lexer_cases.proofs.field_start.Statement.{statement}
+use Rattle.lexer_cases.proofs.field_start.Tie as tie
+
+abbrev Inv-loop : tie.InvT-loop
+Inv-loop l k blanks₀ i₀ blanks i = i ≤ length l
+
+abbrev μ-loop : tie.MeasureT-loop
+μ-loop l k blanks₀ i₀ blanks i = length l - i
+
+loop-holds : tie.Need-loop-holds Inv-loop μ-loop
+loop-holds c = search needs
+
+returns : tie.Need-returns Inv-loop μ-loop
+returns c = search needs
+
+byte-at-requires : tie.Need-byte-at-requires Inv-loop μ-loop
+byte-at-requires c κs = search needs
+
+one-more-requires : tie.Need-one-more-requires Inv-loop μ-loop
+one-more-requires c κs = search needs
+
+add-i : tie.Need-add-i Inv-loop μ-loop
+add-i c = search needs
+
+loop-less : tie.Need-loop-less Inv-loop μ-loop
+loop-less c = search needs
+
+loop-again : tie.Need-loop-again Inv-loop μ-loop
+loop-again c = search needs
+
+returns-2 : tie.Need-returns-2 Inv-loop μ-loop
+returns-2 c = search needs
+
+pub field-start-spec : {M : Type 1} → statement M
+field-start-spec =
+    tie.close
+    (tie.spec
+    Inv-loop
+    μ-loop
+    loop-holds
+    returns
+    byte-at-requires
+    one-more-requires
+    add-i
+    loop-less
+    loop-again
+    returns-2)
