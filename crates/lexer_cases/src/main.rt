@@ -120,7 +120,7 @@ fn field_start(l: &[u8], k: u64) -> usize
     i
 }
 
-// A number with one more digit; the numbers of a case are small.
+// A number with one more digit; no number where it is none or the number is too large.
 fn with_digit(n: u64, c: u32) -> u64 {
     if c < 48 {
         return NO_NUMBER;
@@ -141,12 +141,9 @@ fn digit(c: u32) -> u64
     (c - 48) as u64
 }
 
-// The number in a field.
+// The number in a field: one digit or more.
 fn field(l: &[u8], k: u64) -> u64 {
     let mut i = field_start(l, k);
-    if 57 < byte_at(l, i) {
-        return NO_NUMBER;
-    }
     let mut n = with_digit(0, byte_at(l, i));
     i += 1;
     while i < l.len() {
@@ -160,7 +157,7 @@ fn field(l: &[u8], k: u64) -> u64 {
     n
 }
 
-// Whether the fields from one to before another are numbers, and the last of the line.
+// Whether the fields from one to before another are numbers, and no field follows them.
 fn has_numbers(l: &[u8], from: u64, end: u64) -> bool {
     let mut k = from;
     while k < end {
@@ -183,7 +180,7 @@ fn hex_digit(c: u32) -> u32
     }
 }
 
-// The byte of two hex digits, 256 or more where they are none.
+// The byte of two hex digits; 256 or more where one of them is none.
 fn hex_byte(high: u32, low: u32) -> u32
     requires { ⌜ (high ≤ 16) × (low ≤ 16) ⌝ }
 {
@@ -271,7 +268,7 @@ fn read_times(l: &[u8], q: State, text: &mut [u8; SOURCE]) -> State {
 }
 
 fn read_width(l: &[u8], mut q: State) -> State {
-    if starts_with(l, b"width 16") {
+    if field(l, 1) == 16 {
         q.bits = 16;
         return q;
     }
@@ -393,6 +390,7 @@ fn open_case(mut q: State, name: usize) -> State {
     q
 }
 
+// Something else than zeros, so that a word left as it was shows.
 fn fill(t: &mut Table) {
     let mut i: usize = 0;
     while i < Machine::TOKEN_WORDS {
@@ -424,6 +422,7 @@ fn answer_of(x: Lexed) -> Answer {
     }
 }
 
+// The front of a text.
 fn front(text: &[u8], size: usize) -> &[u8] {
     if size <= text.len() {
         return &text[0..size];

@@ -1,0 +1,4 @@
+pub mod Tokens
+pub mod Units
+pub mod Lines
+pub mod Shapes
