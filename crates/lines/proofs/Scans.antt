@@ -29,7 +29,7 @@ pub token-within : (t : List ℕ) (i f : ℕ) → 1 ≤ tokenWord t i f → i * 
 unfolding tokenWord
 token-within t i f h =
     elim (decLt (i * 8 + f) (length t)) [
-      yes l ↦ l
+      | yes l ↦ l
       | no l ↦ let z : ⊥ = omega (arith, List·getD-eq-default t 0 {n = i * 8 + f} (omega arith)) in absurd z
     ]
 
@@ -85,7 +85,7 @@ module _ (t : List ℕ) (lo hi from : ℕ) where
     pub skips-more : Skips t lo hi from i → 1 ≤ lo → k ≡ tokenWord t i 0 → lo ≤ k → k < hi → Skips t lo hi from (i + 1)
     skips-more h l p g f =
         record {
-          runs = runs-go _ _ _ _ _ (length t - i * 8) _ (h .runs) (skip-go t lo hi i (subst (λ (x : ℕ). lo ≤ x) p g) (subst (λ (x : ℕ). x < hi) p f)) (omega (arith, here p l g))
+          runs = runs-go _ _ _ _ _ (length t - i * 8) _ (h .runs) (skip-go t lo hi i (subst (λ (x : ℕ). lo ≤ x) p g) (subst (λ (x : ℕ). x < hi) p f)) (omega (arith, here p l g));
         }
 
 pub ruleset skipping = (skips-start, skips-low, skips-high, skips-more)

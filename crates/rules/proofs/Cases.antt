@@ -231,4 +231,3 @@ module _ (t : List ℕ) (n i : ℕ) (x : Labelled) (k : ℕ) (p : k ≡ tokenWor
   step-newline e = rw (← p) (search tests)
 
 pub ruleset label-steps = (step-label, step-newline)
-

@@ -44,7 +44,7 @@ module _ (t : List ℕ) (n own from next : ℕ) where
       let q : next - i ≡ suc (next - (i + 1)) = omega arith in
       record {
         rest = ap (λ (b : ℕ). min b (tokensLeast (next - (i + 1)) t n own (i + 1))) e ∙ min-assoc best (tokenKey t n own i) (tokensLeast (next - (i + 1)) t n own (i + 1))
-        ∙ ap (min best) (sym (ap (λ (m : ℕ). tokensLeast m t n own i) q ∙ step-is i (next - (i + 1)))) ∙ h .rest
+            ∙ ap (min best) (sym (ap (λ (m : ℕ). tokensLeast m t n own i) q ∙ step-is i (next - (i + 1)))) ∙ h .rest;
       }
 
   pub scanning-done : (best i : ℕ) → Scanning t n own from next best i → best ≤ none → next ≤ i → best ≡ tokensLeast (next - from) t n own from
@@ -96,7 +96,7 @@ module _ (t : List ℕ) (n first end c : ℕ) where
       record {
         behind = omega (arith, h .behind);
         few = omega (arith, h .few, h .behind, count-step i x, ap (λ (y : Labelled). y .count) e);
-        rest = ap (λ (y : Labelled). labelsFrom (end - (i + 1)) t n (i + 1) y) e ∙ sym (ap (λ (m : ℕ). labelsFrom m t n i x) q ∙ more-is i (end - (i + 1)) x) ∙ h .rest
+        rest = ap (λ (y : Labelled). labelsFrom (end - (i + 1)) t n (i + 1) y) e ∙ sym (ap (λ (m : ℕ). labelsFrom m t n i x) q ∙ more-is i (end - (i + 1)) x) ∙ h .rest;
       }
 
   pub labels-done : (x : Labelled) (i : ℕ) → Labels t n first end c x i → end ≤ i → x ≡ labelsFrom (end - first) t n first (labelled none c)

@@ -1,0 +1,4 @@
+pub mod Outline
+pub mod Places
+pub mod Parse
+pub mod Fits
