@@ -417,7 +417,8 @@ fn depth_behind(k: u32, depth: u32) -> u32
     depth
 }
 
-fn section_behind(k: u32, section: u32) -> u32
+// The section behind a line.
+pub fn section_behind(k: u32, section: u32) -> u32
     ensures { λ r. ⌜ r ≡ sectionBehind k section ⌝ }
 {
     if k == 25 {
