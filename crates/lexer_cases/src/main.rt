@@ -1,21 +1,35 @@
 // Runs the lexer on the cases of standard input and prints those that differ.
+use casefile::Case;
+use casefile::add_source;
+use casefile::field;
+use casefile::field_start;
+use casefile::front;
+use casefile::has_numbers;
+use casefile::is_comment;
+use casefile::is_source;
+use casefile::line_end;
+use casefile::narrow;
+use casefile::one_more;
+use casefile::put;
+use casefile::put_bad_line;
+use casefile::put_line;
+use casefile::put_number;
+use casefile::put_total;
+use casefile::starts_with;
+use casefile::width_of;
 use lexer::Lexed;
 use limits::Machine;
-use limits::Width;
-use prelude::byte_at;
 ghost use Prim.Native.Nat.{_≤_, _<_};
 ghost use lib.ListN.{length};
 
-// Room for the input, and for a case's source: one byte more than either may have.
+// Room for the input: one byte more than it may have.
 const INPUT: usize = 98304;
 
-const SOURCE: usize = 16401;
+// A case's source.
+type Source = [u8; Case::SOURCE];
 
 // A token table.
 type Table = [u32; Machine::TOKEN_WORDS];
-
-// Above every number of a case.
-const NO_NUMBER: u64 = 4294967296;
 
 // The lines and cases read, how many differ, and the case that is read.
 struct State {
@@ -42,23 +56,6 @@ struct Answer {
     place: usize,
 }
 
-fn put(text: &[u8]) {
-    io::write_all(1, text);
-}
-
-fn put_number(n: u64) {
-    io::print_decimal(1, n);
-}
-
-fn one_more(n: u64) -> u64 {
-    std::num::wrapping_add_u64(n, 1)
-}
-
-// The low half of a number.
-fn narrow(n: u64) -> u32 {
-    (n % 4294967296) as u32
-}
-
 fn word_at(t: &Table, i: usize) -> u32 {
     if i < Machine::TOKEN_WORDS { t[i] } else { 0 }
 }
@@ -69,206 +66,22 @@ fn put_word(t: &mut Table, i: usize, word: u32) {
     }
 }
 
-// The place of the byte 10 from a place on, or the end.
-fn line_end(s: &[u8], at: usize) -> usize
-    requires { ⌜ at ≤ length (now s) ⌝ }
-    ensures { λ r. ⌜ (at ≤ r) × (r ≤ length (now (s .entry))) ⌝ }
-{
-    let mut i = at;
-    while i < s.len() {
-        if byte_at(s, i) == 10 {
-            return i;
-        }
-        i += 1;
-    }
-    i
-}
-
-fn put_line(s: &[u8], at: usize) {
-    if at < s.len() {
-        let end = line_end(s, at);
-        put(&s[at..end]);
-    }
-}
-
-fn starts_with(l: &[u8], word: &[u8]) -> bool {
-    let mut i: usize = 0;
-    while i < word.len() {
-        if byte_at(l, i) != byte_at(word, i) {
-            return false;
-        }
-        i += 1;
-    }
-    true
-}
-
-// The start of the field behind k blanks, or the end.
-fn field_start(l: &[u8], k: u64) -> usize
-    ensures { λ r. ⌜ r ≤ length (now (l .entry)) ⌝ }
-{
-    let mut blanks: u64 = 0;
-    let mut i: usize = 0;
-    while i < l.len() {
-        if blanks == k {
-            return i;
-        }
-        if byte_at(l, i) == 32 {
-            blanks = one_more(blanks);
-        }
-        i += 1;
-    }
-    i
-}
-
-// A number with one more digit; no number where it is none or the number is too large.
-fn with_digit(n: u64, c: u32) -> u64 {
-    if c < 48 {
-        return NO_NUMBER;
-    }
-    if 57 < c {
-        return NO_NUMBER;
-    }
-    if NO_NUMBER <= n {
-        return NO_NUMBER;
-    }
-    n * 10 + digit(c)
-}
-
-fn digit(c: u32) -> u64
-    requires { ⌜ 48 ≤ c ⌝ }
-    ensures { λ r. ⌜ r ≤ c ⌝ }
-{
-    (c - 48) as u64
-}
-
-// The number in a field: one digit or more.
-fn field(l: &[u8], k: u64) -> u64 {
-    let mut i = field_start(l, k);
-    let mut n = with_digit(0, byte_at(l, i));
-    i += 1;
-    while i < l.len() {
-        let c = byte_at(l, i);
-        if c == 32 {
-            return n;
-        }
-        n = with_digit(n, c);
-        i += 1;
-    }
-    n
-}
-
-// Whether the fields from one to before another are numbers, and no field follows them.
-fn has_numbers(l: &[u8], from: u64, end: u64) -> bool {
-    let mut k = from;
-    while k < end {
-        if NO_NUMBER <= field(l, k) {
-            return false;
-        }
-        k += 1;
-    }
-    l.len() <= field_start(l, end)
-}
-
-fn hex_digit(c: u32) -> u32
-    ensures { λ r. ⌜ r ≤ 16 ⌝ }
-{
-    match c {
-        48..=57 => c - 48,
-        65..=70 => c - 55,
-        97..=102 => c - 87,
-        _ => 16,
-    }
-}
-
-// The byte of two hex digits; 256 or more where one of them is none.
-fn hex_byte(high: u32, low: u32) -> u32
-    requires { ⌜ (high ≤ 16) × (low ≤ 16) ⌝ }
-{
-    if low < 16 {
-        return high * 16 + low;
-    }
-    256
-}
-
-// The byte that the text of a case has at a place.
-fn text_byte(l: &[u8], i: usize) -> u32
-    requires { ⌜ i < length (now l) ⌝ }
-{
-    let c = byte_at(l, i);
-    if c == 126 {
-        return hex_byte(hex_digit(byte_at(l, i + 1)), hex_digit(byte_at(l, i + 2)));
-    }
-    c
-}
-
-fn spelled_size(c: u32) -> usize
-    ensures { λ r. ⌜ (1 ≤ r) × (r ≤ 3) ⌝ }
-{
-    if c == 126 { 3 } else { 1 }
-}
-
-// The source with a byte more; its new size.
-fn add_byte(text: &mut [u8; SOURCE], size: usize, c: u32) -> usize {
-    if size < SOURCE {
-        text[size] = (c % 256) as u8;
-        return size + 1;
-    }
-    SOURCE
-}
-
-// The source with the rest of a line; all room taken where it is too long or misspelled.
-fn add_text(l: &[u8], from: usize, text: &mut [u8; SOURCE], size: usize) -> usize {
-    let mut n = size;
-    let mut i = from;
-    while i < l.len() {
-        let c = text_byte(l, i);
-        if 255 < c {
-            return SOURCE;
-        }
-        n = add_byte(text, n, c);
-        i += spelled_size(byte_at(l, i));
-    }
-    n
-}
-
-// The same a number of times.
-fn add_times(l: &[u8], from: usize, times: u64, text: &mut [u8; SOURCE], size: usize) -> usize {
-    let mut n = size;
-    let mut k: u64 = 0;
-    while k < times {
-        n = add_text(l, from, text, n);
-        k += 1;
-    }
-    n
-}
-
 fn bad_line(mut q: State) -> State {
-    put(b"line ");
-    put_number(q.line);
-    put(b": no line of a case\n");
+    put_bad_line(q.line);
     q.differ = one_more(q.differ);
     q
 }
 
 fn with_size(mut q: State, size: usize) -> State {
-    if SOURCE <= size {
+    if Case::SOURCE <= size {
         return bad_line(q);
     }
     q.size = size;
     q
 }
 
-fn read_times(l: &[u8], q: State, text: &mut [u8; SOURCE]) -> State {
-    let times = field(l, 1);
-    if 16400 < times {
-        return bad_line(q);
-    }
-    let size = add_times(l, field_start(l, 2), times, text, q.size);
-    with_size(q, size)
-}
-
 fn read_width(l: &[u8], mut q: State) -> State {
-    if field(l, 1) == 16 {
+    if starts_with(l, b"width 16") {
         q.bits = 16;
         return q;
     }
@@ -353,13 +166,10 @@ fn read_refusal(l: &[u8], mut q: State) -> State {
 }
 
 // A line of a case.
-fn read_line(l: &[u8], q: State, text: &mut [u8; SOURCE], want: &mut Table) -> State {
-    if starts_with(l, b"text ") {
-        let size = add_text(l, 5, text, q.size);
+fn read_line(l: &[u8], q: State, text: &mut Source, want: &mut Table) -> State {
+    if is_source(l) {
+        let size = add_source(l, text, q.size);
         return with_size(q, size);
-    }
-    if starts_with(l, b"times ") {
-        return read_times(l, q, text);
     }
     if starts_with(l, b"token ") {
         return read_token(l, q, want);
@@ -390,20 +200,11 @@ fn open_case(mut q: State, name: usize) -> State {
     q
 }
 
-// Something else than zeros, so that a word left as it was shows.
 fn fill(t: &mut Table) {
     let mut i: usize = 0;
     while i < Machine::TOKEN_WORDS {
         t[i] = 7;
         i += 1;
-    }
-}
-
-fn width_of(bits: u32) -> Width {
-    if bits == 16 {
-        Width::Bits16
-    } else {
-        Width::Bits32
     }
 }
 
@@ -420,14 +221,6 @@ fn answer_of(x: Lexed) -> Answer {
             place: place,
         },
     }
-}
-
-// The front of a text.
-fn front(text: &[u8], size: usize) -> &[u8] {
-    if size <= text.len() {
-        return &text[0..size];
-    }
-    text
 }
 
 fn lex_case(bits: u32, text: &[u8], size: usize, table: &mut Table) -> Answer {
@@ -546,13 +339,7 @@ fn is_wrong(s: &[u8], q: State, want: &Table, table: &Table, got: Answer) -> boo
 }
 
 // The end of a case: what the lexer makes of its source.
-fn close_case(
-    s: &[u8],
-    mut q: State,
-    text: &[u8; SOURCE],
-    want: &Table,
-    table: &mut Table,
-) -> State {
+fn close_case(s: &[u8], mut q: State, text: &Source, want: &Table, table: &mut Table) -> State {
     if q.cases == 0 {
         return q;
     }
@@ -563,20 +350,13 @@ fn close_case(
     q
 }
 
-fn is_comment(l: &[u8]) -> bool {
-    if l.len() == 0 {
-        return true;
-    }
-    byte_at(l, 0) == 59
-}
-
 // The line from a place to an end.
 fn take_line(
     s: &[u8],
     at: usize,
     end: usize,
     mut q: State,
-    text: &mut [u8; SOURCE],
+    text: &mut Source,
     want: &mut Table,
     table: &mut Table,
 ) -> State
@@ -596,13 +376,6 @@ fn take_line(
     read_line(l, q, text, want)
 }
 
-fn put_total(q: State) {
-    put_number(q.cases);
-    put(b" cases, ");
-    put_number(q.differ);
-    put(b" differ\n");
-}
-
 fn start() -> State {
     State {
         line: 0,
@@ -620,7 +393,7 @@ fn start() -> State {
 }
 
 fn run(s: &[u8]) {
-    let mut text = [0u8; SOURCE];
+    let mut text = [0u8; Case::SOURCE];
     let mut want = [0u32; Machine::TOKEN_WORDS];
     let mut table = [0u32; Machine::TOKEN_WORDS];
     let mut q = start();
@@ -630,7 +403,8 @@ fn run(s: &[u8]) {
         q = take_line(s, at, end, q, &mut text, &mut want, &mut table);
         at = end + 1;
     }
-    put_total(close_case(s, q, &text, &want, &mut table));
+    q = close_case(s, q, &text, &want, &mut table);
+    put_total(q.cases, q.differ);
 }
 
 fn main() {

@@ -29,7 +29,7 @@ label-full x c token kind number h = sym (ifLt-no _ _ h)
 pub length-label : (x : List ℕ) (c token kind number : ℕ) → length x ≡ 1024 → length (putLabel x c token kind number) ≡ 1024
 length-label x c token kind number l =
     elim (decLt c 256) [
-      yes h ↦ ap length (sym (label-put x c token kind number l h)) ∙ simp length-set l
+      | yes h ↦ ap length (sym (label-put x c token kind number l h)) ∙ simp length-set l
       | no h ↦ ap length (sym (label-full x c token kind number (omega arith))) ∙ l
     ]
 
@@ -81,7 +81,7 @@ module _ (t : List ℕ) (first end kind number start : ℕ) (x₀ : List ℕ) wh
           long = ap (λ (m : Marked). length (m .table)) e ∙ k .0;
           behind = omega (arith, h .behind);
           few = omega (arith, h .few, h .behind, k .1, ap (λ (m : Marked). m .count) e);
-          rest = ap (λ (m : Marked). markFrom (end - (i + 1)) t (i + 1) kind number m) e ∙ sym (ap (λ (j : ℕ). markFrom j t i kind number (marked c x)) q ∙ step-is i (end - (i + 1)) (marked c x)) ∙ h .rest
+          rest = ap (λ (m : Marked). markFrom (end - (i + 1)) t (i + 1) kind number m) e ∙ sym (ap (λ (j : ℕ). markFrom j t i kind number (marked c x)) q ∙ step-is i (end - (i + 1)) (marked c x)) ∙ h .rest;
         }
 
     pub labelling-done : Labelling t first end kind number start x₀ c i x → end ≤ i → marked c x ≡ markFrom (end - first) t first kind number (marked start x₀)

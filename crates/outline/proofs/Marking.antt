@@ -76,14 +76,13 @@ step-good t s x h =
     let i : unitAt t (s .at) .word < 4096 = line-some t (unitAt t (s .at) .word) (h .tokens) e in
     let n : unitAt t (s .at) .next ≤ 4097 = unit-next t (s .at) (h .tokens) (omega arith) in
     let k = unit-kept t (unitAt t (s .at)) (lineKind t (unitAt t (s .at) .word)) s x (h .long) in
-    let r : rowsOf (lineKind t (unitAt t (s .at) .word)) ≤ 2 = rows-few (lineKind t (unitAt t (s .at) .word)) in
-    (
+    let r : rowsOf (lineKind t (unitAt t (s .at) .word)) ≤ 2 = rows-few (lineKind t (unitAt t (s .at) .word)) in (
       record {
         tokens = h .tokens;
         long = k .0;
         near = n;
         few = omega (arith, k .1, h .few, o .0, o .1, o .2);
-        rows = omega (arith, h .rows, o .0, o .1, o .2)
+        rows = omega (arith, h .rows, o .0, o .1, o .2);
       },
       omega (arith, o .0, o .1, o .2),
     ))
@@ -112,7 +111,7 @@ module _ (t : List ℕ) (start : Marks) (x₀ : List ℕ) where
     walking-more y e =
         record {
           fits = more-good y e .0;
-          runs = runs-go _ _ _ _ _ (4097 - s .at) _ (h .runs) (sym (ap (λ (z : Going). going z x′) (sym e) ∙ p)) (omega (arith, walking-less y e))
+          runs = runs-go _ _ _ _ _ (4097 - s .at) _ (h .runs) (sym (ap (λ (z : Going). going z x′) (sym e) ∙ p)) (omega (arith, walking-less y e));
         }
 
     pub walking-done : g ≡ Over → x′ ≡ marksFrom t (marking start x₀)

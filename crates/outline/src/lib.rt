@@ -90,7 +90,15 @@ fn mark_token(t: &[u32], x: &mut [u32], i: u32, kind: u32, number: u32, c: u32) 
     c
 }
 
-fn mark_from(t: &[u32], x: &mut [u32], first: u32, end: u32, kind: u32, number: u32, start: u32) -> u32
+fn mark_from(
+    t: &[u32],
+    x: &mut [u32],
+    first: u32,
+    end: u32,
+    kind: u32,
+    number: u32,
+    start: u32,
+) -> u32
     requires { ⌜ (length (now x) ≡ 1024) × (end ≤ 4097) × (start ≤ 4097) ⌝ }
     ensures { λ r. ⌜ marked r (now (x .exit)) ≡ markFrom (end - first) (now (t .entry)) first kind number (marked start (now (x .entry))) ⌝ }
 {
@@ -214,7 +222,13 @@ fn parse_all(w: Width, n: u32, t: &[u32], rows: &mut [u32], labels: &mut [u32]) 
 }
 
 // The outline of the tokens t of a source of n bytes: the answer, a row for each statement, a row for each label.
-pub fn parse(w: Width, n: u32, t: &[u32; Machine::TOKEN_WORDS], rows: &mut [u32; Outline::WORDS], labels: &mut [u32; Outline::LABEL_WORDS]) -> Parsed
+pub fn parse(
+    w: Width,
+    n: u32,
+    t: &[u32; Machine::TOKEN_WORDS],
+    rows: &mut [u32; Outline::WORDS],
+    labels: &mut [u32; Outline::LABEL_WORDS],
+) -> Parsed
     ensures { λ r. ⌜ parsed r (now (rows .exit)) (now (labels .exit)) ≡ outlineOf w (now (t .entry)) n ⌝ }
 {
     parse_all(w, n, t, rows, labels)

@@ -1,9 +1,9 @@
--- `lexer_cases::has_numbers` is safe and ends.
+-- `casefile::has_numbers` is safe and ends.
 -- Assumes nothing.
 use borrow.Author.Needs.{needs}
 use Prim.Native.Nat.{_-_}
-use Rattle.lexer_cases.proofs.has_numbers.Statement.{statement}
-use Rattle.lexer_cases.proofs.has_numbers.Tie as tie
+use Rattle.casefile.proofs.has_numbers.Statement.{statement}
+use Rattle.casefile.proofs.has_numbers.Tie as tie
 
 abbrev Inv-loop : tie.InvT-loop
 Inv-loop l from end k₀ k = Unit {0}

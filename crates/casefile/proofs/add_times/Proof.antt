@@ -1,9 +1,9 @@
--- `lexer_cases::add_times` is safe and ends.
+-- `casefile::add_times` is safe and ends.
 -- Assumes nothing.
 use borrow.Author.Needs.{needs}
 use Prim.Native.Nat.{_-_}
-use Rattle.lexer_cases.proofs.add_times.Statement.{statement}
-use Rattle.lexer_cases.proofs.add_times.Tie as tie
+use Rattle.casefile.proofs.add_times.Statement.{statement}
+use Rattle.casefile.proofs.add_times.Tie as tie
 
 abbrev Inv-loop : tie.InvT-loop
 Inv-loop l from times text₀ size n₀ k₀ text n k = Unit {0}

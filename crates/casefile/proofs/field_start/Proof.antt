@@ -1,34 +1,28 @@
--- `lexer_cases::add_text` is safe and ends.
+-- `casefile::field_start` is safe and ends.
 -- Assumes nothing.
 use borrow.Author.Needs.{needs}
-use Prim.Native.Nat.{_-_}
+use Prim.Native.Nat.{_-_, _≤_}
 use lib.ListN.{length}
-use Rattle.lexer_cases.proofs.add_text.Statement.{statement}
-use Rattle.lexer_cases.proofs.add_text.Tie as tie
+use Rattle.casefile.proofs.field_start.Statement.{statement}
+use Rattle.casefile.proofs.field_start.Tie as tie
 
 abbrev Inv-loop : tie.InvT-loop
-Inv-loop l from text₀ size n₀ i₀ text n i = Unit {0}
+Inv-loop l k blanks₀ i₀ blanks i = i ≤ length l
 
 abbrev μ-loop : tie.MeasureT-loop
-μ-loop l from text₀ size n₀ i₀ text n i = length l - i
+μ-loop l k blanks₀ i₀ blanks i = length l - i
 
 loop-holds : tie.Need-loop-holds Inv-loop μ-loop
 loop-holds c = search needs
 
-text-byte-requires : tie.Need-text-byte-requires Inv-loop μ-loop
-text-byte-requires c κs = search needs
-
 returns : tie.Need-returns Inv-loop μ-loop
 returns c = search needs
-
-add-byte-requires : tie.Need-add-byte-requires Inv-loop μ-loop
-add-byte-requires c κs = search needs
 
 byte-at-requires : tie.Need-byte-at-requires Inv-loop μ-loop
 byte-at-requires c κs = search needs
 
-spelled-size-requires : tie.Need-spelled-size-requires Inv-loop μ-loop
-spelled-size-requires c κs = search needs
+one-more-requires : tie.Need-one-more-requires Inv-loop μ-loop
+one-more-requires c κs = search needs
 
 add-i : tie.Need-add-i Inv-loop μ-loop
 add-i c = search needs
@@ -42,18 +36,16 @@ loop-again c = search needs
 returns-2 : tie.Need-returns-2 Inv-loop μ-loop
 returns-2 c = search needs
 
-pub add-text-spec : {M : Type 1} → statement M
-add-text-spec =
+pub field-start-spec : {M : Type 1} → statement M
+field-start-spec =
     tie.close
     (tie.spec
     Inv-loop
     μ-loop
     loop-holds
-    text-byte-requires
     returns
-    add-byte-requires
     byte-at-requires
-    spelled-size-requires
+    one-more-requires
     add-i
     loop-less
     loop-again
