@@ -107,7 +107,7 @@ grow-good m t u k x h l =
     (λ b. let p = two-put t u k x (omega arith) l in (p .0, omega (arith, p .1))))
 
 -- where a turn leads
-abbrev TurnGood : List ℕ → State → Step World Result → Type 0
+abbrev pub TurnGood : List ℕ → State → Step World Result → Type 0
 TurnGood t s (go x) = (TurnFits t (x .table) (x .state) × (x .state .labels ≤ x .state .at)) × (s .at < x .state .at)
 TurnGood t s (stop r) = Unit {0}
 
@@ -133,7 +133,7 @@ module _ (w : Width) (t : List ℕ) (n : ℕ) (s : State) (rows : List ℕ) (h :
         omega (arith, o .0, o .1, o .2),
       )
 
-  turn-good : TurnGood t s (turnOf w t n (world s rows))
+  pub turn-good : TurnGood t s (turnOf w t n (world s rows))
   unfolding turnOf turnOn
   turn-good =
       either (TurnGood t s) (faultIn w t n (unitAt t (s .at)) (world s rows)) none _ _ (λ _. tt) (λ c.
