@@ -1,4 +1,3 @@
 pub mod Tokens
 pub mod Units
 pub mod Lines
-pub mod Shapes

@@ -14,7 +14,7 @@ use Rattle.prelude.proofs.Choice.{tests, ifTrue-yes, ifTrue-no, ifEq-yes, ifEq-
 use Rattle.kinds.specs.Nesting.{standsIn, rowsOf, enters, leaves, groundOf, isFrame}
 use Rattle.kinds.specs.declared.Range.{Range}
 use Rattle.lines.specs.Tokens.{tokenWord, keyAt}
-use Rattle.lines.specs.Shapes.{operandCount}
+use Rattle.shapes.specs.Shapes.{operandCount}
 use Rattle.lines.specs.declared.Span.{Span}
 use Rattle.limits.specs.declared.Width.{Width}
 use Rattle.rules.specs.Rules.{shapeRule, leftRule, tokensRule, listRule, labelsRule}

@@ -12,7 +12,7 @@ use Rattle.kinds.specs.Nesting.{rowsOf, kindOfWord}
 use Rattle.lines.specs.Tokens.{wordAt}
 use Rattle.lines.specs.Units.{unitAt}
 use Rattle.lines.specs.Lines.{lineKind}
-use Rattle.lines.specs.Shapes.{operandCount}
+use Rattle.shapes.specs.Shapes.{operandCount}
 use Rattle.lines.specs.declared.Span.{Span}
 use Rattle.rules.specs.Rules.{labelsRule}
 use Rattle.parser.specs.Outline.{rowAt, putRow, rowIn, behind}

@@ -15,7 +15,7 @@ ghost use Rattle.prelude.specs.Fault.{leastOf};
 ghost use Rattle.kinds.specs.Nesting.{rowsOf};
 ghost use Rattle.lines.specs.Tokens.{tokenWord};
 ghost use Rattle.lines.specs.Lines.{lineKind};
-ghost use Rattle.lines.specs.Shapes.{operandCount};
+ghost use Rattle.shapes.specs.Shapes.{operandCount};
 ghost use Rattle.prelude.specs.Lists.{zeros};
 ghost use Rattle.parser.specs.Parse.{world, putState, putKind, growTwo, growBy, localsBehind, depthBehind, sectionBehind, stateBehind, joinState, advance, result, stepped, turnOf, parseFrom, parseOf, begin};
 ghost use Rattle.parser.specs.Fits.{StepFits, TurnFits};
@@ -371,7 +371,7 @@ fn grow(m: u32, t: &[u32], rows: &mut [u32], u: Span, k: u32, s: State) -> State
         return s;
     }
     if m == 1 {
-        return put_kind(rows, k, u.word, u.next, lines::operand_count(u), s);
+        return put_kind(rows, k, u.word, u.next, shapes::operand_count(u), s);
     }
     grow_two(t, rows, u, k, s)
 }
@@ -446,7 +446,7 @@ fn state_behind(t: &[u32], n: u32, u: Span, k: u32, o: Row, s: State) -> State
         count: s.count,
         top: s.top,
         section: section_behind(k, s.section),
-        locals: locals_behind(k, lines::operand_count(u), o.before, s.locals),
+        locals: locals_behind(k, shapes::operand_count(u), o.before, s.locals),
         depth: depth_behind(k, s.depth),
         labels: x.count,
     }

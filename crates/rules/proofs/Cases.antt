@@ -11,7 +11,7 @@ use Rattle.prelude.proofs.Choice.{tests}
 use Rattle.limits.specs.declared.Width.{Width}
 use Rattle.vocabulary.specs.Words.{mostOperands}
 use Rattle.lines.specs.Tokens.{tokenWord, keyAt}
-use Rattle.lines.specs.Shapes.{isName, isOperator, isListed, shapeFits}
+use Rattle.shapes.specs.Shapes.{isName, isOperator, isListed, shapeFits}
 use Rattle.lines.specs.declared.Span.{Span}
 use Rattle.rules.specs.Rules.{shapeRule, leftRule, isHead, headAt, ownWord, nameKey, substituteKey, tokenKey, pastMost, listRule, reservedLabel, labelLimit, labelKey, labelled, labelStep}
 use Rattle.rules.specs.declared.Labelled.{Labelled}

@@ -9,7 +9,7 @@ use Rattle.limits.specs.Limits as limits
 use Rattle.limits.specs.declared.Width.{Width}
 use Rattle.vocabulary.specs.Words.{mostOperands}
 use Rattle.lines.specs.Tokens.{kindAt, wordAt, keyAt}
-use Rattle.lines.specs.Shapes.{isName, isOperator, isListed, shapeFits}
+use Rattle.shapes.specs.Shapes.{isName, isOperator, isListed, shapeFits}
 use Rattle.lines.specs.declared.Span.{Span}
 use Rattle.rules.specs.declared.Labelled.{Labelled}
 

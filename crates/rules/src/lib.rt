@@ -28,7 +28,7 @@ pub fn shape_rule(w: Width, t: &[u32], n: u32, u: Span, k: u32) -> u64
     if k == 35 {
         return lines::key_at(t, n, u.word, 7);
     }
-    if lines::shape_fits(w, t, u, k) {
+    if shapes::shape_fits(w, t, u, k) {
         return 1099511627776;
     }
     lines::key_at(t, n, u.word, 7)
@@ -47,12 +47,12 @@ pub fn left_rule(t: &[u32], n: u32, u: Span, k: u32) -> u64
 fn is_head(t: &[u32], i: u32) -> bool
     ensures { λ r. ⌜ r ≡ isHead (now (t .entry)) i ⌝ }
 {
-    if lines::is_name(t, i) {
+    if shapes::is_name(t, i) {
         let w = lines::word_at(t, i);
         if w == 14 {
             return true;
         }
-        return lines::is_operator(w);
+        return shapes::is_operator(w);
     }
     false
 }
@@ -192,7 +192,7 @@ pub fn list_rule(t: &[u32], n: u32, u: Span, k: u32) -> u64
     requires { ⌜ u .word ≤ 4097 ⌝ }
     ensures { λ r. ⌜ r ≡ listRule (now (t .entry)) n u k ⌝ }
 {
-    if lines::is_listed(k) {
+    if shapes::is_listed(k) {
         let most = vocabulary::most_operands(lines::word_at(t, u.word));
         return past_most(t, n, u.word + 1 + most, u.next);
     }

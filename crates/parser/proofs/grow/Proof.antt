@@ -6,7 +6,7 @@ use Rattle.parser.proofs.grow.Statement.{statement}
 use Rattle.parser.proofs.grow.Tie as tie
 use Rattle.parser.proofs.grow.Reads as reads
 use Rattle.parser.proofs.grow.Lts as lts
-use Rattle.lines.proofs.operand_count.Reads as operand-count-reads
+use Rattle.shapes.proofs.operand_count.Reads as operand-count-reads
 use Rattle.parser.proofs.grow_two.Reads as grow-two-reads
 use Rattle.parser.proofs.put_kind.Reads as put-kind-reads
 

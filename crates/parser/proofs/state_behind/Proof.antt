@@ -6,7 +6,7 @@ use Rattle.parser.proofs.state_behind.Statement.{statement}
 use Rattle.parser.proofs.state_behind.Tie as tie
 use Rattle.parser.proofs.state_behind.Reads as reads
 use Rattle.parser.proofs.state_behind.Lts as lts
-use Rattle.lines.proofs.operand_count.Reads as operand-count-reads
+use Rattle.shapes.proofs.operand_count.Reads as operand-count-reads
 use Rattle.parser.proofs.depth_behind.Reads as depth-behind-reads
 use Rattle.parser.proofs.locals_behind.Reads as locals-behind-reads
 use Rattle.parser.proofs.section_behind.Reads as section-behind-reads

@@ -6,8 +6,8 @@ use Rattle.rules.proofs.is_head.Statement.{statement}
 use Rattle.rules.proofs.is_head.Tie as tie
 use Rattle.rules.proofs.is_head.Reads as reads
 use Rattle.rules.proofs.is_head.Lts as lts
-use Rattle.lines.proofs.is_name.Reads as is-name-reads
-use Rattle.lines.proofs.is_operator.Reads as is-operator-reads
+use Rattle.shapes.proofs.is_name.Reads as is-name-reads
+use Rattle.shapes.proofs.is_operator.Reads as is-operator-reads
 use Rattle.lines.proofs.word_at.Reads as word-at-reads
 
 is-name-requires : tie.Need-is-name-requires

@@ -7,7 +7,7 @@ use Rattle.rules.proofs.list_rule.Statement.{statement}
 use Rattle.rules.proofs.list_rule.Tie as tie
 use Rattle.rules.proofs.list_rule.Reads as reads
 use Rattle.rules.proofs.list_rule.Lts as lts
-use Rattle.lines.proofs.is_listed.Reads as is-listed-reads
+use Rattle.shapes.proofs.is_listed.Reads as is-listed-reads
 use Rattle.lines.proofs.word_at.Reads as word-at-reads
 use Rattle.rules.proofs.past_most.Reads as past-most-reads
 use Rattle.vocabulary.proofs.most_operands.Reads as most-operands-reads

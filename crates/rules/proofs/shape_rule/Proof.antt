@@ -7,7 +7,7 @@ use Rattle.rules.proofs.shape_rule.Tie as tie
 use Rattle.rules.proofs.shape_rule.Reads as reads
 use Rattle.rules.proofs.shape_rule.Lts as lts
 use Rattle.lines.proofs.key_at.Reads as key-at-reads
-use Rattle.lines.proofs.shape_fits.Reads as shape-fits-reads
+use Rattle.shapes.proofs.shape_fits.Reads as shape-fits-reads
 
 returns : tie.Need-returns
 returns c =
