@@ -1,0 +1,9 @@
+pub mod Layout
+pub mod Tests
+pub mod Statement
+pub mod Label
+pub mod Nesting
+pub mod Frames
+pub mod Faults
+pub mod WellFormed
+pub mod Canonical
