@@ -10,11 +10,6 @@ use casefile::is_source;
 use casefile::line_end;
 use casefile::narrow;
 use casefile::one_more;
-use casefile::put;
-use casefile::put_bad_line;
-use casefile::put_line;
-use casefile::put_number;
-use casefile::put_total;
 use casefile::starts_with;
 use casefile::width_of;
 use lexer::Lexed;
@@ -54,6 +49,34 @@ struct Answer {
     rows: usize,
     number: u32,
     place: usize,
+}
+
+fn put(text: &[u8]) {
+    io::write_all(1, text);
+}
+
+fn put_number(n: u64) {
+    io::print_decimal(1, n);
+}
+
+fn put_bad_line(line: u64) {
+    put(b"line ");
+    put_number(line);
+    put(b": no line of a case\n");
+}
+
+fn put_total(cases: u64, differ: u64) {
+    put_number(cases);
+    put(b" cases, ");
+    put_number(differ);
+    put(b" differ\n");
+}
+
+fn put_line(s: &[u8], at: usize) {
+    if at < s.len() {
+        let end = line_end(s, at);
+        put(&s[at..end]);
+    }
 }
 
 fn word_at(t: &Table, i: usize) -> u32 {

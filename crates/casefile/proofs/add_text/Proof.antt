@@ -1,25 +1,37 @@
--- `casefile::add_text` is safe and ends.
--- Assumes nothing.
 use borrow.Author.Needs.{needs}
 use Prim.Native.Nat.{_-_}
 use lib.ListN.{length}
+use Rattle.casefile.specs.Sources.{source}
+use Rattle.casefile.proofs.Loops.{Texting, texting}
+use native.Mathlib.Omega.{arith}
+use mathlib.Core.Path.{_≡_, refl, sym, _∙_, ap, subst}
 use Rattle.casefile.proofs.add_text.Statement.{statement}
 use Rattle.casefile.proofs.add_text.Tie as tie
+use Rattle.casefile.proofs.add_text.Reads as reads
+use Rattle.casefile.proofs.add_text.Lts as lts
+use Rattle.casefile.proofs.add_byte.Reads as add-byte-reads
+use Rattle.casefile.proofs.spelled_size.Reads as spelled-size-reads
+use Rattle.casefile.proofs.text_byte.Reads as text-byte-reads
+use Rattle.prelude.proofs.byte_at.Reads as byte-at-reads
 
 abbrev Inv-loop : tie.InvT-loop
-Inv-loop l from text₀ size n₀ i₀ text n i = Unit {0}
+Inv-loop l from text₀ size n₀ i₀ text n i =
+    Texting l from (source size text₀) text n i
 
 abbrev μ-loop : tie.MeasureT-loop
-μ-loop l from text₀ size n₀ i₀ text n i = length l - i
+μ-loop l from text₀ size n₀ i₀ text n i =
+    length l - i
 
 loop-holds : tie.Need-loop-holds Inv-loop μ-loop
-loop-holds c = search needs
+loop-holds c =
+    search texting
 
 text-byte-requires : tie.Need-text-byte-requires Inv-loop μ-loop
 text-byte-requires c κs = search needs
 
 returns : tie.Need-returns Inv-loop μ-loop
-returns c = search needs
+returns c =
+    search texting
 
 add-byte-requires : tie.Need-add-byte-requires Inv-loop μ-loop
 add-byte-requires c κs = search needs
@@ -37,10 +49,12 @@ loop-less : tie.Need-loop-less Inv-loop μ-loop
 loop-less c = search needs
 
 loop-again : tie.Need-loop-again Inv-loop μ-loop
-loop-again c = search needs
+loop-again c =
+    search texting
 
 returns-2 : tie.Need-returns-2 Inv-loop μ-loop
-returns-2 c = search needs
+returns-2 c =
+    search texting
 
 pub add-text-spec : {M : Type 1} → statement M
 add-text-spec =

@@ -1,18 +1,26 @@
--- `casefile::add_times` is safe and ends.
--- Assumes nothing.
 use borrow.Author.Needs.{needs}
 use Prim.Native.Nat.{_-_}
+use Rattle.casefile.specs.Sources.{source}
+use Rattle.casefile.proofs.Loops.{Repeating, repeating}
+use native.Mathlib.Omega.{arith}
+use mathlib.Core.Path.{_≡_, refl, sym, _∙_, ap, subst}
 use Rattle.casefile.proofs.add_times.Statement.{statement}
 use Rattle.casefile.proofs.add_times.Tie as tie
+use Rattle.casefile.proofs.add_times.Reads as reads
+use Rattle.casefile.proofs.add_times.Lts as lts
+use Rattle.casefile.proofs.add_text.Reads as add-text-reads
 
 abbrev Inv-loop : tie.InvT-loop
-Inv-loop l from times text₀ size n₀ k₀ text n k = Unit {0}
+Inv-loop l from times text₀ size n₀ k₀ text n k =
+    Repeating l from times (source size text₀) text n k
 
 abbrev μ-loop : tie.MeasureT-loop
-μ-loop l from times text₀ size n₀ k₀ text n k = times - k
+μ-loop l from times text₀ size n₀ k₀ text n k =
+    times - k
 
 loop-holds : tie.Need-loop-holds Inv-loop μ-loop
-loop-holds c = search needs
+loop-holds c =
+    search repeating
 
 add-text-requires : tie.Need-add-text-requires Inv-loop μ-loop
 add-text-requires c κs = search needs
@@ -24,10 +32,12 @@ loop-less : tie.Need-loop-less Inv-loop μ-loop
 loop-less c = search needs
 
 loop-again : tie.Need-loop-again Inv-loop μ-loop
-loop-again c = search needs
+loop-again c =
+    search repeating
 
 returns : tie.Need-returns Inv-loop μ-loop
-returns c = search needs
+returns c =
+    search repeating
 
 pub add-times-spec : {M : Type 1} → statement M
 add-times-spec =

@@ -1,49 +1,58 @@
--- `casefile::place_of` is safe and ends.
--- Assumes nothing.
 use borrow.Author.Needs.{needs}
 use Prim.Native.Nat.{_-_}
 use lib.ListN.{length}
+use Rattle.casefile.proofs.Loops.{Placing, placing}
+use native.Mathlib.Omega.{arith}
+use mathlib.Core.Path.{_≡_, refl, sym, _∙_, ap, subst}
 use Rattle.casefile.proofs.place_of.Statement.{statement}
 use Rattle.casefile.proofs.place_of.Tie as tie
+use Rattle.casefile.proofs.place_of.Reads as reads
+use Rattle.casefile.proofs.place_of.Lts as lts
+use Rattle.casefile.proofs.one_more.Reads as one-more-reads
+use Rattle.casefile.proofs.stands.Reads as stands-reads
 
 abbrev Inv-loop : tie.InvT-loop
-Inv-loop text word k seen₀ i₀ seen i = Unit {0}
+Inv-loop text word k seen₀ i₀ seen i =
+    Placing text word k seen i
 
 abbrev μ-loop : tie.MeasureT-loop
-μ-loop text word k seen₀ i₀ seen i = length text - i
+μ-loop text word k seen₀ i₀ seen i =
+    length text - i
 
 loop-holds : tie.Need-loop-holds Inv-loop μ-loop
-loop-holds c = search needs
+loop-holds c =
+    search placing
 
-sub-starts-with : tie.Need-sub-starts-with Inv-loop μ-loop
-sub-starts-with c = search needs
+add-i : tie.Need-add-i Inv-loop μ-loop
+add-i c = search needs
 
-part-starts-with-start : tie.Need-part-starts-with-start Inv-loop μ-loop
-part-starts-with-start c = search needs
-
-part-starts-with-end : tie.Need-part-starts-with-end Inv-loop μ-loop
-part-starts-with-end c = search needs
-
-starts-with-requires : tie.Need-starts-with-requires Inv-loop μ-loop
-starts-with-requires c κs = search needs
+stands-requires : tie.Need-stands-requires Inv-loop μ-loop
+stands-requires c κs = search needs
 
 one-more-requires : tie.Need-one-more-requires Inv-loop μ-loop
 one-more-requires c κs = search needs
 
 returns : tie.Need-returns Inv-loop μ-loop
-returns c = search needs
-
-add-i : tie.Need-add-i Inv-loop μ-loop
-add-i c = search needs
+returns c =
+    search placing
 
 loop-less : tie.Need-loop-less Inv-loop μ-loop
 loop-less c = search needs
 
 loop-again : tie.Need-loop-again Inv-loop μ-loop
-loop-again c = search needs
+loop-again c =
+    search placing
+
+loop-less-2 : tie.Need-loop-less-2 Inv-loop μ-loop
+loop-less-2 c = search needs
+
+loop-again-2 : tie.Need-loop-again-2 Inv-loop μ-loop
+loop-again-2 c =
+    search placing
 
 returns-2 : tie.Need-returns-2 Inv-loop μ-loop
-returns-2 c = search needs
+returns-2 c =
+    search placing
 
 pub place-of-spec : {M : Type 1} → statement M
 place-of-spec =
@@ -52,13 +61,12 @@ place-of-spec =
     Inv-loop
     μ-loop
     loop-holds
-    sub-starts-with
-    part-starts-with-start
-    part-starts-with-end
-    starts-with-requires
+    add-i
+    stands-requires
     one-more-requires
     returns
-    add-i
     loop-less
     loop-again
+    loop-less-2
+    loop-again-2
     returns-2)
