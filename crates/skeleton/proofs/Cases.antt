@@ -1,13 +1,12 @@
 -- One law for each way through a function of this crate.
 -- Assumes nothing.
-use mathlib.Core.Path.{_≡_, refl, sym, _∙_, ap, ap₂}
-use mathlib.Core.List.{List, [], _∷_, _++_}
-use Prim.Native.Nat.{ℕ, zero, suc, _+_, _*_, _-_, _≤_, _<_}
+use mathlib.Core.Path.{_≡_, refl, sym, _∙_, ap}
+use mathlib.Core.List.{List}
+use Prim.Native.Nat.{ℕ, suc, _+_, _*_, _-_, _≤_, _<_}
 use native.Mathlib.Numerals.{add-one, add-two, add-three, add-four, add-five, add-six, add-seven, add-eight}
 use native.Mathlib.Omega.{arith}
-use lib.ListN.{length, take, drop, set, length-set}
+use lib.ListN.{length, set, length-set}
 use lib.Seq.{sets-eq}
-use Rattle.prelude.specs.Choice.{ifEq}
 use Rattle.prelude.specs.Lists.{zeros, clearedFrom}
 use Rattle.prelude.proofs.Choice.{tests}
 use Rattle.skeleton.specs.Skeleton.{parametersOf, statementOf, wordsOf, putRow, rowsIn, skeletonOf}

@@ -1,7 +1,7 @@
 -- The skeleton read back: its length, the words of each row, and zeros behind the last.
 -- Assumes nothing.
 use mathlib.Core.Path.{_≡_, refl, sym, _∙_, ap}
-use mathlib.Core.List.{List, [], _∷_, _++_}
+use mathlib.Core.List.{List, _++_}
 use Prim.Native.Nat.{ℕ, zero, suc, _+_, _*_, _-_, _≤_, _<_}
 use native.Mathlib.Decide.{decLt, ℕ-discrete}
 use native.Mathlib.Nat.{add-zero, not-suc-le-zero}
@@ -9,7 +9,7 @@ use native.Mathlib.Omega.{arith}
 use lib.ListN.{length, getD, take, drop, length-append, length-replicate, getD-replicate, List·getD-append, List·getD-eq-default}
 use lib.Seq.{length-take-le, getD-take, getD-drop, getD-append-add}
 use Rattle.prelude.specs.Lists.{zeros}
-use Rattle.tables.specs.Layout.{statementRow, statementWords}
+use Rattle.tables.specs.Layout.{statementWords}
 use Rattle.tables.specs.Statement as statement
 use Rattle.parser.specs.Outline.{rowAt}
 use Rattle.skeleton.specs.Skeleton.{parametersOf, bare, statementOf, wordsOf, putRow, rowsIn, skeletonOf, tokenOf, nextOf}

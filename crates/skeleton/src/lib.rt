@@ -5,7 +5,7 @@ ghost use lib.ListN.{length};
 ghost use Rattle.parser.specs.Outline.{rowAt};
 ghost use Rattle.skeleton.specs.Skeleton.{parametersOf, bare, statementOf, putRow, rowsIn, skeletonOf, tokenOf, nextOf};
 
-// The words of a row that are not 0.
+// What a row has; all its other words are 0.
 pub struct SkeletonRow {
     pub kind: u32,
     pub func: u32,
