@@ -1,5 +1,4 @@
 // The data image: how long data is, where each line of it stands, and its bytes.
-use limits::Machine;
 use limits::Width;
 use lines::Span;
 ghost use mathlib.Core.Path.{_≡_};
@@ -162,7 +161,8 @@ fn first_cursor() -> Cursor
     }
 }
 
-fn measure_all(w: Width, t: &[u32], end: u32) -> Measured
+// The bytes of all lines before the token `end`, or the magic word of the first that is too big.
+pub fn measure(w: Width, t: &[u32], end: u32) -> Measured
     requires { ⌜ length (now t) ≡ 32768 ⌝ }
     ensures { λ r. ⌜ r ≡ measureOf w (now (t .entry)) end ⌝ }
 {
@@ -275,29 +275,25 @@ fn big_in(t: &[u32], n: u32, m: Measured) -> u64
     }
 }
 
-// The bytes of all lines before the token `end`, or the magic word of the first that is too big.
-pub fn measure(w: Width, t: &[u32; Machine::TOKEN_WORDS], end: u32) -> Measured
-    ensures { λ r. ⌜ r ≡ measureOf w (now (t .entry)) end ⌝ }
-{
-    measure_all(w, t, end)
-}
-
 // The address of what a label names, by the token of its magic word.
-pub fn address_of(w: Width, t: &[u32; Machine::TOKEN_WORDS], word: u32) -> u32
+pub fn address_of(w: Width, t: &[u32], word: u32) -> u32
+    requires { ⌜ length (now t) ≡ 32768 ⌝ }
     ensures { λ r. ⌜ r ≡ addressOf w (now (t .entry)) word ⌝ }
 {
-    length_in(measure_all(w, t, word))
+    length_in(measure(w, t, word))
 }
 
-// The key of refusal 15.
-pub fn big_fault(w: Width, t: &[u32; Machine::TOKEN_WORDS], n: u32) -> u64
+// The key of refusal 15 for a source of n bytes.
+pub fn big_fault(w: Width, t: &[u32], n: u32) -> u64
+    requires { ⌜ length (now t) ≡ 32768 ⌝ }
     ensures { λ r. ⌜ r ≡ bigRule w (now (t .entry)) n ⌝ }
 {
-    big_in(t, n, measure_all(w, t, 4098))
+    big_in(t, n, measure(w, t, 4098))
 }
 
 // The data of the source s, over a buffer that is zeros where an `align` fills.
-pub fn write_image(w: Width, s: &[u8], t: &[u32; Machine::TOKEN_WORDS], out: &mut [u8])
+pub fn write_image(w: Width, s: &[u8], t: &[u32], out: &mut [u8])
+    requires { ⌜ length (now t) ≡ 32768 ⌝ }
     ensures { λ _. ⌜ now (out .exit) ≡ imageOf w (now (s .entry)) (now (t .entry)) (now (out .entry)) ⌝ }
 {
     lay_from(w, s, t, first_cursor(), out);

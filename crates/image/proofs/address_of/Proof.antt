@@ -7,10 +7,10 @@ use Rattle.image.proofs.address_of.Tie as tie
 use Rattle.image.proofs.address_of.Reads as reads
 use Rattle.image.proofs.address_of.Lts as lts
 use Rattle.image.proofs.length_in.Reads as length-in-reads
-use Rattle.image.proofs.measure_all.Reads as measure-all-reads
+use Rattle.image.proofs.measure.Reads as measure-reads
 
-measure-all-requires : tie.Need-measure-all-requires
-measure-all-requires c κs = search needs
+measure-requires : tie.Need-measure-requires
+measure-requires c κs = search needs
 
 length-in-requires : tie.Need-length-in-requires
 length-in-requires c κs = search needs
@@ -21,4 +21,4 @@ returns c =
     cc
 
 pub address-of-spec : {M : Type 1} → statement M
-address-of-spec = tie.close (tie.spec measure-all-requires length-in-requires returns)
+address-of-spec = tie.close (tie.spec measure-requires length-in-requires returns)

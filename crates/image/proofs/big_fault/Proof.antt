@@ -7,10 +7,10 @@ use Rattle.image.proofs.big_fault.Tie as tie
 use Rattle.image.proofs.big_fault.Reads as reads
 use Rattle.image.proofs.big_fault.Lts as lts
 use Rattle.image.proofs.big_in.Reads as big-in-reads
-use Rattle.image.proofs.measure_all.Reads as measure-all-reads
+use Rattle.image.proofs.measure.Reads as measure-reads
 
-measure-all-requires : tie.Need-measure-all-requires
-measure-all-requires c κs = search needs
+measure-requires : tie.Need-measure-requires
+measure-requires c κs = search needs
 
 big-in-requires : tie.Need-big-in-requires
 big-in-requires c κs = search needs
@@ -21,4 +21,4 @@ returns c =
     cc
 
 pub big-fault-spec : {M : Type 1} → statement M
-big-fault-spec = tie.close (tie.spec measure-all-requires big-in-requires returns)
+big-fault-spec = tie.close (tie.spec measure-requires big-in-requires returns)

@@ -3,10 +3,10 @@ use Rattle.image.proofs.Walks.{first-fits}
 use native.Mathlib.Omega.{arith}
 use mathlib.Core.Path.{_≡_, refl, sym, _∙_, ap, subst}
 use borrow.Author.Needs.{needs}
-use Rattle.image.proofs.measure_all.Statement.{statement}
-use Rattle.image.proofs.measure_all.Tie as tie
-use Rattle.image.proofs.measure_all.Reads as reads
-use Rattle.image.proofs.measure_all.Lts as lts
+use Rattle.image.proofs.measure.Statement.{statement}
+use Rattle.image.proofs.measure.Tie as tie
+use Rattle.image.proofs.measure.Reads as reads
+use Rattle.image.proofs.measure.Lts as lts
 use Rattle.image.proofs.first_cursor.Reads as first-cursor-reads
 use Rattle.image.proofs.measure_from.Reads as measure-from-reads
 
@@ -22,5 +22,5 @@ unfolding measureOf
 returns c =
     cc
 
-pub measure-all-spec : {M : Type 1} → statement M
-measure-all-spec = tie.close (tie.spec first-cursor-requires measure-from-requires returns)
+pub measure-spec : {M : Type 1} → statement M
+measure-spec = tie.close (tie.spec first-cursor-requires measure-from-requires returns)
