@@ -179,7 +179,7 @@ module _ (out : List ℕ) (size : ℕ) (bytes : List ℕ) where
       ∙ ap (λ (y : List ℕ). take size out ++ y) (append-nil x ∙ e ∙ ap (overlay bytes) (take-all (length out - size) (drop size out) (omega (arith, length-drop size out))))
 
 -- a buffer keeps its length
-overlay-long : (xs out : List ℕ) → length (overlay xs out) ≡ length out
+pub overlay-long : (xs out : List ℕ) → length (overlay xs out) ≡ length out
 unfolding overlay
 overlay-long xs out =
     omega (arith, length-take (length out) (xs ++ drop (length xs) out), length-append xs (drop (length xs) out), length-drop (length xs) out)
