@@ -39,6 +39,7 @@ pub record Laying : Type 0 where
 abbrev pub laying : Cursor → List ℕ → Laying
 laying c out = record { cursor = c; image = out }
 
+-- what a unit means for the image, which is `written` with the unit's line in it
 abbrev pub laid : Next → List ℕ → List ℕ → Step Laying (List ℕ)
 laid (On y) written out = go (laying y written)
 laid (Full i) written out = stop out
@@ -53,6 +54,7 @@ putUnit w s t m =
 unfoldable pub layStep : Width → List ℕ → List ℕ → Laying → Step Laying (List ℕ)
 layStep w s t m = laid (nextAt w t 4098 (m .cursor)) (putUnit w s t m) (m .image)
 
+-- unit after unit
 unfoldable pub layFrom : Width → List ℕ → List ℕ → Laying → List ℕ
 layFrom w s t m = walk (layStep w s t) (m .image) (suc (length t)) m
 

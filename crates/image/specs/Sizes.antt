@@ -58,6 +58,7 @@ nextOf w t end u k s =
 abbrev pub firstCursor : Cursor
 firstCursor = record { at = 0; section = 0; size = 0 }
 
+-- what a unit means for the count of bytes
 abbrev pub measured : Cursor → Next → Step Cursor Measured
 measured s (On y) = go y
 measured s (Full i) = stop (Big i)
@@ -70,6 +71,7 @@ nextAt w t end s = nextOf w t end (unitAt t (s .at)) (lineKind t (unitAt t (s .a
 unfoldable pub measureStep : Width → List ℕ → ℕ → Cursor → Step Cursor Measured
 measureStep w t end s = measured s (nextAt w t end s)
 
+-- unit after unit
 unfoldable pub measureFrom : Width → List ℕ → ℕ → Cursor → Measured
 measureFrom w t end s = walk (measureStep w t end) (Length 0) (suc (length t)) s
 
@@ -81,6 +83,7 @@ measureOf w t end = measureFrom w t end firstCursor
 abbrev pub lengthOf : Width → List ℕ → Measured
 lengthOf w t = measureOf w t 4098
 
+-- 0 where data is too big
 unfoldable pub lengthIn : Measured → ℕ
 lengthIn (Length n) = n
 lengthIn (Big i) = 0

@@ -18,7 +18,7 @@ outlineWord y j f = getD y (j * 4 + f) 0
 unfoldable pub flagAt : List ℕ → ℕ → ℕ
 flagAt flags j = getD flags j 0
 
--- 1 data, 3 function; exported 2 and 4; 5 place
+-- 1 data, 3 function, 5 place; exported data is 2, an exported function 4
 unfoldable pub exportedKind : ℕ → ℕ
 exportedKind kind = ifEq kind 1 2 (ifEq kind 3 4 kind)
 
@@ -38,6 +38,7 @@ labelWords w t y flags j =
     ∷ valueAt t (outlineWord y j 0)
     ∷ []
 
+-- words as row j of the label table
 unfoldable pub putWords : List ℕ → ℕ → List ℕ → List ℕ
 putWords out j words = take (j * 4) out ++ words ++ drop (j * 4 + 4) out
 
@@ -59,6 +60,7 @@ unfoldable pub putName : List ℕ → ℕ → List ℕ → List ℕ
 putName names j bytes =
     take (j * 64) names ++ (overlay bytes (take 64 (drop (j * 64) names)) ++ drop 64 (drop (j * 64) names))
 
+-- names from j on, so many of them
 unfoldable pub namesFrom : ℕ → List ℕ → List ℕ → List ℕ → ℕ → List ℕ → List ℕ
 namesFrom zero s t y j names = names
 namesFrom (suc left) s t y j names = namesFrom left s t y (j + 1) (putName names j (labelName s t y j))
