@@ -193,7 +193,7 @@ pub ruleset comparing = (comparing-start, comparing-more, comparing-differ, comp
 abbrev pub overlayFrom : ℕ → List ℕ → List ℕ → List ℕ
 overlayFrom k xs out = take k out ++ overlay xs (drop k out)
 
-overlay-none : (out : List ℕ) → overlay [] out ≡ out
+pub overlay-none : (out : List ℕ) → overlay [] out ≡ out
 unfolding overlay
 overlay-none out = take-length out
 
@@ -205,17 +205,17 @@ overlay-one : (x : ℕ) (xs : List ℕ) (y : ℕ) (out : List ℕ) → overlay (
 unfolding overlay
 overlay-one x xs y out = refl
 
-overlay-start : (xs out : List ℕ) → overlayFrom 0 xs out ≡ overlay xs out
+pub overlay-start : (xs out : List ℕ) → overlayFrom 0 xs out ≡ overlay xs out
 overlay-start xs out = refl
 
-overlay-end : (k : ℕ) (out : List ℕ) → overlayFrom k [] out ≡ out
+pub overlay-end : (k : ℕ) (out : List ℕ) → overlayFrom k [] out ≡ out
 overlay-end k out = ap (λ (l : List ℕ). take k out ++ l) (overlay-none (drop k out)) ∙ take-append-drop k out
 
-overlay-past : (k : ℕ) (xs out : List ℕ) → length out ≤ k → overlayFrom k xs out ≡ out
+pub overlay-past : (k : ℕ) (xs out : List ℕ) → length out ≤ k → overlayFrom k xs out ≡ out
 overlay-past k xs out h =
     ap (λ (l : List ℕ). take k out ++ overlay xs l) (drop-of-length-le out h) ∙ ap (λ (l : List ℕ). take k out ++ l) (overlay-full xs) ∙ append-nil (take k out) ∙ take-all k out h
 
-overlay-more : (k v : ℕ) (xs out : List ℕ) → k < length out → overlayFrom (k + 1) xs (set out k v) ≡ overlayFrom k (v ∷ xs) out
+pub overlay-more : (k v : ℕ) (xs out : List ℕ) → k < length out → overlayFrom (k + 1) xs (set out k v) ≡ overlayFrom k (v ∷ xs) out
 overlay-more k v xs out h =
     rw (add-one, take-suc-set, drop-set-lt (suc k) out k v (omega arith))
     (append-snoc (take k out) v (overlay xs (drop (suc k) out)) ∙ ap (λ (l : List ℕ). take k out ++ l) (sym (overlay-one v xs (getD out k 0) (drop (suc k) out))) ∙ ap (λ (l : List ℕ). take k out ++ overlay (v ∷ xs) l) (sym (drop-cons out k 0 h)))

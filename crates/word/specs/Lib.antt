@@ -4,3 +4,4 @@ pub mod Values
 pub mod Results
 pub mod Bounds
 pub mod Inverse
+pub mod Bytes
