@@ -302,7 +302,12 @@ fn page_of(
             labels,
             size,
         } => { page::accepted_page(statements, labels, size, table, names, rows, out) }
-        Checked::Refused { number, place } => page::refused_page(s, number, place, out),
+        Checked::Refused { number, place } => page::refused_page(
+            s,
+            number,
+            (place % 4294967296) as u32,
+            out,
+        ),
     }
 }
 
