@@ -1,0 +1,1 @@
+// Names as bytes: theorems alone.
