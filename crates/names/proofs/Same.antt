@@ -74,8 +74,8 @@ module _ (w : Width) (s : List ℕ) (ts : List Token) (e : lexOf w s ≡ accepte
       elim (decLt i (length ts)) [
         | yes l ↦ l
         | no l ↦
-          let z : getD (tokenTable ts) (i * 8 + 0) 0 ≡ 0 = token-behind ts i 0 (omega arith) in
-          true-false (sym h ∙ ifLt-yes _ _ (omega arith))
+            let z : getD (tokenTable ts) (i * 8 + 0) 0 ≡ 0 = token-behind ts i 0 (omega arith) in
+            true-false (sym h ∙ ifLt-yes _ _ (omega arith))
       ]
 
   named-token : (i : ℕ) → hasName (tokenTable ts) i ≡ true → isNamed (getD ts i noToken .kind) ≡ true
@@ -96,8 +96,8 @@ module _ (w : Width) (s : List ℕ) (ts : List Token) (e : lexOf w s ≡ accepte
       let lj : j < length ts = named-within j g in
       ap₂ eqb (name-token i li) (name-token j lj)
       ∙ test-is (getD ts i noToken .name) (getD ts j noToken .name) (getD ts i noToken .text) (getD ts j noToken .text)
-        (same-number ts (good .numbered) i j li lj (named-token i h) (named-token j g))
-        (same-text ts (good .numbered) i j li lj (named-token i h) (named-token j g))
+      (same-number ts (good .numbered) i j li lj (named-token i h) (named-token j g))
+      (same-text ts (good .numbered) i j li lj (named-token i h) (named-token j g))
       ∙ sym (ap₂ sameList (text-token i h) (text-token j g))
 
   pub same-at : (i j : ℕ) → sameNumber (tokenTable ts) i j ≡ sameText s (tokenTable ts) i j
