@@ -236,7 +236,7 @@ abbrev pub isAccepted : Verdict → Bool
 isAccepted (Accepted count labels) = true
 isAccepted (Refused k) = false
 
-abbrev RealV : Verdict → Type 0
+abbrev pub RealV : Verdict → Type 0
 RealV (Accepted count labels) = Unit {0}
 RealV (Refused k) = k < none
 
