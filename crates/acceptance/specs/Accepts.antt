@@ -36,6 +36,13 @@ tokensIn (refused k) = []
 unfoldable pub tokensOf : Width → List ℕ → List Token
 tokensOf w s = tokensIn (lexOf w s)
 
+-- their table, and the outline made of it
+abbrev pub tableOf : Width → List ℕ → List ℕ
+tableOf w s = tokenTable (tokensOf w s)
+
+abbrev pub outlined : Width → List ℕ → Outlined
+outlined w s = outlineOf w (tableOf w s) (length s)
+
 unfoldable pub statementsIn : Parsed → ℕ
 statementsIn (parsed.Accepted c l) = c
 statementsIn (parsed.Refused number place) = 0
@@ -76,7 +83,7 @@ unfoldable pub groupsOf : Width → List ℕ → Lent → List (List ℕ)
 groupsOf w s b =
     (longRule s ∷ [])
     ∷ lexFaults w s
-    ∷ laterGroups w s b (length (tokensOf w s)) (tokenTable (tokensOf w s)) (outlineOf w (tokenTable (tokensOf w s)) (length s))
+    ∷ laterGroups w s b (length (tokensOf w s)) (tableOf w s) (outlined w s)
 
 -- the least fault of the first group that has one, else the answer a
 unfoldable pub judge : List (List ℕ) → Checked → Checked
@@ -88,7 +95,7 @@ unfoldable pub countsIn : Width → ℕ → List ℕ → Parsed → Checked
 countsIn w n t a = Accepted n (statementsIn a) (labelsIn a) (lengthIn (lengthOf w t))
 
 unfoldable pub countsOf : Width → List ℕ → Checked
-countsOf w s = countsIn w (length (tokensOf w s)) (tokenTable (tokensOf w s)) (outlineOf w (tokenTable (tokensOf w s)) (length s) .answer)
+countsOf w s = countsIn w (length (tokensOf w s)) (tableOf w s) (outlined w s .answer)
 
 -- no group of a list has a fault
 abbrev pub AllClean : List (List ℕ) → Type 0
@@ -103,17 +110,16 @@ pub record Unbroken (w : Width) (s : List ℕ) : Type 0 where
   -- 2 to 6, and 14 for tokens
   pub tokens : Clean (lexFaults w s)
   -- 7, 8, 9 and other 14
-  pub lines : Clean (allFaults w (tokenTable (tokensOf w s)) (length s))
+  pub lines : Clean (allFaults w (tableOf w s) (length s))
   -- 10 to 13 and 17
-  pub names : Clean (nameFaults s (tokenTable (tokensOf w s)) (outlineOf w (tokenTable (tokensOf w s)) (length s)))
+  pub names : Clean (nameFaults s (tableOf w s) (outlined w s))
   -- 15
-  pub size : Clean (bigRule w (tokenTable (tokensOf w s)) (length s) ∷ [])
+  pub size : Clean (bigRule w (tableOf w s) (length s) ∷ [])
 
 -- "and the tables lent can hold it": 16
 abbrev pub Holds : Width → List ℕ → Lent → Type 0
 Holds w s b =
-    holds b (length (tokensOf w s)) (statementsIn (outlineOf w (tokenTable (tokensOf w s)) (length s) .answer))
-    (labelsIn (outlineOf w (tokenTable (tokensOf w s)) (length s) .answer)) (lengthIn (lengthOf w (tokenTable (tokensOf w s)))) ≡ true
+    holds b (length (tokensOf w s)) (statementsIn (outlined w s .answer)) (labelsIn (outlined w s .answer)) (lengthIn (lengthOf w (tableOf w s))) ≡ true
 
 abbrev pub isAccepted : Checked → Bool
 isAccepted (Accepted n c l size) = true
