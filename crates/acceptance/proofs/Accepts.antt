@@ -38,7 +38,7 @@ use Rattle.verdict.specs.Lexing.{lexFaults, lexKey}
 use Rattle.verdict.proofs.Decided.{least-none, all-none, none-all, decided, RealV, parse-real}
 use Rattle.verdict.proofs.Lexed.{lexed-rising, lexed-long}
 use Rattle.verdict.proofs.Lexing.{lexed-fine, fine-lexed, long-refused, lex-least, lex-real}
-use Rattle.checker.specs.Check.{Lent, Left, refuse, holds, Known, known, accept, roomStage, sizeStage, dataStage, nameStage, rowStage, outlineStage, tokenStage, lexStage, checkOf}
+use Rattle.checker.specs.Check.{Lent, Left, refuse, holds, Known, known, accept, roomStage, sizeStage, dataStage, judgeWith, judgeOf, nameStage, rowStage, outlineStage, tokenStage, lexStage, checkOf}
 use Rattle.checker.specs.declared.Checked.{Checked}
 use Rattle.checker.specs.declared.Checked.the-variants.{Accepted, Refused}
 use Rattle.acceptance.specs.Faults.{allNameFaults, exportFaults}
@@ -111,23 +111,19 @@ module _ (w : Width) (s : List ℕ) (b : Lent) (same : ℕ → ℕ → Bool) whe
     -- 10 to 13 and 17
     row-is : (c : ℕ) (k : List ℕ) (l : ℕ) (y : List ℕ)
         → rowStage w s same n t c k l y b .answer ≡ judge (namesIn same t (length s) k y l c ∷ lastGroups c l) (Accepted n c l (lengthIn (lengthOf w t)))
-    unfolding rowStage nameStage namesIn refuse
+    unfolding rowStage nameStage judgeOf judgeWith namesIn refuse
     row-is c k l y =
         let a = namesOf same t (length s) k y l c in
-        let e = exportsOf same t (length s) y l (a .uses) in
-        let g : leastOf (allNameFaults same t (length s) k y l c ++ exportFaults same t (length s) y l (a .uses)) ≡ min (a .fault) (e .fault) =
+        let e = judgeOf same t (length s) k y l c in
+        let g : leastOf (allNameFaults same t (length s) k y l c ++ exportFaults same t (length s) y l (a .uses)) ≡ e .fault =
         append-least (allNameFaults same t (length s) k y l c) (exportFaults same t (length s) y l (a .uses))
         ∙ ap (λ (v : ℕ). min v (leastOf (exportFaults same t (length s) y l (a .uses)))) (sym (names-least same t (length s) y l k c))
         ∙ ap (min (a .fault)) (sym (exports-least same t (length s) y l (a .uses))) in
-        elim (decLt (min (a .fault) (e .fault)) none) [
-          | yes h ↦ ap (λ (x : Left). x .answer) (ifLt-yes _ _ h) ∙ refused-is (keyNumber (min (a .fault) (e .fault))) (keyPlace (min (a .fault) (e .fault)))
-              ∙ sym (judge-fault _ (lastGroups c l) _ (min (a .fault) (e .fault)) g h)
-          | no h ↦ ap (λ (x : Left). x .answer) (ifLt-no _ _ (let z : none ≤ min (a .fault) (e .fault) = omega arith in z)) ∙ data-is c k l y (e .flags)
+        elim (decLt (e .fault) none) [
+          | yes h ↦ ap (λ (x : Left). x .answer) (ifLt-yes _ _ h) ∙ sym (judge-fault _ (lastGroups c l) _ (e .fault) g h)
+          | no h ↦ ap (λ (x : Left). x .answer) (ifLt-no _ _ (let z : none ≤ e .fault = omega arith in z)) ∙ data-is c k l y (e .flags)
               ∙ sym (judge-clean _ (lastGroups c l) _ (omega (arith, g)))
         ]
-      where
-        refused-is : (number place : ℕ) → refuse number place b .answer ≡ Refused number place
-        refused-is number place = refl
 
 -- 7, 8, 9 and other 14
 module _ (w : Width) (s : List ℕ) (b : Lent) (n : ℕ) (t : List ℕ) (long : length t ≡ 32768) (r : Rising t (length s)) where
