@@ -1,8 +1,8 @@
 -- One law for each way through a function of this crate, and its loops: what is written so far.
 -- Assumes nothing.
 use mathlib.Core.Path.{_≡_, refl, sym, _∙_, ap}
-use mathlib.Core.List.{List, [], _∷_, _++_}
-use Prim.Native.Nat.{ℕ, zero, suc, _+_, _-_, _*_, _<_, _≤_}
+use mathlib.Core.List.{List, _++_}
+use Prim.Native.Nat.{ℕ, suc, _+_, _*_, _<_, _≤_}
 use native.Mathlib.Nat.{zero-add}
 use native.Mathlib.Numerals.{add-one}
 use native.Mathlib.Omega.{arith}
@@ -10,7 +10,7 @@ use lib.ListN.{length, getD, take, drop, set, length-set}
 use lib.Seq.{paste, paste-suc}
 use Rattle.prelude.proofs.Choice.{either, ifLt-yes, ifLt-no}
 use Rattle.scope.specs.Lines.{firstToken}
-use Rattle.begins.specs.Begins.{copied, beginPut, beginsBelow, tokenTable}
+use Rattle.begins.specs.Begins.{copied, beginPut, beginsBelow}
 
 -- ---- the loop of `copy_words`
 

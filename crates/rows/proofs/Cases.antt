@@ -1,14 +1,13 @@
 -- One law for each way through a function of this crate.
 -- Assumes nothing.
-use mathlib.Core.Path.{_≡_, refl, sym, _∙_, ap}
+use mathlib.Core.Path.{_≡_, sym, _∙_}
 use mathlib.Core.Bool.{Bool}
 use mathlib.Core.List.{List}
-use Prim.Native.Nat.{ℕ, _+_, _-_, _*_, _%_, _<_, _≤_}
-use native.Mathlib.Omega.{arith}
+use Prim.Native.Nat.{ℕ, _+_, _%_, _<_, _≤_}
 use lib.ListN.{getD}
 use Rattle.prelude.proofs.Choice.{ifLt-yes, ifLt-no, ifEq-yes, ifEq-no}
 use Rattle.lines.specs.Tokens.{tokenWord}
-use Rattle.tables.specs.Statement.{Row, rowAt}
+use Rattle.tables.specs.Statement.{rowAt}
 use Rattle.tables.specs.Frames.{letsBefore, localsAt}
 use Rattle.tables.specs.declared.Operand.{Operand}
 use Rattle.tables.specs.declared.Operand.the-variants.{Unlisted}

@@ -8,16 +8,15 @@ use native.Mathlib.Decide.{decLt}
 use native.Mathlib.Nat.{add-zero}
 use native.Mathlib.Numerals.{add-one, add-two, add-three, add-four, add-five, add-six, add-seven, add-eight}
 use native.Mathlib.Omega.{arith}
-use lib.ListN.{length, take, drop, set, length-append, length-set, take-append-drop}
+use lib.ListN.{length, take, drop, set, length-append, take-append-drop}
 use lib.Seq.{sets, sets-eq, length-sets}
 use Rattle.prelude.proofs.Choice.{ifLt-yes, ifLt-no}
 use Rattle.tables.specs.Statement.{Row, operandKind, operandNumber, slotWords, rowAt, encode}
 use Rattle.tables.specs.declared.Operand.{Operand}
-use Rattle.tables.specs.declared.Operand.the-variants.{Unlisted}
 use Rattle.scope.specs.Lines.{firstToken, endToken}
 use Rattle.scope.specs.Parts.{partsOf}
 use Rattle.scope.specs.declared.Parts.{Parts}
-use Rattle.rows.specs.Rows.{tokenOperand, operandsFrom, slotOperand, operandWords, aOf, bOf, calleeOf, addressOf, rowWith, rowOf, headOf, headWords, putWords, putRow, rowsBelow, statementTable}
+use Rattle.rows.specs.Rows.{operandsFrom, slotOperand, operandWords, aOf, bOf, calleeOf, addressOf, rowWith, rowOf, headOf, headWords, putWords, putRow, rowsBelow, statementTable}
 use Rattle.rows.specs.declared.Head.{Head}
 
 -- ---- words one behind the other
@@ -127,7 +126,6 @@ module _ (same : ℕ → ℕ → Bool) (t k y : List ℕ) (l : ℕ) (w z : List 
       pub slots-more : (out′ : List ℕ) → j < 8 → at + 16 ≤ length out₀ → out′ ≡ putWords out (at + j * 2) (operandWords (slotOperand same t k y l w z r first count j))
           → Slots at out₀ out′ (j + 1)
       slots-more out′ g f e =
-          let o : List ℕ = operandWords (slotOperand same t k y l w z r first count j) in
           let q : 8 - j ≡ suc (8 - (j + 1)) = omega arith in
           let p : at + (j + 1) * 2 ≡ at + j * 2 + 2 = omega arith in
           let b : at + j * 2 + 2 ≤ length out = slots-room g f in

@@ -5,9 +5,9 @@ use tables::Operand;
 ghost use mathlib.Core.Path.{_≡_};
 ghost use Prim.Native.Nat.{_+_, _-_, _*_, _≤_, _<_, min};
 ghost use lib.ListN.{length};
-ghost use Rattle.tables.specs.Statement.{operandKind, operandNumber, rowAt, slotWords};
+ghost use Rattle.tables.specs.Statement.{operandKind, operandNumber, slotWords};
 ghost use Rattle.scope.specs.Names.{sameNumber};
-ghost use Rattle.rows.specs.Rows.{labelNumber, wordOfLet, wordOfParameter, localWord, labelTarget, plainOperand, atOperand, constantOperand, tokenOperand, addressConstant, addressOperand, operandsFrom, slotOperand, operandWords, aOf, bOf, calleeOf, addressOf, rowWith, rowOf, headOf, headWords, putWords, putRow, rowsBelow, statementTable};
+ghost use Rattle.rows.specs.Rows.{labelNumber, wordOfLet, wordOfParameter, localWord, labelTarget, plainOperand, atOperand, constantOperand, tokenOperand, addressConstant, addressOperand, operandsFrom, slotOperand, operandWords, aOf, bOf, calleeOf, addressOf, rowWith, rowOf, headOf, headWords, putWords, putRow, statementTable};
 
 // Words 0 to 10 of a row.
 struct Head {
