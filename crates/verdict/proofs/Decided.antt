@@ -29,7 +29,7 @@ use Rattle.parser.specs.declared.Verdict.{Verdict}
 use Rattle.parser.specs.declared.Verdict.the-variants.{Accepted, Refused}
 use Rattle.parser.proofs.Bounds.{unit-order, line-some}
 use Rattle.parser.proofs.Turns.{TurnGood, turn-good}
-use Rattle.verdict.specs.Verdict.{kindIn, faultAt, nextWorld, faultsFrom, allFaults, verdictOf, keyOf, Rising}
+use Rattle.verdict.specs.Verdict.{kindIn, faultAt, nextWorld, faultsFrom, allFaults, verdictOf, All, Clean, keyOf, Rising}
 use Rattle.verdict.proofs.Found.{Found, nothing, found, unit-found}
 
 -- lists of faults
@@ -41,10 +41,6 @@ least-none (k ∷ ks) = le-trans (min-le-right k (leastOf ks)) (least-none ks)
 cons-least : (k : ℕ) (ks : List ℕ) → leastOf (k ∷ ks) ≡ min k (leastOf ks)
 unfolding leastOf
 cons-least k ks = refl
-
-abbrev pub All : (ℕ → Type 0) → List ℕ → Type 0
-All P [] = Unit {0}
-All P (k ∷ ks) = P k × All P ks
 
 all-weaker : (P Q : ℕ → Type 0) → ((k : ℕ) → P k → Q k) → (ks : List ℕ) → All P ks → All Q ks
 all-weaker P Q f [] h = tt
@@ -61,10 +57,13 @@ least-lower [] = tt
 least-lower (k ∷ ks) =
     (min-le-left k (leastOf ks), all-weaker (λ (x : ℕ). leastOf ks ≤ x) (λ (x : ℕ). min k (leastOf ks) ≤ x) (λ x h. le-trans (min-le-right k (leastOf ks)) h) ks (least-lower ks))
 
-all-none : (ks : List ℕ) → All (λ (k : ℕ). none ≤ k) ks → none ≤ leastOf ks
+pub all-none : (ks : List ℕ) → Clean ks → none ≤ leastOf ks
 unfolding leastOf
 all-none [] h = omega arith
 all-none (k ∷ ks) h = omega (arith, h .0, all-none ks (h .1))
+
+pub none-all : (ks : List ℕ) → leastOf ks ≡ none → Clean ks
+none-all ks e = subst (λ (v : ℕ). All (λ (k : ℕ). v ≤ k) ks) e (least-lower ks)
 
 -- inside a scan all kinds are in its range
 inside-step : (t : List ℕ) (lo hi from j : ℕ) → ((i : ℕ) → from ≤ i → i < j → lo ≤ kindAt t i)
@@ -237,7 +236,7 @@ abbrev pub isAccepted : Verdict → Bool
 isAccepted (Accepted count labels) = true
 isAccepted (Refused k) = false
 
-abbrev RealV : Verdict → Type 0
+abbrev pub RealV : Verdict → Type 0
 RealV (Accepted count labels) = Unit {0}
 RealV (Refused k) = k < none
 
@@ -284,11 +283,11 @@ none-real (Refused k) e = true-false (sym e)
 
 -- "You accept a source exactly when it breaks none of the listed rules": the rules of this stage
 module _ (w : Width) (t : List ℕ) (n : ℕ) (e : length t ≡ 32768) (r : Rising t n) where
-  pub fine-accepted : All (λ (k : ℕ). none ≤ k) (allFaults w t n) → isAccepted (parseOf w t n .verdict) ≡ true
+  pub fine-accepted : Clean (allFaults w t n) → isAccepted (parseOf w t n .verdict) ≡ true
   unfolding verdictOf
   fine-accepted h =
       real-none (parseOf w t n .verdict) (parse-real w t n e)
       (decided t n r w ∙ (let z : leastOf (allFaults w t n) ≡ none = omega (arith, least-none (allFaults w t n), all-none (allFaults w t n) h) in z))
 
-  pub accepted-fine : isAccepted (parseOf w t n .verdict) ≡ true → All (λ (k : ℕ). none ≤ k) (allFaults w t n)
+  pub accepted-fine : isAccepted (parseOf w t n .verdict) ≡ true → Clean (allFaults w t n)
   accepted-fine h = subst (λ (v : ℕ). All (λ (k : ℕ). v ≤ k) (allFaults w t n)) (none-real (parseOf w t n .verdict) h) (none-lower t n r w)

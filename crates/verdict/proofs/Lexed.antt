@@ -5,18 +5,27 @@ use mathlib.Core.List.{List, [], _∷_}
 use Prim.Native.Nat.{ℕ, zero, suc, _+_, _*_, _-_, _≤_, _<_}
 use native.Mathlib.Decide.{decLt}
 use native.Mathlib.Omega.{arith}
-use lib.ListN.{length, getD}
+use lib.ListN.{length, getD, length-append, length-replicate}
 use Rattle.prelude.specs.Choice.{ifLt, ifEq}
 use Rattle.prelude.specs.Fault.{key}
+use Rattle.prelude.specs.Lists.{zeros}
 use Rattle.prelude.proofs.Choice.{either, ifEq-yes, ifEq-no, ifLt-yes}
 use Rattle.limits.specs.declared.Width.{Width}
 use Rattle.lines.specs.Tokens.{tokenWord, kindAt, placeAt}
 use Rattle.lexer.specs.Token.{Token}
-use Rattle.lexer.specs.Rows.{rowOf, tokenTable}
+use Rattle.lexer.specs.Rows.{rowOf, rowsOf, tokenTable}
 use Rattle.lexer.specs.Lex.{Outcome, accepted, refused, tokensFrom, lexOf}
 use Rattle.lexer.proofs.Tokens.{noToken, every-at}
+use Rattle.lexer.proofs.Rows.{length-rows}
 use Rattle.lexer.proofs.Laws.{TokenGood, Good, accepted-good, token-read, token-behind}
 use Rattle.verdict.specs.Verdict.{Rising}
+
+-- a table of at most 4,096 tokens has its whole length
+table-long : (ts : List Token) → length ts ≤ 4096 → length (tokenTable ts) ≡ 32768
+unfolding tokenTable
+table-long ts h =
+    length-append (rowsOf ts) (zeros (32768 - length (rowsOf ts))) ∙ ap (λ (n : ℕ). length (rowsOf ts) + n) (length-replicate {A = ℕ} (32768 - length (rowsOf ts)) 0)
+    ∙ (let z : length (rowsOf ts) + (32768 - length (rowsOf ts)) ≡ 32768 = omega (arith, length-rows ts) in z)
 
 not-refused : (k : ℕ) (ts : List Token) → refused k ≡ accepted ts → ⊥
 not-refused k ts e = let z : _≡_ {A = ℕ} 0 1 = cc in omega arith
@@ -33,6 +42,9 @@ short w s ts e =
 module _ (w : Width) (s : List ℕ) (ts : List Token) (e : lexOf w s ≡ accepted ts) where
   good : Good s ts (length s)
   good = accepted-good w s ts e
+
+  pub lexed-long : length (tokenTable ts) ≡ 32768
+  lexed-long = table-long ts (good .few)
 
   kind-token : (i : ℕ) → i < length ts → kindAt (tokenTable ts) i ≡ getD ts i noToken .kind
   unfolding tokenWord rowOf

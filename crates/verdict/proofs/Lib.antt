@@ -2,3 +2,4 @@ pub mod Found
 pub mod Decided
 pub mod Lexed
 pub mod Counts
+pub mod Lexing

@@ -40,6 +40,15 @@ allFaults w t n = faultsFrom (suc (length t)) w t n (world begin (zeros 8200))
 unfoldable pub verdictOf : Width → List ℕ → ℕ → ℕ
 verdictOf w t n = leastOf (allFaults w t n)
 
+-- what holds of every fault of a list
+abbrev pub All : (ℕ → Type 0) → List ℕ → Type 0
+All P [] = Unit {0}
+All P (k ∷ ks) = P k × All P ks
+
+-- no rule finds a fault
+abbrev pub Clean : List ℕ → Type 0
+Clean ks = All (λ (k : ℕ). none ≤ k) ks
+
 -- the key of an answer, none where the source is accepted
 abbrev pub keyOf : Verdict → ℕ
 keyOf (Accepted count labels) = none

@@ -1,0 +1,1 @@
+// No code: theorems on the check as a whole.
