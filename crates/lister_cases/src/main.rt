@@ -14,12 +14,8 @@ use casefile::line_end;
 use casefile::one_more;
 use casefile::place_of;
 use casefile::starts_with;
-use checker::Checked;
-use limits::Machine;
-use limits::Width;
 use page::Page;
 use prelude::byte_at;
-use tables::Table;
 ghost use Prim.Native.Nat.{_≤_, _<_};
 ghost use lib.ListN.{length};
 
@@ -31,16 +27,6 @@ const PAGE: usize = 81920;
 
 // A case's source, or its expected page.
 type Text = [u8; Case::SOURCE];
-
-type Tokens = [u32; Machine::TOKEN_WORDS];
-
-type Rows = [u32; Table::STATEMENT_WORDS];
-
-type Labels = [u32; Table::LABEL_WORDS];
-
-type Names = [u8; Table::NAME_TABLE];
-
-type Data = [u8; Machine::DATA_BYTES];
 
 // The lines and cases read, how many differ, and the case that is read.
 struct State {
@@ -286,31 +272,6 @@ fn read_line(l: &[u8], q: State, text: &mut Text, want: &mut Text) -> State {
     bad_line(q)
 }
 
-// The page of a source, from the answer of its check and the tables.
-fn page_of(
-    x: Checked,
-    s: &[u8],
-    table: &[u32],
-    names: &[u8],
-    rows: &[u32],
-    out: &mut [u8],
-) -> Page {
-    match x {
-        Checked::Accepted {
-            tokens: _,
-            statements,
-            labels,
-            size,
-        } => { page::accepted_page(statements, labels, size, table, names, rows, out) }
-        Checked::Refused { number, place } => page::refused_page(
-            s,
-            number,
-            (place % 4294967296) as u32,
-            out,
-        ),
-    }
-}
-
 // The bytes of a page in a buffer.
 fn page_size(p: Page) -> usize {
     match p {
@@ -332,17 +293,7 @@ fn compare(s: &[u8], q: State, want: &[u8], got: &[u8]) -> State {
 }
 
 // The end of a case: its source is checked, and the page compared.
-fn close_case(
-    s: &[u8],
-    q: State,
-    text: &Text,
-    want: &Text,
-    tokens: &mut Tokens,
-    rows: &mut Rows,
-    table: &mut Labels,
-    names: &mut Names,
-    data: &mut Data,
-) -> State {
+fn close_case(s: &[u8], q: State, text: &Text, want: &Text) -> State {
     if q.cases == 0 {
         return q;
     }
@@ -353,8 +304,7 @@ fn close_case(
     }
     let source = front(text, q.size);
     let mut out = [0u8; PAGE];
-    let x = checker::check(Width::Bits32, source, tokens, rows, table, names, data);
-    let n = page_size(page_of(x, source, table, names, rows, &mut out));
+    let n = page_size(listing::list(source, &mut out));
     compare(s, q, front(want, q.page), front(&out, n))
 }
 
@@ -378,11 +328,6 @@ fn take_line(
     mut q: State,
     text: &mut Text,
     want: &mut Text,
-    tokens: &mut Tokens,
-    rows: &mut Rows,
-    table: &mut Labels,
-    names: &mut Names,
-    data: &mut Data,
 ) -> State
     requires { ⌜ (at ≤ end) × (end ≤ length (now s)) ⌝ }
 {
@@ -392,7 +337,7 @@ fn take_line(
         return q;
     }
     if starts_with(l, b"case ") {
-        let closed = close_case(s, q, text, want, tokens, rows, table, names, data);
+        let closed = close_case(s, q, text, want);
         return open_case(closed, at + 5);
     }
     if q.cases == 0 {
@@ -418,41 +363,14 @@ fn start() -> State {
 fn run(s: &[u8]) {
     let mut text = [0u8; Case::SOURCE];
     let mut want = [0u8; Case::SOURCE];
-    let mut tokens = [0u32; Machine::TOKEN_WORDS];
-    let mut rows = [0u32; Table::STATEMENT_WORDS];
-    let mut table = [0u32; Table::LABEL_WORDS];
-    let mut names = [0u8; Table::NAME_TABLE];
-    let mut data = [0u8; Machine::DATA_BYTES];
     let mut q = start();
     let mut at: usize = 0;
     while at < s.len() {
         let end = line_end(s, at);
-        q = take_line(
-            s,
-            at,
-            end,
-            q,
-            &mut text,
-            &mut want,
-            &mut tokens,
-            &mut rows,
-            &mut table,
-            &mut names,
-            &mut data,
-        );
+        q = take_line(s, at, end, q, &mut text, &mut want);
         at = end + 1;
     }
-    q = close_case(
-        s,
-        q,
-        &text,
-        &want,
-        &mut tokens,
-        &mut rows,
-        &mut table,
-        &mut names,
-        &mut data,
-    );
+    q = close_case(s, q, &text, &want);
     put_total(q.cases, q.differ);
 }
 

@@ -7,10 +7,10 @@ use Rattle.lister_cases.proofs.run.Statement.{statement}
 use Rattle.lister_cases.proofs.run.Tie as tie
 
 abbrev Inv-loop : tie.InvT-loop
-Inv-loop s text₀ want₀ tokens₀ rows₀ table₀ names₀ data₀ q₀ at₀ text want tokens rows table names «data» q at = at ≤ suc (length s)
+Inv-loop s text₀ want₀ q₀ at₀ text want q at = at ≤ suc (length s)
 
 abbrev μ-loop : tie.MeasureT-loop
-μ-loop s text₀ want₀ tokens₀ rows₀ table₀ names₀ data₀ q₀ at₀ text want tokens rows table names «data» q at = length s - at
+μ-loop s text₀ want₀ q₀ at₀ text want q at = length s - at
 
 start-requires : tie.Need-start-requires Inv-loop μ-loop
 start-requires c κs = search needs
