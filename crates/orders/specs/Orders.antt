@@ -1,5 +1,5 @@
 -- The table "Orders to get right": each field is a row, or a part of one, and holds by computation.
--- Still to come: rows 1, 2 and 3.
+-- Row 2 comes with the machine.
 -- Assumes nothing.
 use mathlib.Core.Path.{_≡_, refl}
 use mathlib.Core.List.{List, [], _∷_}
@@ -9,6 +9,9 @@ use lib.ListN.{length}
 use Rattle.limits.specs.declared.Width.the-variants.{Bits32}
 use Rattle.lexer.specs.Token.{Token}
 use Rattle.lexer.specs.Lex.{lexOf, accepted}
+use Rattle.listing.specs.Listing.{listOf}
+use Rattle.listing.specs.Cases.{case1, case1-page, empty-page}
+use Rattle.listing.proofs.Examples.{case1-listed, empty-listed}
 use Rattle.orders.specs.Lexing.{text-two}
 use Rattle.word.specs.Word.{addOf, divOf, modOf, bsrOf, asrOf, shlOf}
 
@@ -21,6 +24,10 @@ abbrev quoted : ℕ → ℕ → List ℕ → Token
 quoted first next text = record { kind = 9; first = first; next = next; value = length text; text = text; name = 0; word = 0 }
 
 pub record Orders : Type 0 where
+  -- "(1) the page above": case 1 of the lister, from the bytes of its source
+  pub row1 : listOf case1 ≡ case1-page
+  -- "(3) empty source: `accepted 0 0 0`"
+  pub row3 : listOf [] ≡ empty-page
   -- "(4) `add 2147483647 1` is -2147483648"
   pub row4 : addOf 32 2147483647 1 ≡ minus 2147483648
   -- "(5) `div -7 2` is -3"
@@ -38,4 +45,4 @@ pub record Orders : Type 0 where
 
 pub orders : Orders
 unfolding addOf divOf modOf bsrOf asrOf shlOf
-orders = record { row4 = refl; row5-div = refl; row5-mod = refl; row6-bsr = refl; row6-asr = refl; row7 = text-two; row8 = refl }
+orders = record { row1 = case1-listed; row3 = empty-listed; row4 = refl; row5-div = refl; row5-mod = refl; row6-bsr = refl; row6-asr = refl; row7 = text-two; row8 = refl }
