@@ -1,0 +1,1 @@
+// No code: theorems on the tables of an accepted source.
