@@ -6,10 +6,11 @@ use mathlib.Core.Bool.{Bool, true, false}
 use mathlib.Core.List.{List, [], _∷_}
 use Prim.Native.Nat.{ℕ, zero, suc, _+_, _-_, _*_, max}
 use native.Mathlib.Decide.{ℕ-discrete}
-use lib.Dec.{eqb}
+use lib.Dec.{eqb, ltb, leb}
+use borrow.Author.Tests.{ne-eqb}
 use Rattle.prelude.specs.Choice.{pick, ifEq, ifTrue}
 use Rattle.prelude.proofs.Choice.{ifEq-yes, ifEq-no}
-use Rattle.tables.specs.Tests.{both, oneOf, firstFrom, countBelow, greatestBelow, someBelow}
+use Rattle.tables.specs.Tests.{both, oneOf, given, firstFrom, countBelow, greatestBelow, someBelow}
 use Rattle.tables.specs.Statement.{Row, isTest}
 use Rattle.tables.specs.Nesting.{isArm, isEndIf, nextArm, endIfOf, pastArm, targetOf, encloses, depthOf, behind, openBefore, groundIn, funcIn, scopeIn, upIn, followsJump, standsTests, stands, allClosed}
 use Rattle.tables.specs.Frames.{frameDepth, isIn, letsBefore, blockNeed, needOf, frameSize, firstLet, blockWord, letWord, letSeen, localsAt}
@@ -145,3 +146,43 @@ module _ (f g : ℕ → Row) (h : Alike f g) where
   pub size-same : (c s : ℕ) → (f s .kind ≡ 3 → ⊥) → frameSize f c s ≡ frameSize g c s
   unfolding frameSize
   size-same c s d = ap₂ (λ (b n : ℕ). 3 + b + n) (h .counts s d) (need-same c frameDepth s)
+
+-- ---- the tests of rows that look at nothing else
+
+stands-bare : (f : ℕ → Row) (n : ℕ) → stands (bare f) n ≡ stands f n
+unfolding stands followsJump groundIn openBefore behind funcIn scopeIn upIn
+stands-bare f zero = refl
+stands-bare f (suc n) = refl
+
+closed-bare : (f : ℕ → Row) (c : ℕ) → allClosed (bare f) c ≡ allClosed f c
+unfolding allClosed openBefore behind
+closed-bare f zero = refl
+closed-bare f (suc c) = refl
+
+module _ (f g : ℕ → Row) (h : Alike f g) where
+  pub stands-same : (n : ℕ) → stands f n ≡ stands g n
+  stands-same n = sym (stands-bare f n) ∙ ap (λ v. stands v n) (bare-same f g h) ∙ stands-bare g n
+
+  pub closed-same : (c : ℕ) → allClosed f c ≡ allClosed g c
+  closed-same c = sym (closed-bare f c) ∙ ap (λ v. allClosed v c) (bare-same f g h) ∙ closed-bare g c
+
+  pub shallow-same : (n : ℕ) → shallow f n ≡ shallow g n
+  unfolding shallow
+  shallow-same n = ap₂ (λ (k d : ℕ). given (eqb k 3) (leb d 16)) (h .kinds n) (depth-same f g h frameDepth n)
+
+  pub locals-same : (n : ℕ) → (f (f n .func) .kind ≡ 3 → ⊥) → localsAt f n ≡ localsAt g n
+  unfolding localsAt
+  locals-same n d =
+      ap₂ _+_ (h .counts (f n .func) d ∙ ap (λ (i : ℕ). g i .b) (h .funcs n))
+      (ap (λ (p : ℕ → Bool). countBelow p n) (fun-ext (λ i. seen-same f g h (f n .scope) i)) ∙ ap (λ (s : ℕ). countBelow (letSeen g s) n) (h .scopes n))
+
+  pub few-same : (n : ℕ) → (f (f n .func) .kind ≡ 3 → ⊥) → (f n .kind ≡ 1 → f n .b ≡ g n .b) → fewLocals f n ≡ fewLocals g n
+  unfolding fewLocals
+  few-same n d e =
+      ap₂ both (by-kind (ℕ-discrete (f n .kind) 1)) (ap₂ (λ (k l : ℕ). given (eqb k 5) (ltb l 64)) (h .kinds n) (locals-same n d))
+    where
+      by-kind : Dec (f n .kind ≡ 1) → given (eqb (f n .kind) 1) (leb (f n .b) 8) ≡ given (eqb (g n .kind) 1) (leb (g n .b) 8)
+      by-kind (yes q) = ap₂ (λ (k b : ℕ). given (eqb k 1) (leb b 8)) (h .kinds n) (e q)
+      by-kind (no q) =
+          ap (λ (t : Bool). given t (leb (f n .b) 8)) (ne-eqb _ _ q)
+          ∙ sym (ap (λ (t : Bool). given t (leb (g n .b) 8)) (ne-eqb _ _ (λ z. q (h .kinds n ∙ z))))
