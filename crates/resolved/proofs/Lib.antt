@@ -1,2 +1,3 @@
 pub mod Views
 pub mod Readback
+pub mod Frames
