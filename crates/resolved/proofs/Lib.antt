@@ -1,3 +1,4 @@
 pub mod Views
 pub mod Readback
 pub mod Frames
+pub mod Meanings
