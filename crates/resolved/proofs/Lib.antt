@@ -2,3 +2,4 @@ pub mod Views
 pub mod Readback
 pub mod Frames
 pub mod Meanings
+pub mod Operands

@@ -37,7 +37,7 @@ key-low : (t : List ℕ) (n i number : ℕ) → number < 64 → keyAt t n i numb
 unfolding keyAt
 key-low t n i number h = key-fault _ number h
 
-no-key : {X : Type 0} (t : List ℕ) (n i number : ℕ) → number < 64 → none ≤ keyAt t n i number → X
+pub no-key : {X : Type 0} (t : List ℕ) (n i number : ℕ) → number < 64 → none ≤ keyAt t n i number → X
 no-key t n i number h g = let z : ⊥ = omega (arith, key-low t n i number h) in absurd z
 
 -- ---- what a fault of `none` says
