@@ -3,3 +3,4 @@ pub mod Readback
 pub mod Frames
 pub mod Meanings
 pub mod Operands
+pub mod Statements

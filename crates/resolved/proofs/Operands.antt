@@ -114,21 +114,21 @@ module _ (same : ℕ → ℕ → Bool) (t k y : List ℕ) (l : ℕ) (w z : List 
       (both-yes (p (h j .kind)) (eqb (h j .number) (labelNumber z j)) e (eq-eqb (h j .number) (labelNumber z j) (q .numbers j g)))
 
   module _ (n r i : ℕ) (l₀ : r < c) where
-    plain-good : (m : Meaning) → From same k y l r i m → none ≤ valueFault t n y i m → operandGood f h l r (plainOperand w z m) ≡ true
+    pub plain-good : (m : Meaning) → From same k y l r i m → none ≤ valueFault t n y i m → operandGood f h l r (plainOperand w z m) ≡ true
     unfolding valueFault plainOperand operandGood
     plain-good (meaning.Let m) x g = let-scope r i m l₀ x
     plain-good (meaning.Parameter j) x g = parameter-scope r i j l₀ x
     plain-good (meaning.Label j) x g = label-named isData j x (q .values j x (data-kind t n k y r i j g))
     plain-good meaning.Unknown x g = no-key t n i 10 (omega arith) g
 
-    at-good : (m : Meaning) → From same k y l r i m → none ≤ valueFault t n y i m → operandGood f h l r (atOperand w z m) ≡ true
+    pub at-good : (m : Meaning) → From same k y l r i m → none ≤ valueFault t n y i m → operandGood f h l r (atOperand w z m) ≡ true
     unfolding valueFault atOperand operandGood
     at-good (meaning.Let m) x g = let-scope r i m l₀ x
     at-good (meaning.Parameter j) x g = parameter-scope r i j l₀ x
     at-good (meaning.Label j) x g = label-named isData j x (q .values j x (data-kind t n k y r i j g))
     at-good meaning.Unknown x g = no-key t n i 10 (omega arith) g
 
-    plain-listed : (m : Meaning) → none ≤ valueFault t n y i m → addressListed (plainOperand w z m) ≡ true
+    pub plain-listed : (m : Meaning) → none ≤ valueFault t n y i m → addressListed (plainOperand w z m) ≡ true
     unfolding valueFault plainOperand addressListed
     plain-listed (meaning.Let m) g = refl
     plain-listed (meaning.Parameter j) g = refl

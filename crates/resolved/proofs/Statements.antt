@@ -1,0 +1,96 @@
+-- The tests of a row on its names, from its faults: none.
+-- Assumes nothing.
+use mathlib.Core.Path.{_≡_, refl, sym, _∙_, ap, ap₂, subst}
+use mathlib.Core.Bool.{Bool, true, false}
+use mathlib.Core.List.{List, [], _∷_, _++_}
+use Prim.Native.Nat.{ℕ, zero, suc, _+_, _*_, _-_, _≤_, _<_, min}
+use native.Mathlib.Decide.{decLt, ℕ-discrete}
+use native.Mathlib.Omega.{arith}
+use lib.Dec.{eqb, ltb, leb}
+use lib.ListN.{length, getD}
+use borrow.Author.Tests.{eq-eqb, ne-eqb, lt-ltb, le-leb}
+use Rattle.prelude.specs.Choice.{pick, ifLt, ifEq, ifTrue}
+use Rattle.prelude.specs.Fault.{none}
+use Rattle.prelude.proofs.Choice.{either-eq, either-true, ifEq-yes, ifEq-no, true-false}
+use Rattle.lines.specs.Tokens.{kindAt, valueAt}
+use Rattle.tables.specs.Tests.{both, oneOf, given, all, allOf, someBelow}
+use Rattle.tables.specs.Statement.{Row, rowAt, isCall, hasExpression}
+use Rattle.tables.specs.Frames.{inScope}
+use Rattle.tables.specs.Label.{Label, isData, isFunctionLabel}
+use Rattle.tables.specs.Faults.{addressListed}
+use Rattle.tables.specs.WellFormed.{labelled, jumps, calls, operandGood, operandsGood, addressGood, setsLocal}
+use Rattle.tables.specs.declared.Operand.{Operand}
+use Rattle.tables.specs.declared.Operand.the-variants.{Constant, Local, Address, AtConstant, AtLocal, AtAddress, Unlisted}
+use Rattle.scope.specs.Lines.{firstToken, endToken, labelKind, labelStatement}
+use Rattle.scope.specs.Names.{meaningOf}
+use Rattle.scope.specs.Parts.{partsOf}
+use Rattle.scope.specs.declared.Parts.{Parts}
+use Rattle.naming.specs.Naming.{valueFault, setFault, calleeFault, gotoFault}
+use Rattle.verdict.specs.Verdict.{All, Clean}
+use Rattle.acceptance.specs.Faults.{operandFault, operandFaults, calleeFaults, declaredFaults, headFaults, bodyFaults, statementFaults, statementsFaults, labelFaults, allNameFaults}
+use Rattle.rows.specs.Rows.{labelTarget, localWord, plainOperand, atOperand, constantOperand, tokenOperand, addressConstant, addressOperand, operandsFrom, aOf, calleeOf, addressOf, rowWith, rowOf}
+use Rattle.resolved.proofs.Meanings.{From, meaning-from}
+use Rattle.resolved.proofs.Operands.{Known, plain-good, at-good, plain-listed, set-scope, callee-good, goto-good}
+
+-- ---- lists without a fault
+
+pub clean-left : (xs ys : List ℕ) → Clean (xs ++ ys) → Clean xs
+clean-left [] ys h = tt
+clean-left (x ∷ xs) ys h = (h .0, clean-left xs ys (h .1))
+
+pub clean-right : (xs ys : List ℕ) → Clean (xs ++ ys) → Clean ys
+clean-right [] ys h = h
+clean-right (x ∷ xs) ys h = clean-right xs ys (h .1)
+
+module _ (same : ℕ → ℕ → Bool) (t : List ℕ) (n : ℕ) (k y : List ℕ) (l : ℕ) where
+  statements-clean : (left r m : ℕ) → Clean (statementsFaults left same t n k y l r) → r ≤ m → m < r + left → Clean (statementFaults same t n k y l m)
+  unfolding statementsFaults
+  statements-clean zero r m h a b = let z : ⊥ = omega arith in absurd z
+  statements-clean (suc left) r m h a b =
+      elim (ℕ-discrete r m) [
+        | yes e ↦ subst (λ (v : ℕ). Clean (statementFaults same t n k y l v)) e (clean-left (statementFaults same t n k y l r) _ h)
+        | no d ↦ statements-clean left (r + 1) m (clean-right (statementFaults same t n k y l r) _ h) (omega arith) (omega arith)
+      ]
+
+  -- the faults of statement m
+  pub statement-clean : (c m : ℕ) → Clean (allNameFaults same t n k y l c) → m < c → Clean (statementFaults same t n k y l m)
+  unfolding allNameFaults
+  statement-clean c m h g = statements-clean c 0 m (clean-right (labelFaults l same t n y l 0) _ h) (omega arith) (omega arith)
+
+-- ---- what a statement without a fault says
+
+-- an operand token: a symbol, a substitute, an integer, or `@` and one of these
+abbrev pub OperandKind : ℕ → Type 0
+OperandKind v = (3 ≤ v) × (v ≤ 8)
+
+module _ (same : ℕ → ℕ → Bool) (t k y : List ℕ) (l : ℕ) (w z : List ℕ) (c : ℕ) (f : ℕ → Row) (h : ℕ → Label) (q : Known same t k y l w z c f h) (n r : ℕ) (l₀ : r < c) where
+  constant-good : (kind v : ℕ) → OperandKind kind → (kind ≡ 3 → ⊥) → (kind ≡ 5 → ⊥) → operandGood f h l r (constantOperand kind v) ≡ true
+  unfolding constantOperand operandGood
+  constant-good kind v o a b =
+      either-eq (λ (x : Operand). operandGood f h l r x ≡ true) kind 7 _ _ (λ _. refl) (λ d.
+      either-eq (λ (x : Operand). operandGood f h l r x ≡ true) kind 4 _ _ (λ _. refl) (λ e.
+      either-eq (λ (x : Operand). operandGood f h l r x ≡ true) kind 8 _ _ (λ _. refl) (λ g.
+      either-eq (λ (x : Operand). operandGood f h l r x ≡ true) kind 6 _ _ (λ _. refl) (λ i.
+      let z : ⊥ = omega arith in absurd z))))
+
+  operand-good : (i : ℕ) → Clean (operandFault same t n k y l r i) → OperandKind (kindAt t i) → operandGood f h l r (tokenOperand same t k y l w z r i) ≡ true
+  unfolding operandFault tokenOperand
+  operand-good i x o =
+      either-eq (λ (v : Operand). operandGood f h l r v ≡ true) (kindAt t i) 3 _ _
+      (λ e. plain-good same t k y l w z c f h q n r i l₀ (meaningOf same k y l r i) (meaning-from same k y l r i) (subst Clean (ifEq-yes _ _ e) x .0))
+      (λ d. either-eq (λ (v : Operand). operandGood f h l r v ≡ true) (kindAt t i) 5 _ _
+        (λ e. at-good same t k y l w z c f h q n r i l₀ (meaningOf same k y l r i) (meaning-from same k y l r i) (subst Clean (ifEq-no _ _ d ∙ ifEq-yes _ _ e) x .0))
+        (λ e. constant-good (kindAt t i) (valueAt t i) o d e))
+
+  operands-good : (left total i : ℕ) → left ≤ total → Clean (operandFaults total same t n k y l r i) → ((j : ℕ) → i ≤ j → j < i + total → OperandKind (kindAt t j))
+      → allOf (operandGood f h l r) (operandsFrom left same t k y l w z r i) ≡ true
+  unfolding operandFaults operandsFrom allOf
+  operands-good zero total i a x o = refl
+  operands-good (suc left) zero i a x o = let z : ⊥ = omega arith in absurd z
+  operands-good (suc left) (suc total) i a x o =
+      both-yes _ _ (operand-good i (clean-left (operandFault same t n k y l r i) _ x) (o i (omega arith) (omega arith)))
+      (operands-good left total (i + 1) (omega arith) (clean-right (operandFault same t n k y l r i) _ x) (λ j u v. o j (omega arith) (omega arith)))
+    where
+      both-yes : (a b : Bool) → a ≡ true → b ≡ true → both a b ≡ true
+      both-yes true b p g = g
+      both-yes false b p g = true-false (sym p)
