@@ -89,7 +89,7 @@ enum {
  * A pointer is valid and aligned also where the length is 0. No two of the seven
  * buffers may overlap. What they held before does not matter.
  *
- * Needs 512 KB of stack.
+ * It uses at most 286 KB of stack (measured, bench/run); have 512 KB free.
  */
 uint32_t voodoo_check(
     const uint8_t *source, size_t source_bytes,
