@@ -10,7 +10,7 @@ use native.Mathlib.Omega.{arith}
 use lib.Dec.{eqb, ltb}
 use borrow.Author.Tests.{eqb-true, ltb-true, eq-eqb, lt-ltb}
 use Rattle.prelude.specs.Choice.{ifLt, ifEq, ifTrue}
-use Rattle.prelude.proofs.Choice.{either, either-eq, true-false}
+use Rattle.prelude.proofs.Choice.{either, either-eq, true-false, ifLt-yes, ifLt-no, ifEq-yes, ifEq-no}
 use Rattle.kinds.specs.Nesting.{wordKinds, kindOfWord}
 use Rattle.kinds.proofs.Cases.{kind-none}
 use Rattle.vocabulary.specs.Words.{words, firstOf, isNumber, entryOf, leastOperands, mostOperands}
@@ -21,10 +21,51 @@ use Rattle.tables.proofs.Each.{below-at, both-left, both-right, given-then}
 
 -- operand tokens of the lines of a kind, where the shape of the line asks for it
 abbrev pub least : ℕ → ℕ
-least k = ifLt k 8 0 (ifLt k 10 3 (ifLt k 14 0 (ifLt k 20 2 0)))
+least k = ifLt k 8 0 (ifLt k 10 3 (ifEq k 10 1 (ifLt k 14 0 (ifLt k 20 2 0))))
 
 abbrev pub most : ℕ → ℕ
 most k = ifEq k 1 8 (ifLt k 5 65 (ifLt k 8 11 (ifLt k 10 3 (ifLt k 13 9 (ifEq k 13 10 (ifLt k 20 2 65))))))
+
+module _ (k : ℕ) where
+  pub most-function : k ≡ 1 → most k ≡ 8
+  most-function e = ifEq-yes _ _ e
+
+  module _ (h : 5 ≤ k) where
+    most-late : most k ≡ ifLt k 8 11 (ifLt k 10 3 (ifLt k 13 9 (ifEq k 13 10 (ifLt k 20 2 65))))
+    most-late = ifEq-no _ _ (λ e. let z : ⊥ = omega arith in z) ∙ ifLt-no _ _ h
+
+    pub most-let : k < 8 → most k ≡ 11
+    most-let g = most-late ∙ ifLt-yes _ _ g
+
+  module _ (h : 8 ≤ k) where
+    most-later : most k ≡ ifLt k 10 3 (ifLt k 13 9 (ifEq k 13 10 (ifLt k 20 2 65)))
+    most-later = most-late (omega arith) ∙ ifLt-no _ _ h
+
+    pub most-set : k < 10 → most k ≡ 3
+    most-set g = most-later ∙ ifLt-yes _ _ g
+
+    pub least-set : k < 10 → least k ≡ 3
+    least-set g = ifLt-no _ _ h ∙ ifLt-yes _ _ g
+
+  pub least-goto : k ≡ 10 → least k ≡ 1
+  least-goto e = ifLt-no _ _ (omega arith) ∙ ifLt-no _ _ (omega arith) ∙ ifEq-yes _ _ e
+
+  pub most-call : 10 ≤ k → k < 13 → most k ≡ 9
+  most-call h g = most-later (omega arith) ∙ ifLt-no _ _ h ∙ ifLt-yes _ _ g
+
+  pub most-return : k ≡ 13 → most k ≡ 10
+  most-return e = most-later (omega arith) ∙ ifLt-no _ _ (omega arith) ∙ ifLt-no _ _ (omega arith) ∙ ifEq-yes _ _ e
+
+  module _ (h : 14 ≤ k) (g : k < 20) where
+    other : (j : ℕ) → j < 14 → k ≡ j → ⊥
+    other j l e = omega arith
+
+    pub most-test : most k ≡ 2
+    most-test = most-later (omega arith) ∙ ifLt-no _ _ (omega arith) ∙ ifLt-no _ _ (omega arith) ∙ ifEq-no _ _ (other 13 (omega arith)) ∙ ifLt-yes _ _ g
+
+    pub least-test : least k ≡ 2
+    least-test =
+        ifLt-no _ _ (omega arith) ∙ ifLt-no _ _ (omega arith) ∙ ifEq-no _ _ (other 10 (omega arith)) ∙ ifLt-no _ _ h ∙ ifLt-yes _ _ g
 
 -- what the kind k of a line says of its magic word w, and of the kind and the word of the token behind it
 pub record Says (w kind second k : ℕ) : Type 0 where
