@@ -2,3 +2,4 @@ pub mod Puts
 pub mod Lines
 pub mod Words
 pub mod Forms
+pub mod Parts
