@@ -1,23 +1,22 @@
 -- The form of a statement row: what stands behind its magic word, by its kind.
 -- Assumes nothing.
-use mathlib.Core.Path.{_≡_, refl, sym, _∙_, ap, subst}
+use mathlib.Core.Path.{_≡_, refl, sym, _∙_, subst}
 use mathlib.Core.Bool.{Bool, true, false}
-use mathlib.Core.List.{List, [], _∷_}
+use mathlib.Core.List.{List}
 use mathlib.Core.Logic.{_⊎_, inl, inr}
-use Prim.Native.Nat.{ℕ, zero, suc, _+_, _-_, _≤_, _<_, min}
+use Prim.Native.Nat.{ℕ, zero, suc, _+_, _-_, _≤_, _<_}
 use native.Mathlib.Decide.{ℕ-discrete}
 use native.Mathlib.Omega.{arith}
 use Rattle.prelude.specs.Choice.{ifLt, ifEq, ifTrue}
 use Rattle.prelude.specs.Fault.{none}
-use Rattle.prelude.proofs.Choice.{either, either-eq, either-true, true-false, ifLt-yes, ifLt-no, ifEq-yes, ifEq-no}
+use Rattle.prelude.proofs.Choice.{either, either-eq, either-true, true-false, ifLt-yes}
 use Rattle.prelude.proofs.Keys.{key-fault}
 use Rattle.limits.specs.declared.Width.{Width}
 use Rattle.kinds.specs.Nesting.{rowsOf, kindOfWord}
 use Rattle.vocabulary.specs.Words.{leastOperands, mostOperands}
 use Rattle.lines.specs.Tokens.{kindAt, wordAt, keyAt, allFrom}
-use Rattle.lines.specs.Lines.{lineKind}
 use Rattle.lines.specs.declared.Span.{Span}
-use Rattle.shapes.specs.Shapes.{isName, operandsFrom, callFrom, expressionFrom, operandCount, isListed, countFits, laterFits, statementFits, formFits, rangeFits, shapeFits}
+use Rattle.shapes.specs.Shapes.{isName, operandsFrom, callFrom, expressionFrom, operandCount, isListed, countFits, laterFits, statementFits, formFits, shapeFits}
 use Rattle.rules.specs.Rules.{shapeRule, pastMost, listRule, substituteKey, tokenKey, tokensLeast, tokensRule}
 use Rattle.parser.proofs.Bounds.{unit-order}
 use Rattle.lined.specs.Lined.{Line, MadeOf, whole, jump, test, Lined}
@@ -173,15 +172,30 @@ module _ (w : Width) (t : List ℕ) (n : ℕ) (u : Span) (k : ℕ) (h : Line w t
       statement-form t u k line-order (s .low) some
       (omega (arith, s .enough, count-least t n u k c)) (omega (arith, s .few, few-operands t n u k c (h .list))) (s .address) line-statement
 
-line-test : (w : Width) (t : List ℕ) (n : ℕ) (u : Span) (k : ℕ) → Line w t n u k → k ≡ 21 → Form t (kindOfWord (wordAt t (u .word + 1))) (u .word + 1) (u .next)
-line-test w t n u k h e =
-    let l : k < 25 = omega arith in
-    let f : k ≡ 0 → ⊥ = λ z. omega arith in
-    let s = line-words w t n u k h l f .test e in
-    let p = test-form t u k e (line-statement w t n u k h l f) in
-    let q : kindOfWord (wordAt t (u .word + 1)) ≡ wordAt t (u .word + 1) - 13 = test-kind (wordAt t (u .word + 1)) (s .0) (s .1) in
-    let r : u .word + 2 ≡ u .word + 1 + 1 = omega arith in
-    testing (omega (arith, s .0)) (omega (arith, s .1)) (subst (λ (j : ℕ). operandsFrom t j (u .next) ≡ true) r (p .1)) (omega (arith, p .0))
+module _ (w : Width) (t : List ℕ) (n : ℕ) (u : Span) (k : ℕ) (h : Line w t n u k) (e : k ≡ 21) where
+  low-kind : k < 25
+  low-kind = omega arith
+
+  some-kind : k ≡ 0 → ⊥
+  some-kind z = omega arith
+
+  -- its second row is one of the six tests
+  pub test-kinds : (14 ≤ kindOfWord (wordAt t (u .word + 1))) × (kindOfWord (wordAt t (u .word + 1)) < 20)
+  test-kinds =
+      let s = line-words w t n u k h low-kind some-kind .test e in
+      let q : kindOfWord (wordAt t (u .word + 1)) ≡ wordAt t (u .word + 1) - 13 = test-kind (wordAt t (u .word + 1)) (s .0) (s .1) in
+      (omega (arith, s .0), omega (arith, s .1))
+
+  test-shape : (operandCount u ≡ 3) × (operandsFrom t (u .word + 2) (u .next) ≡ true)
+  test-shape = test-form t u k e (line-statement w t n u k h low-kind some-kind)
+
+  line-test : Form t (kindOfWord (wordAt t (u .word + 1))) (u .word + 1) (u .next)
+  line-test =
+      let r : u .word + 2 ≡ u .word + 1 + 1 = omega arith in
+      testing (test-kinds .0) (test-kinds .1) (subst (λ (j : ℕ). operandsFrom t j (u .next) ≡ true) r (test-shape .1)) (omega (arith, test-shape .0))
+
+  test-order : u .word + 1 < u .next
+  test-order = omega (arith, test-shape .0)
 
 -- the form of a row
 pub row-form : (w : Width) (t : List ℕ) (n kind i e operands : ℕ) → Lined w t n kind i e operands → Form t kind i e
@@ -243,3 +257,23 @@ row-known w t n kind i e operands h j a b = by (h .made)
     by (whole p q c d f) = line-known w t n (h .span) (h .is) (h .line) j (omega arith) (omega arith)
     by (jump p q c d f) = let z : ⊥ = omega arith in absurd z
     by (test p q c d f) = line-known w t n (h .span) (h .is) (h .line) j (omega arith) (omega arith)
+
+-- ---- the ends of a row
+
+-- its magic word stands before its end
+pub row-order : (w : Width) (t : List ℕ) (n kind i e operands : ℕ) → Lined w t n kind i e operands → i < e
+row-order w t n kind i e operands h = by (h .made)
+  where
+    by : MadeOf t (h .span) (h .is) kind i e operands → i < e
+    by (whole a b c d f) = let r = row-low (h .is) a in omega (arith, line-order w t n (h .span) (h .is) (h .line) (r .0) (r .1))
+    by (jump a b c d f) = omega arith
+    by (test a b c d f) = omega (arith, test-order w t n (h .span) (h .is) (h .line) a)
+
+-- of a function all tokens behind the magic word are operands
+pub function-count : (w : Width) (t : List ℕ) (n kind i e operands : ℕ) → Lined w t n kind i e operands → kind ≡ 1 → operands ≡ e - (i + 1)
+function-count w t n kind i e operands h one = by (h .made)
+  where
+    by : MadeOf t (h .span) (h .is) kind i e operands → operands ≡ e - (i + 1)
+    by (whole a b c d f) = omega arith
+    by (jump a b c d f) = let z : ⊥ = omega arith in absurd z
+    by (test a b c d f) = let z : ⊥ = omega (arith, test-kinds w t n (h .span) (h .is) (h .line) a .0) in absurd z

@@ -3,3 +3,4 @@ pub mod Lines
 pub mod Words
 pub mod Forms
 pub mod Parts
+pub mod Rows

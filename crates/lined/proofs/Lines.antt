@@ -1,17 +1,16 @@
 -- Every row of an accepted source has its line.
 -- Assumes nothing.
-use mathlib.Core.Path.{_≡_, refl, sym, _∙_, ap, subst}
+use mathlib.Core.Path.{_≡_, refl, sym, _∙_, subst}
 use mathlib.Core.List.{List, []}
-use Prim.Native.Nat.{ℕ, zero, suc, _+_, _-_, _*_, _≤_, _<_, min}
-use native.Mathlib.Decide.{decLt, ℕ-discrete}
+use Prim.Native.Nat.{ℕ, suc, _+_, _-_, _*_, _≤_, _<_, min}
+use native.Mathlib.Decide.{ℕ-discrete}
 use native.Mathlib.Nat.{min-eq-left}
 use native.Mathlib.Omega.{arith}
-use lib.ListN.{length, length-replicate, getD}
-use Rattle.prelude.specs.Choice.{ifLt, ifEq}
+use lib.ListN.{length, length-replicate}
 use Rattle.prelude.specs.Fault.{none, leastOf}
 use Rattle.prelude.specs.Lists.{zeros}
 use Rattle.prelude.specs.Walk.{Step, go, stop, walk}
-use Rattle.prelude.proofs.Choice.{either, either-eq, ifEq-yes, ifEq-no}
+use Rattle.prelude.proofs.Choice.{either, either-eq}
 use Rattle.prelude.proofs.Walk.{Kept, walk-kept}
 use Rattle.limits.specs.declared.Width.{Width}
 use Rattle.kinds.specs.Nesting.{rowsOf, kindOfWord}
@@ -23,7 +22,7 @@ use Rattle.shapes.specs.Shapes.{operandCount}
 use Rattle.rules.specs.Rules.{shapeRule, tokensRule, listRule}
 use Rattle.parser.specs.Outline.{rowAt, rowIn, putRow}
 use Rattle.parser.specs.Places.{groundIn, lineFaults, limitFaults, unitFault}
-use Rattle.parser.specs.Parse.{World, world, putState, putKind, growTwo, growBy, stateBehind, joinState, advance, Result, result, openRow, faultIn, turnOn, turnOf, begin, parseFrom, parseOf}
+use Rattle.parser.specs.Parse.{World, world, putState, putKind, growTwo, growBy, joinState, advance, Result, result, openRow, faultIn, turnOn, turnOf, begin, parseFrom, parseOf}
 use Rattle.parser.specs.Fits.{TurnFits}
 use Rattle.parser.specs.declared.Row.{Row}
 use Rattle.parser.specs.declared.State.{State}

@@ -2,28 +2,27 @@
 -- Assumes nothing.
 use mathlib.Core.Path.{_≡_, refl, sym, _∙_, ap, subst}
 use mathlib.Core.Bool.{Bool, true, false, not}
-use mathlib.Core.List.{List, [], _∷_}
-use mathlib.Core.Logic.{_⊎_, inl, inr}
-use Prim.Native.Nat.{ℕ, zero, suc, _+_, _-_, _≤_, _<_}
+use mathlib.Core.List.{List}
+use mathlib.Core.Logic.{_⊎_}
+use Prim.Native.Nat.{ℕ, suc, _+_, _-_, _≤_, _<_}
 use native.Mathlib.Decide.{decLt, ℕ-discrete}
 use native.Mathlib.Omega.{arith}
 use lib.Dec.{eqb, ltb, leb}
 use lib.ListN.{length}
-use borrow.Author.Tests.{eqb-true, ltb-true, eq-eqb, ne-eqb, lt-ltb, le-ltb}
-use Rattle.prelude.specs.Choice.{pick, ifLt, ifEq, ifTrue}
-use Rattle.prelude.specs.Walk.{Step, go, stop, walk}
+use borrow.Author.Tests.{eqb-true, ltb-true, ne-eqb, lt-ltb, le-ltb}
+use Rattle.prelude.specs.Choice.{ifLt, ifEq, ifTrue}
 use Rattle.prelude.proofs.Choice.{either, either-eq, either-true, true-false, ifLt-yes, ifLt-no, ifEq-yes, ifEq-no, ifTrue-yes, ifTrue-no}
 use Rattle.prelude.proofs.Walk.{Kept, walk-kept}
 use Rattle.vocabulary.specs.Words.{words, firstOf, isNumber, entryOf, leastOperands}
 use Rattle.lines.specs.Tokens.{kindAt, wordAt, skipStep, skip, allFrom}
 use Rattle.lines.proofs.Scans.{skip-from}
 use Rattle.shapes.specs.Shapes.{isName, isOperator, operandsFrom, callFrom, operatorFrom, operandAt, symbolFrom, expressionFrom}
-use Rattle.tables.specs.Tests.{both, oneOf, given, allBelow}
+use Rattle.tables.specs.Tests.{both, oneOf, allBelow}
 use Rattle.tables.specs.Statement.{hasExpression, isTest, isCall, expressionUses, usedBy}
 use Rattle.tables.specs.Statement as statement
 use Rattle.tables.specs.Faults.{expressionListed}
 use Rattle.tables.specs.WellFormed.{hasOperands}
-use Rattle.tables.proofs.Each.{below-at, both-left, both-right, given-then}
+use Rattle.tables.proofs.Each.{below-at, both-left, both-right}
 use Rattle.scope.specs.Parts.{parts, symbolParts, expressionParts, returnParts, listsOperands, plainParts, partsOf}
 use Rattle.scope.specs.declared.Parts.{Parts}
 use Rattle.lined.specs.Parted.{Parted}
@@ -514,3 +513,98 @@ module _ (t : List ℕ) (kind i e : ℕ) (o : i < e) where
   form-parted (late a b) =
       idle-plain (omega arith) (λ z. let y : ⊥ = omega arith in y) (late-lists t kind i e a) (λ z. let y : ⊥ = omega arith in y) (λ z. let y : ⊥ = omega arith in y)
       (range-at idleTest 20 3 kind idle-late a b)
+
+-- ---- names, the address, parameters
+
+expression-within : (t : List ℕ) (i e : ℕ) → expressionFrom t i e ≡ true → i < e
+expression-within t i e h = by (expressionParts t i) (expression-view t i e h)
+  where
+    by : (p : Parts) → View t i e p → i < e
+    by p (call a b) = omega (arith, operands-inside t (i + 2) e b .0)
+    by p (operator a b c) = omega (arith, operands-inside t (i + 1) e c .0)
+    by p (operand a b) = omega arith
+
+module _ (t : List ℕ) (kind i e : ℕ) where
+  -- of any listed kind
+  pub form-kind : Form t kind i e → (1 ≤ kind) × (kind < 23)
+  form-kind (function a b c) = (omega arith, omega arith)
+  form-kind (early a b c) = (omega arith, omega arith)
+  form-kind (naming a b c d f) = (omega arith, omega arith)
+  form-kind (address a b c d) = (omega arith, omega arith)
+  form-kind (setting a b c d) = (omega arith, omega arith)
+  form-kind (going a b c) = (omega arith, omega arith)
+  form-kind (calling a b c d) = (omega arith, omega arith)
+  form-kind (returning a b) = (omega arith, omega arith)
+  form-kind (giving a b c d) = (omega arith, omega arith)
+  form-kind (testing a b c d) = (omega arith, omega arith)
+  form-kind (late a b) = (omega arith, omega arith)
+
+  -- behind `let`, `set` and `goto` stands a name
+  abbrev Named : Type 0
+  Named = (i + 1 < e) × (kindAt t (i + 1) ≡ 3)
+
+  abbrev none-of : {P : Type 0} → ⊥ → P
+  none-of z = absurd z
+
+  pub form-local : 5 ≤ kind → kind < 7 → Form t kind i e → Named
+  form-local l g (function a b c) = none-of (omega arith)
+  form-local l g (early a b c) = none-of (omega arith)
+  form-local l g (naming a b c d f) = (omega (arith, expression-within t (i + 2) e d), name-kind t (i + 1) c)
+  form-local l g (address a b c d) = none-of (omega arith)
+  form-local l g (setting a b c d) = none-of (omega arith)
+  form-local l g (going a b c) = none-of (omega arith)
+  form-local l g (calling a b c d) = none-of (omega arith)
+  form-local l g (returning a b) = none-of (omega arith)
+  form-local l g (giving a b c d) = none-of (omega arith)
+  form-local l g (testing a b c d) = none-of (omega arith)
+  form-local l g (late a b) = none-of (omega arith)
+
+  pub form-goto : kind ≡ 10 → Form t kind i e → Named
+  form-goto q (function a b c) = none-of (omega arith)
+  form-goto q (early a b c) = none-of (omega arith)
+  form-goto q (naming a b c d f) = none-of (omega arith)
+  form-goto q (address a b c d) = none-of (omega arith)
+  form-goto q (setting a b c d) = none-of (omega arith)
+  form-goto q (going a b c) = (c, name-kind t (i + 1) b)
+  form-goto q (calling a b c d) = none-of (omega arith)
+  form-goto q (returning a b) = none-of (omega arith)
+  form-goto q (giving a b c d) = none-of (omega arith)
+  form-goto q (testing a b c d) = none-of (omega arith)
+  form-goto q (late a b) = none-of (omega arith)
+
+  -- behind the `set` of an address stands `@` and a name, a substitute or an integer
+  abbrev Addressed : Type 0
+  Addressed = (i + 1 < e) × ((kindAt t (i + 1) ≡ 5) ⊎ ((kindAt t (i + 1) ≡ 6) ⊎ (kindAt t (i + 1) ≡ 8)))
+
+  pub form-address : kind ≡ 7 → Form t kind i e → Addressed
+  form-address q (function a b c) = none-of (omega arith)
+  form-address q (early a b c) = none-of (omega arith)
+  form-address q (naming a b c d f) = none-of (omega arith)
+  form-address q (address a b c d) = (omega (arith, expression-within t (i + 2) e c), b)
+  form-address q (setting a b c d) = none-of (omega arith)
+  form-address q (going a b c) = none-of (omega arith)
+  form-address q (calling a b c d) = none-of (omega arith)
+  form-address q (returning a b) = none-of (omega arith)
+  form-address q (giving a b c d) = none-of (omega arith)
+  form-address q (testing a b c d) = none-of (omega arith)
+  form-address q (late a b) = none-of (omega arith)
+
+  -- a function has names alone, at most 8
+  abbrev Listing : Type 0
+  Listing = (e - (i + 1) ≤ 8) × ((j : ℕ) → i < j → j < e → kindAt t j ≡ 3)
+
+  names-alone : allFrom t 3 4 (i + 1) e ≡ true → (j : ℕ) → i < j → j < e → kindAt t j ≡ 3
+  names-alone h j a b = let r = all-inside t 3 4 (i + 1) e h .1 j (omega arith) b in omega (arith, r .0, r .1)
+
+  pub form-function : kind ≡ 1 → Form t kind i e → Listing
+  form-function q (function a b c) = (omega arith, names-alone b)
+  form-function q (early a b c) = none-of (c q)
+  form-function q (naming a b c d f) = none-of (omega arith)
+  form-function q (address a b c d) = none-of (omega arith)
+  form-function q (setting a b c d) = none-of (omega arith)
+  form-function q (going a b c) = none-of (omega arith)
+  form-function q (calling a b c d) = none-of (omega arith)
+  form-function q (returning a b) = none-of (omega arith)
+  form-function q (giving a b c d) = none-of (omega arith)
+  form-function q (testing a b c d) = none-of (omega arith)
+  form-function q (late a b) = none-of (omega arith)

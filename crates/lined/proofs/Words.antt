@@ -1,17 +1,17 @@
 -- What the kind of a line says of its first two tokens.
 -- Assumes nothing.
 use mathlib.Core.Path.{_≡_, refl, sym, _∙_, ap, subst}
-use mathlib.Core.Bool.{Bool, true, false, not}
-use mathlib.Core.List.{List, [], _∷_}
+use mathlib.Core.Bool.{Bool, true, not}
+use mathlib.Core.List.{List}
 use mathlib.Core.Logic.{_⊎_, inl, inr}
-use Prim.Native.Nat.{ℕ, zero, suc, _+_, _-_, _≤_, _<_}
+use Prim.Native.Nat.{ℕ, suc, _+_, _-_, _≤_, _<_}
 use native.Mathlib.Decide.{decLt}
 use native.Mathlib.Omega.{arith}
 use lib.Dec.{eqb, ltb}
 use borrow.Author.Tests.{eqb-true, ltb-true, eq-eqb, lt-ltb}
-use Rattle.prelude.specs.Choice.{ifLt, ifEq, ifTrue}
+use Rattle.prelude.specs.Choice.{ifLt, ifEq}
 use Rattle.prelude.proofs.Choice.{either, either-eq, true-false, ifLt-yes, ifLt-no, ifEq-yes, ifEq-no}
-use Rattle.kinds.specs.Nesting.{wordKinds, kindOfWord}
+use Rattle.kinds.specs.Nesting.{kindOfWord}
 use Rattle.kinds.proofs.Cases.{kind-none}
 use Rattle.vocabulary.specs.Words.{words, firstOf, isNumber, entryOf, leastOperands, mostOperands}
 use Rattle.lines.specs.Tokens.{kindAt, wordAt}
