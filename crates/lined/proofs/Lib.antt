@@ -1,0 +1,6 @@
+pub mod Puts
+pub mod Lines
+pub mod Words
+pub mod Forms
+pub mod Parts
+pub mod Rows
