@@ -66,6 +66,9 @@ pub record Known (same : ℕ → ℕ → Bool) (t k y : List ℕ) (l : ℕ) (w z
   pub values : (j : ℕ) → j < l → labelKind y j ≡ 1 → isData (h j .kind) ≡ true
   pub functions : (j : ℕ) → j < l → labelKind y j ≡ 3 → (isFunctionLabel (h j .kind) ≡ true) × (labelNumber z j ≡ labelStatement y j)
   pub places : (j : ℕ) → j < l → labelKind y j ≡ 5 → (h j .kind ≡ 5) × (labelNumber z j ≡ labelStatement y j)
+  -- what it names
+  pub callees : (j : ℕ) → j < l → labelKind y j ≡ 3 → (labelStatement y j < c) × (rowAt k (labelStatement y j) .kind ≡ 1)
+  pub spots : (j : ℕ) → j < l → labelKind y j ≡ 5 → labelStatement y j < c
 
 module _ (same : ℕ → ℕ → Bool) (t k y : List ℕ) (l : ℕ) (w z : List ℕ) (c : ℕ) (f : ℕ → Row) (h : ℕ → Label) (q : Known same t k y l w z c f h) where
   named-kind : (s i m : ℕ) → letNamed same k s i m ≡ true → (rowAt k m .kind ≡ 5) × (encloses (rowAt k) frameDepth (rowAt k m .scope) s ≡ true)

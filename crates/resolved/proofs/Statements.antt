@@ -3,6 +3,7 @@
 use mathlib.Core.Path.{_≡_, refl, sym, _∙_, ap, ap₂, subst}
 use mathlib.Core.Bool.{Bool, true, false}
 use mathlib.Core.List.{List, [], _∷_, _++_}
+use mathlib.Core.Logic.{_⊎_, inl, inr, ⊎-elim}
 use Prim.Native.Nat.{ℕ, zero, suc, _+_, _*_, _-_, _≤_, _<_, min}
 use native.Mathlib.Decide.{decLt, ℕ-discrete}
 use native.Mathlib.Omega.{arith}
@@ -31,6 +32,19 @@ use Rattle.acceptance.specs.Faults.{operandFault, operandFaults, calleeFaults, 
 use Rattle.rows.specs.Rows.{labelTarget, localWord, plainOperand, atOperand, constantOperand, tokenOperand, addressConstant, addressOperand, operandsFrom, aOf, calleeOf, addressOf, rowWith, rowOf}
 use Rattle.resolved.proofs.Meanings.{From, meaning-from}
 use Rattle.resolved.proofs.Operands.{Known, plain-good, at-good, plain-listed, set-scope, callee-good, goto-good}
+
+both-yes : (a b : Bool) → a ≡ true → b ≡ true → both a b ≡ true
+both-yes true b p g = g
+both-yes false b p g = true-false (sym p)
+
+-- q where the test holds
+given-yes : (a : ℕ) (v : ℕ) (b : Bool) → (a ≡ v → b ≡ true) → given (eqb a v) b ≡ true
+given-yes a v b h =
+    elim (ℕ-discrete a v) [ yes e ↦ ap (λ (x : Bool). given x b) (eq-eqb a v e) ∙ h e | no d ↦ ap (λ (x : Bool). given x b) (ne-eqb a v d) ]
+
+given-true : (a b : Bool) → (a ≡ true → b ≡ true) → given a b ≡ true
+given-true true b h = h refl
+given-true false b h = refl
 
 -- ---- lists without a fault
 
@@ -90,7 +104,101 @@ module _ (same : ℕ → ℕ → Bool) (t k y : List ℕ) (l : ℕ) (w z : List 
   operands-good (suc left) (suc total) i a x o =
       both-yes _ _ (operand-good i (clean-left (operandFault same t n k y l r i) _ x) (o i (omega arith) (omega arith)))
       (operands-good left total (i + 1) (omega arith) (clean-right (operandFault same t n k y l r i) _ x) (λ j u v. o j (omega arith) (omega arith)))
-    where
-      both-yes : (a b : Bool) → a ≡ true → b ≡ true → both a b ≡ true
-      both-yes true b p g = g
-      both-yes false b p g = true-false (sym p)
+
+  abbrev kind : ℕ
+  kind = rowAt k r .kind
+
+  abbrev first : ℕ
+  first = firstToken k r
+
+  abbrev next : ℕ
+  next = endToken k r
+
+  abbrev p : Parts
+  p = partsOf t (rowAt k r .kind) (firstToken k r) (endToken k r)
+
+  module _ (back : f r ≡ rowOf same t k y l w z c r) (x : Clean (statementFaults same t n k y l r)) where
+    head-clean : Clean (headFaults same t n k y l r kind (first + 1))
+    unfolding statementFaults
+    head-clean = clean-left (headFaults same t n k y l r kind (first + 1)) _ (clean-right (declaredFaults same t n k r kind) _ x)
+
+    body-clean : Clean (bodyFaults same t n k y l r p next)
+    unfolding statementFaults
+    body-clean = clean-right (headFaults same t n k y l r kind (first + 1)) _ (clean-right (declaredFaults same t n k r kind) _ x)
+
+    callee-clean : Clean (calleeFaults same t n k y l r (p .callee) (next - p .first))
+    unfolding bodyFaults
+    callee-clean = clean-left (calleeFaults same t n k y l r (p .callee) (next - p .first)) _ body-clean
+
+    operands-clean : Clean (operandFaults (next - p .first) same t n k y l r (p .first))
+    unfolding bodyFaults
+    operands-clean = clean-right (calleeFaults same t n k y l r (p .callee) (next - p .first)) _ body-clean
+
+    kind-is : f r .kind ≡ kind
+    unfolding rowOf rowWith
+    kind-is = ap (λ (v : Row). v .kind) back
+
+    a-is : f r .a ≡ aOf same k y l w z r kind (first + 1)
+    unfolding rowOf rowWith
+    a-is = ap (λ (v : Row). v .a) back
+
+    count-is : f r .count ≡ next - p .first
+    unfolding rowOf rowWith
+    count-is = ap (λ (v : Row). v .count) back
+
+    expr-is : f r .expr ≡ p .expr
+    unfolding rowOf rowWith
+    expr-is = ap (λ (v : Row). v .expr) back
+
+    callee-is : f r .callee ≡ calleeOf same k y l z r kind (p .callee)
+    unfolding rowOf rowWith
+    callee-is = ap (λ (v : Row). v .callee) back
+
+    address-is : f r .address ≡ addressOf same t k y l w z r kind (first + 1)
+    unfolding rowOf rowWith
+    address-is = ap (λ (v : Row). v .address) back
+
+    operands-are : f r .operands ≡ operandsFrom (min (next - p .first) 8) same t k y l w z r (p .first)
+    unfolding rowOf rowWith
+    operands-are = ap (λ (v : Row). v .operands) back
+
+    -- every operand is a constant, or a local or data label in scope
+    pub operands-pass : ((j : ℕ) → p .first ≤ j → j < next → OperandKind (kindAt t j)) → operandsGood f h l r ≡ true
+    unfolding operandsGood
+    operands-pass o =
+        ap (allOf (operandGood f h l r)) operands-are
+        ∙ operands-good (min (next - p .first) 8) (next - p .first) (p .first) (omega arith) operands-clean (λ j u v. o j u (omega arith))
+
+    constant-address : (v m : ℕ) → (v ≡ 6) ⊎ (v ≡ 8) → both (addressListed (addressConstant v m)) (operandGood f h l r (addressConstant v m)) ≡ true
+    unfolding addressConstant addressListed operandGood
+    constant-address v m o =
+        either-eq (λ (u : Operand). both (addressListed u) (operandGood f h l r u) ≡ true) v 8 _ _ (λ _. refl) (λ d.
+        either-eq (λ (u : Operand). both (addressListed u) (operandGood f h l r u) ≡ true) v 6 _ _ (λ _. refl) (λ e.
+        ⊎-elim (λ a. absurd (e a)) (λ a. absurd (d a)) o))
+
+    address-by : Clean (operandFault same t n k y l r (first + 1)) → (kindAt t (first + 1) ≡ 5) ⊎ ((kindAt t (first + 1) ≡ 6) ⊎ (kindAt t (first + 1) ≡ 8))
+        → both (addressListed (addressOperand same t k y l w z r (first + 1))) (operandGood f h l r (addressOperand same t k y l w z r (first + 1))) ≡ true
+    unfolding addressOperand operandFault
+    address-by u o =
+        either-eq (λ (v : Operand). both (addressListed v) (operandGood f h l r v) ≡ true) (kindAt t (first + 1)) 5 _ _
+        (λ e.
+          let c₀ : none ≤ valueFault t n y (first + 1) (meaningOf same k y l r (first + 1)) = subst Clean (ifEq-no _ _ (λ d. absurd (omega arith)) ∙ ifEq-yes _ _ e) u .0 in
+          both-yes _ _ (plain-listed same t k y l w z c f h q n r (first + 1) l₀ (meaningOf same k y l r (first + 1)) c₀)
+          (plain-good same t k y l w z c f h q n r (first + 1) l₀ (meaningOf same k y l r (first + 1)) (meaning-from same k y l r (first + 1)) c₀))
+        (λ d. constant-address (kindAt t (first + 1)) (valueAt t (first + 1)) (⊎-elim (λ a. absurd (d a)) (λ a. a) o))
+
+    pub address-passes : (kind ≡ 7 → (kindAt t (first + 1) ≡ 5) ⊎ ((kindAt t (first + 1) ≡ 6) ⊎ (kindAt t (first + 1) ≡ 8))) → addressGood f h l r ≡ true
+    unfolding addressGood addressOf headFaults
+    address-passes o =
+        given-yes (f r .kind) 7 _ (λ e.
+        let g : kind ≡ 7 = sym kind-is ∙ e in
+        ap (λ (v : Operand). both (addressListed v) (operandGood f h l r v)) (address-is ∙ ifEq-yes _ _ g)
+        ∙ address-by (subst Clean (ifEq-no _ _ (λ d. absurd (omega arith)) ∙ ifEq-yes _ _ g) head-clean) (o g))
+
+    pub set-passes : setsLocal f r ≡ true
+    unfolding setsLocal aOf headFaults
+    set-passes =
+        given-yes (f r .kind) 6 _ (λ e.
+        let g : kind ≡ 6 = sym kind-is ∙ e in
+        ap (inScope f r) (a-is ∙ ifEq-yes _ _ g)
+        ∙ set-scope same t k y l w z c f h q n r (first + 1) l₀ (meaningOf same k y l r (first + 1)) (meaning-from same k y l r (first + 1)) (subst Clean (ifEq-yes _ _ g) head-clean .0))
