@@ -15,11 +15,11 @@ use Rattle.prelude.specs.Fault.{none}
 use Rattle.prelude.proofs.Choice.{either-eq, either-true, ifEq-yes, ifEq-no, true-false}
 use Rattle.lines.specs.Tokens.{kindAt, valueAt}
 use Rattle.tables.specs.Tests.{both, oneOf, given, all, allOf, someBelow}
-use Rattle.tables.specs.Statement.{Row, rowAt, isCall, hasExpression}
+use Rattle.tables.specs.Statement.{Row, rowAt, isCall, hasExpression, usedBy}
 use Rattle.tables.specs.Frames.{inScope}
 use Rattle.tables.specs.Label.{Label, isData, isFunctionLabel}
-use Rattle.tables.specs.Faults.{addressListed}
-use Rattle.tables.specs.WellFormed.{labelled, jumps, calls, operandGood, operandsGood, addressGood, setsLocal}
+use Rattle.tables.specs.Faults.{addressListed, expressionListed}
+use Rattle.tables.specs.WellFormed.{labelled, jumps, calls, shaped, hasOperands, operandGood, operandsGood, addressGood, setsLocal}
 use Rattle.tables.specs.declared.Operand.{Operand}
 use Rattle.tables.specs.declared.Operand.the-variants.{Constant, Local, Address, AtConstant, AtLocal, AtAddress, Unlisted}
 use Rattle.scope.specs.Lines.{firstToken, endToken, labelKind, labelStatement}
@@ -45,6 +45,9 @@ given-yes a v b h =
 given-true : (a b : Bool) → (a ≡ true → b ≡ true) → given a b ≡ true
 given-true true b h = h refl
 given-true false b h = refl
+
+used-same : (a a′ b b′ d d′ : ℕ) → a ≡ a′ → b ≡ b′ → d ≡ d′ → usedBy a b d ≡ usedBy a′ b′ d′
+used-same a a′ b b′ d d′ x y z = rw (x, y, z)
 
 -- ---- lists without a fault
 
@@ -202,3 +205,49 @@ module _ (same : ℕ → ℕ → Bool) (t k y : List ℕ) (l : ℕ) (w z : List 
         let g : kind ≡ 6 = sym kind-is ∙ e in
         ap (inScope f r) (a-is ∙ ifEq-yes _ _ g)
         ∙ set-scope same t k y l w z c f h q n r (first + 1) l₀ (meaningOf same k y l r (first + 1)) (meaning-from same k y l r (first + 1)) (subst Clean (ifEq-yes _ _ g) head-clean .0))
+
+    -- "`goto` takes a statement's label in the same function and innermost block."
+    pub goto-passes : jumps f c h l r ≡ true
+    unfolding jumps aOf headFaults all
+    goto-passes =
+        given-yes (f r .kind) 10 _ (λ e.
+        let g : kind ≡ 10 = sym kind-is ∙ e in
+        let m = goto-good same t k y l w z c f h q n r (first + 1) l₀ (meaningOf same k y l r (first + 1)) (meaning-from same k y l r (first + 1))
+              (subst Clean (ifEq-no _ _ (λ d. absurd (omega arith)) ∙ ifEq-no _ _ (λ d. absurd (omega arith)) ∙ ifEq-yes _ _ g) head-clean .0) in
+        let a : f r .a ≡ labelTarget z (meaningOf same k y l r (first + 1)) = a-is ∙ ifEq-no _ _ (λ d. absurd (omega arith)) ∙ ifEq-yes _ _ g in
+        let b : f r .a ≡ labelStatement y (m .0) = a ∙ m .3 in
+        let o : labelStatement y (m .0) < c = q .spots (m .0) (m .1) (m .2) in
+        both-yes _ _ (lt-ltb (f r .a) c (omega (arith, b, o)))
+        (both-yes _ _ (eq-eqb (f (f r .a) .func) (f r .func) (q .alike .funcs (f r .a) ∙ ap (λ (i : ℕ). rowAt k i .func) b ∙ m .4 ∙ sym (q .alike .funcs r)))
+        (both-yes _ _ (eq-eqb (f (f r .a) .scope) (f r .scope) (q .alike .scopes (f r .a) ∙ ap (λ (i : ℕ). rowAt k i .scope) b ∙ m .5 ∙ sym (q .alike .scopes r)))
+        (both-yes _ _ (ap (labelled h l (λ v. eqb v 5)) a ∙ m .6) refl))))
+
+    -- "`call` and `tail-call` take a function label with its parameter count."
+    pub calls-pass : (isCall kind (p .expr) ≡ true → (p .callee ≡ 0 → ⊥) × (kind ≡ 3 → ⊥)) → next - p .first ≤ 8 → calls f c h l r ≡ true
+    unfolding calls calleeOf calleeFaults all
+    calls-pass s few =
+        given-true (isCall (f r .kind) (f r .expr)) _ (λ e.
+        let g : isCall kind (p .expr) ≡ true = ap₂ isCall (sym kind-is) (sym expr-is) ∙ e in
+        let m = callee-good same t k y l w z c f h q n r (p .callee) l₀ (next - p .first) (meaningOf same k y l r (p .callee)) (meaning-from same k y l r (p .callee))
+              (subst Clean (ifEq-no _ _ (s g .0)) callee-clean .0) in
+        let a : f r .callee ≡ labelTarget z (meaningOf same k y l r (p .callee)) = callee-is ∙ ifEq-no _ _ (s g .1) ∙ ifEq-no _ _ (s g .0) in
+        let b : f r .callee ≡ labelStatement y (m .0) = a ∙ m .3 in
+        let o = q .callees (m .0) (m .1) (m .2) in
+        let v : f (f r .callee) .kind ≡ 1 = q .alike .kinds (f r .callee) ∙ ap (λ (i : ℕ). rowAt k i .kind) b ∙ o .1 in
+        let u : f (f r .callee) .b ≡ f r .count = q .alike .counts (f r .callee) (λ d. absurd (omega (arith, v))) ∙ ap (λ (i : ℕ). rowAt k i .b) b ∙ m .4 ∙ sym count-is in
+        both-yes _ _ (lt-ltb (f r .callee) c (omega (arith, b, o .0)))
+        (both-yes _ _ (eq-eqb (f (f r .callee) .kind) 1 v)
+        (both-yes _ _ (eq-eqb (f (f r .callee) .b) (f r .count) u)
+        (both-yes _ _ (le-leb (f r .count) 8 (omega (arith, few, count-is)))
+        (both-yes _ _ (ap (labelled h l isFunctionLabel) a ∙ m .5) refl)))))
+
+    -- as many operands as the expression or statement takes
+    pub shape-passes : (hasExpression kind ≡ true → expressionListed kind (p .expr) ≡ true) → (hasOperands kind ≡ true → usedBy kind (p .expr) (next - p .first) ≡ next - p .first)
+        → shaped f r ≡ true
+    unfolding shaped
+    shape-passes a b =
+        both-yes _ _
+        (given-true (hasExpression (f r .kind)) _ (λ e. ap₂ expressionListed kind-is expr-is ∙ a (ap hasExpression (sym kind-is) ∙ e)))
+        (given-true (hasOperands (f r .kind)) _ (λ e.
+        eq-eqb (f r .count) (usedBy (f r .kind) (f r .expr) (f r .count))
+        (count-is ∙ sym (b (ap hasOperands (sym kind-is) ∙ e)) ∙ sym (used-same (f r .kind) kind (f r .expr) (p .expr) (f r .count) (next - p .first) kind-is expr-is count-is))))
