@@ -132,3 +132,7 @@ module _ (g : ℕ → Row) (c : ℕ) (hc : c ≤ 1024) (few : (i : ℕ) → g i 
     word-target e l =
         word-is n h ∙ ifEq-no _ _ (λ q. absurd (omega arith)) ∙ ifEq-no _ _ (λ q. absurd (omega arith)) ∙ ifEq-no _ _ (λ q. absurd (omega arith)) ∙ ifEq-no _ _ (λ q. absurd (omega arith))
         ∙ ifTrue-yes _ _ e
+
+  pub locals-low : (n : ℕ) → n < c → localsAt g n < 4294967296
+  unfolding localsAt
+  locals-low n h = let a = few (g n .func) in let b = count-low (letSeen g (g n .scope)) n in omega (arith, a, b)

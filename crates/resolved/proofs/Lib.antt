@@ -4,3 +4,4 @@ pub mod Frames
 pub mod Meanings
 pub mod Operands
 pub mod Statements
+pub mod Framing

@@ -33,16 +33,16 @@ use Rattle.rows.specs.Rows.{labelTarget, localWord, plainOperand, atOperand, co
 use Rattle.resolved.proofs.Meanings.{From, meaning-from}
 use Rattle.resolved.proofs.Operands.{Known, plain-good, at-good, plain-listed, set-scope, callee-good, goto-good}
 
-both-yes : (a b : Bool) → a ≡ true → b ≡ true → both a b ≡ true
+pub both-yes : (a b : Bool) → a ≡ true → b ≡ true → both a b ≡ true
 both-yes true b p g = g
 both-yes false b p g = true-false (sym p)
 
 -- q where the test holds
-given-yes : (a : ℕ) (v : ℕ) (b : Bool) → (a ≡ v → b ≡ true) → given (eqb a v) b ≡ true
+pub given-yes : (a : ℕ) (v : ℕ) (b : Bool) → (a ≡ v → b ≡ true) → given (eqb a v) b ≡ true
 given-yes a v b h =
     elim (ℕ-discrete a v) [ yes e ↦ ap (λ (x : Bool). given x b) (eq-eqb a v e) ∙ h e | no d ↦ ap (λ (x : Bool). given x b) (ne-eqb a v d) ]
 
-given-true : (a b : Bool) → (a ≡ true → b ≡ true) → given a b ≡ true
+pub given-true : (a b : Bool) → (a ≡ true → b ≡ true) → given a b ≡ true
 given-true true b h = h refl
 given-true false b h = refl
 
