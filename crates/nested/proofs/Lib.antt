@@ -1,0 +1,4 @@
+pub mod View
+pub mod Lines
+pub mod Standing
+pub mod Put
