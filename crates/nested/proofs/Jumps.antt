@@ -65,7 +65,7 @@ module _ (f : ℕ → Row) (c : ℕ) (ok : (n : ℕ) → n < c → stands f n �
   unfolding upIn
   test-stays p l t =
       let a = given-then (isTest (f p .kind)) (both (enters (f p .kind)) (both (not (leaves (f p .kind))) (both (eqb (groundOf (f p .kind)) 6) (not (eqb (f p .kind) 1)))))
-            (fact f c ok p 4 l (omega arith)) t in
+      (fact f c ok p 4 l (omega arith)) t in
       let b = both-left (not (leaves (f p .kind))) _ (both-right (enters (f p .kind)) _ a) in
       here f c ok p l .up-is ∙ ifTrue-no (f (openBefore f p - 1) .up) (openBefore f p) (not-true (leaves (f p .kind)) b)
 

@@ -287,8 +287,8 @@ module _ (w : Width) (t : List ℕ) (n : ℕ) (x : World) (h : Between t x) wher
   unfolding faultIn advance joinState stateBehind
   advance-whole c = (
     grow-whole t x h (unitAt t (x .state .at)) (lineKind t (unitAt t (x .state .at) .word)) refl
-      (clean-place w t n (unitAt t (x .state .at)) (lineKind t (unitAt t (x .state .at) .word)) (places.groundIn (x .state) (openRow x)) (x .state) c)
-      (clean-room w t n (unitAt t (x .state .at)) (lineKind t (unitAt t (x .state .at) .word)) (places.groundIn (x .state) (openRow x)) (x .state) c),
+        (clean-place w t n (unitAt t (x .state .at)) (lineKind t (unitAt t (x .state .at) .word)) (places.groundIn (x .state) (openRow x)) (x .state) c)
+        (clean-room w t n (unitAt t (x .state .at)) (lineKind t (unitAt t (x .state .at) .word)) (places.groundIn (x .state) (openRow x)) (x .state) c),
     section-low (lineKind t (unitAt t (x .state .at) .word)) (x .state .section) (h .section),
   )
 

@@ -5,3 +5,4 @@ pub mod Put
 pub mod Jumps
 pub mod Clean
 pub mod Kept
+pub mod Nested

@@ -95,5 +95,5 @@ module _ (f : ℕ → Row) (c : ℕ) (ok : (n : ℕ) → n < c → stands f n �
           | no e ↦ s .ups i (omega arith)
         ];
         top = either-true (λ (x : ℕ). 1 ≤ x → enters (f (x - 1) .kind) ≡ true) (enters (f j .kind)) (suc j) (f j .up)
-        (λ e l. let z : j ≡ suc j - 1 = omega arith in subst (λ (i : ℕ). enters (f i .kind) ≡ true) z e) (λ e. u);
+            (λ e l. let z : j ≡ suc j - 1 = omega arith in subst (λ (i : ℕ). enters (f i .kind) ≡ true) z e) (λ e. u);
       }

@@ -19,6 +19,10 @@ abbrev pub bare : ℕ → ℕ → ℕ → ℕ → ℕ → Row
 bare kind func scope up b =
     record { kind = kind; func = func; scope = scope; up = up; a = 0; b = b; expr = 0; callee = 0; count = 0; address = Unlisted; operands = [] }
 
+-- those five words of a row
+abbrev pub strip : Row → Row
+strip r = bare (r .kind) (r .func) (r .scope) (r .up) (r .b)
+
 -- a row of the outline: rows of functions and frames count from 1 there
 abbrev pub seen : declared.Row → Row
 seen r = bare (r .kind) (r .func - 1) (r .scope - 1) (r .up) (parametersOf (r .kind) (r .operands))
