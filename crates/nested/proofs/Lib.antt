@@ -6,3 +6,4 @@ pub mod Jumps
 pub mod Clean
 pub mod Kept
 pub mod Nested
+pub mod Frames
