@@ -1,0 +1,42 @@
+-- What a line without a fault says of its place and its list.
+-- Assumes nothing.
+use mathlib.Core.Path.{_≡_, refl, sym, _∙_, ap, subst}
+use mathlib.Core.Bool.{Bool, true, false}
+use mathlib.Core.List.{List, [], _∷_}
+use Prim.Native.Nat.{ℕ, zero, suc, _+_, _-_, _≤_, _<_, min}
+use native.Mathlib.Omega.{arith}
+use Rattle.prelude.specs.Choice.{ifLt, ifEq, ifTrue}
+use Rattle.prelude.specs.Fault.{none, leastOf}
+use Rattle.prelude.proofs.Choice.{either, either-eq, either-true}
+use Rattle.prelude.proofs.Keys.{key-fault}
+use Rattle.limits.specs.declared.Width.{Width}
+use Rattle.kinds.specs.Nesting.{standsIn, rowsOf}
+use Rattle.lines.specs.Tokens.{keyAt, wordAt}
+use Rattle.lines.specs.declared.Span.{Span}
+use Rattle.rules.specs.Rules.{shapeRule, leftRule, tokensRule, listRule, labelsRule}
+use Rattle.parser.specs.Places.{labelRule, placeRule, roomRule, localsRule, depthRule, lineFaults, limitFaults, unitFault}
+use Rattle.parser.specs.declared.State.{State}
+
+key-low : (t : List ℕ) (n i number : ℕ) → number < 64 → keyAt t n i number < none
+unfolding keyAt
+key-low t n i number h = key-fault _ number h
+
+place-by : (t : List ℕ) (n : ℕ) (u : Span) (k g : ℕ) → none ≤ placeRule t n u k g → (standsIn k .lo ≤ g) × (g < standsIn k .hi)
+unfolding placeRule
+place-by t n u k g =
+    either (λ (x : ℕ). none ≤ x → (standsIn k .lo ≤ g) × (g < standsIn k .hi)) g (standsIn k .lo) _ _
+    (λ _ h. let z : ⊥ = omega (arith, key-low t n (u .word) 8 (omega arith)) in absurd z)
+    (λ a. either (λ (x : ℕ). none ≤ x → (standsIn k .lo ≤ g) × (g < standsIn k .hi)) g (standsIn k .hi) _ _ (λ b _. (a, b))
+    (λ _ h. let z : ⊥ = omega (arith, key-low t n (u .word) 8 (omega arith)) in absurd z))
+
+module _ (w : Width) (t : List ℕ) (n : ℕ) (u : Span) (k g : ℕ) (s : State) (c : none ≤ unitFault w t n u k g s) where
+  lines-clean : none ≤ leastOf (lineFaults w t n u k g s)
+  unfolding unitFault
+  lines-clean = omega arith
+
+  place-clean : none ≤ placeRule t n u k g
+  unfolding lineFaults leastOf
+  place-clean = omega (arith, lines-clean)
+
+  pub clean-place : (standsIn k .lo ≤ g) × (g < standsIn k .hi)
+  clean-place = place-by t n u k g place-clean

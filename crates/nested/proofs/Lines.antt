@@ -1,0 +1,157 @@
+-- What kinds lines have: a line that makes rows has a kind that docs/TABLES.md lists, and behind `else` on its line stands a test.
+-- Assumes nothing.
+use mathlib.Core.Path.{_≡_, refl, sym, _∙_, ap, subst}
+use mathlib.Core.Bool.{Bool, true, false, not}
+use mathlib.Core.List.{List, [], _∷_}
+use Prim.Native.Nat.{ℕ, zero, suc, _+_, _-_, _≤_, _<_}
+use native.Mathlib.Decide.{decLt}
+use native.Mathlib.Omega.{arith}
+use borrow.Author.Tests.{eqb-true, eq-eqb, lt-ltb, leb-true, ltb-true}
+use lib.Dec.{eqb, ltb, leb}
+use lib.ListN.{length, getD, List·getD-eq-default}
+use Rattle.prelude.specs.Choice.{ifLt, ifEq, ifTrue}
+use Rattle.prelude.proofs.Choice.{either, either-eq}
+use Rattle.kinds.specs.Nesting.{wordKinds, kindOfWord}
+use Rattle.lines.specs.Tokens.{kindAt, wordAt}
+use Rattle.lines.specs.Lines.{sectionKind, endKind, testKind, elseKind, setKind, symbolKind, otherKind, lineKind}
+use Rattle.tables.specs.Tests.{both, given, all, allBelow}
+use Rattle.tables.specs.Statement.{isTest}
+use Rattle.tables.proofs.Each.{given-then, all-at, below-at}
+use Rattle.tables.proofs.Nested.{not-eq}
+
+-- ---- words
+
+wordFacts : ℕ → ℕ → List Bool
+wordFacts w k =
+    not (eqb k 23) ∷ not (eqb k 24) ∷ not (eqb k 21) ∷ given (ltb 26 w) (isTest k) ∷ given (eqb k 1) (eqb w 9) ∷ []
+
+words-table : allBelow (λ w. all (wordFacts w (kindOfWord w))) 33 ≡ true
+unfolding wordFacts allBelow all isTest kindOfWord ifEq ifLt ifTrue
+words-table = refl
+
+word-fact : (w j : ℕ) → w < 33 → j < 5 → getD (wordFacts w (kindOfWord w)) j true ≡ true
+unfolding wordFacts
+word-fact w j h l = all-at (wordFacts w (kindOfWord w)) j (below-at (λ w. all (wordFacts w (kindOfWord w))) 33 w words-table h) l
+
+word-past : (w : ℕ) → 33 ≤ w → kindOfWord w ≡ 35
+unfolding kindOfWord
+word-past w h = List·getD-eq-default wordKinds 35 h
+
+-- what a word alone decides
+record WordKind (w k : ℕ) : Type 0 where
+  listed : 23 ≤ k → 25 ≤ k
+  no-jump : k ≡ 21 → ⊥
+  function : k ≡ 1 → w ≡ 9
+
+word-kind : (w : ℕ) → WordKind w (kindOfWord w)
+unfolding wordFacts
+word-kind w =
+    elim (decLt w 33) [
+      | yes h ↦
+          let a : (kindOfWord w ≡ 23 → ⊥) = not-eq (kindOfWord w) 23 (word-fact w 0 h (omega arith)) in
+          let b : (kindOfWord w ≡ 24 → ⊥) = not-eq (kindOfWord w) 24 (word-fact w 1 h (omega arith)) in
+          record {
+            listed = λ l. omega arith;
+            no-jump = not-eq (kindOfWord w) 21 (word-fact w 2 h (omega arith));
+            function = λ e. eqb-true _ _ (given-then (eqb (kindOfWord w) 1) (eqb w 9) (word-fact w 4 h (omega arith)) (eq-eqb _ _ e));
+          }
+      | no h ↦
+          let e : kindOfWord w ≡ 35 = word-past w (omega arith) in
+          record { listed = λ l. omega arith; no-jump = λ q. omega arith; function = λ q. omega arith }
+    ]
+
+-- a test's word
+word-test : (w : ℕ) → 27 ≤ w → w < 33 → isTest (kindOfWord w) ≡ true
+unfolding wordFacts
+word-test w a h = given-then (ltb 26 w) (isTest (kindOfWord w)) (word-fact w 3 h (omega arith)) (lt-ltb 26 w a)
+
+-- ---- lines
+
+-- of a line whose first token has the word w, and the next one the word v
+record Line (w v k : ℕ) : Type 0 where
+  listed : 23 ≤ k → 25 ≤ k
+  jump : k ≡ 21 → isTest (kindOfWord v) ≡ true
+  function : k ≡ 1 → w ≡ 9
+
+module _ (w v : ℕ) where
+  other : (k : ℕ) → (23 ≤ k → 25 ≤ k) → (k ≡ 21 → ⊥) → (k ≡ 1 → ⊥) → Line w v k
+  other k a b c = record { listed = a; jump = λ e. absurd (b e); function = λ e. absurd (c e) }
+
+  section-line : (z : ℕ) → Line w v (sectionKind z)
+  unfolding sectionKind
+  section-line z =
+      either-eq (Line w v) z 52 _ _ (λ _. other 25 (λ l. omega arith) (λ e. omega arith) (λ e. omega arith)) (λ _.
+      either-eq (Line w v) z 53 _ _ (λ _. other 26 (λ l. omega arith) (λ e. omega arith) (λ e. omega arith)) (λ _.
+      either-eq (Line w v) z 54 _ _ (λ _. other 34 (λ l. omega arith) (λ e. omega arith) (λ e. omega arith))
+      (λ _. other 35 (λ l. omega arith) (λ e. omega arith) (λ e. omega arith))))
+
+  end-line : (z : ℕ) → Line w v (endKind z)
+  unfolding endKind
+  end-line z =
+      either-eq (Line w v) z 9 _ _ (λ _. other 2 (λ l. omega arith) (λ e. omega arith) (λ e. omega arith)) (λ _.
+      either-eq (Line w v) z 10 _ _ (λ _. other 4 (λ l. omega arith) (λ e. omega arith) (λ e. omega arith)) (λ _.
+      either-eq (Line w v) z 13 _ _ (λ _. other 22 (λ l. omega arith) (λ e. omega arith) (λ e. omega arith)) (λ _.
+      either-eq (Line w v) z 8 _ _ (λ _. other 33 (λ l. omega arith) (λ e. omega arith) (λ e. omega arith))
+      (λ _. other 35 (λ l. omega arith) (λ e. omega arith) (λ e. omega arith)))))
+
+  test-line : Line w v (testKind v)
+  unfolding testKind
+  test-line =
+      either (Line w v) v 27 _ _ (λ _. other 35 (λ l. omega arith) (λ e. omega arith) (λ e. omega arith)) (λ a.
+      either (Line w v) v 33 _ _ (λ b. record { listed = λ l. omega arith; jump = λ e. word-test v a b; function = λ e. omega arith })
+      (λ _. other 35 (λ l. omega arith) (λ e. omega arith) (λ e. omega arith)))
+
+  else-line : (kind : ℕ) → Line w v (elseKind kind v)
+  unfolding elseKind
+  else-line kind =
+      either (Line w v) kind 2 _ _ (λ _. other 20 (λ l. omega arith) (λ e. omega arith) (λ e. omega arith)) (λ _.
+      either-eq (Line w v) kind 3 _ _ (λ _. test-line) (λ _. other 35 (λ l. omega arith) (λ e. omega arith) (λ e. omega arith)))
+
+  set-line : (kind : ℕ) → Line w v (setKind kind)
+  unfolding setKind
+  set-line kind =
+      either-eq (Line w v) kind 5 _ _ (λ _. other 7 (λ l. omega arith) (λ e. omega arith) (λ e. omega arith)) (λ _.
+      either-eq (Line w v) kind 6 _ _ (λ _. other 7 (λ l. omega arith) (λ e. omega arith) (λ e. omega arith)) (λ _.
+      either-eq (Line w v) kind 8 _ _ (λ _. other 7 (λ l. omega arith) (λ e. omega arith) (λ e. omega arith))
+      (λ _. other 6 (λ l. omega arith) (λ e. omega arith) (λ e. omega arith))))
+
+  symbol-line : (kind : ℕ) → Line w v (symbolKind w kind v)
+  unfolding symbolKind
+  symbol-line kind =
+      either-eq (Line w v) w 1 _ _
+      (λ _. either-eq (Line w v) kind 3 _ _ (λ _. section-line v) (λ _. other 35 (λ l. omega arith) (λ e. omega arith) (λ e. omega arith))) (λ _.
+      either-eq (Line w v) w 11 _ _
+      (λ _. either-eq (Line w v) kind 3 _ _ (λ _. end-line v) (λ _. other 35 (λ l. omega arith) (λ e. omega arith) (λ e. omega arith))) (λ _.
+      either-eq (Line w v) w 12 _ _ (λ _. else-line kind) (λ _.
+      either-eq (Line w v) w 18 _ _ (λ _. set-line kind)
+      (λ _. let f = word-kind w in record { listed = f .listed; jump = λ e. absurd (f .no-jump e); function = f .function }))))
+
+  other-line : (kind : ℕ) → Line w v (otherKind kind w)
+  unfolding otherKind
+  other-line kind =
+      either-eq (Line w v) kind 0 _ _ (λ _. other 0 (λ l. omega arith) (λ e. omega arith) (λ e. omega arith)) (λ _.
+      either-eq (Line w v) kind 4 _ _ (λ _. left) (λ _.
+      either-eq (Line w v) kind 6 _ _ (λ _. left) (λ _. other 35 (λ l. omega arith) (λ e. omega arith) (λ e. omega arith))))
+    where
+      left : Line w v (ifEq w 3 34 35)
+      left =
+          either-eq (Line w v) w 3 _ _ (λ _. other 34 (λ l. omega arith) (λ e. omega arith) (λ e. omega arith))
+          (λ _. other 35 (λ l. omega arith) (λ e. omega arith) (λ e. omega arith))
+
+line : (t : List ℕ) (i : ℕ) → Line (wordAt t i) (wordAt t (i + 1)) (lineKind t i)
+unfolding lineKind
+line t i =
+    either-eq (Line (wordAt t i) (wordAt t (i + 1))) (kindAt t i) 3 _ _ (λ _. symbol-line (wordAt t i) (wordAt t (i + 1)) (kindAt t (i + 1)))
+    (λ _. other-line (wordAt t i) (wordAt t (i + 1)) (kindAt t i))
+
+module _ (t : List ℕ) (i : ℕ) where
+  -- no line has the kinds 23 and 24
+  pub line-listed : 23 ≤ lineKind t i → 25 ≤ lineKind t i
+  line-listed = line t i .listed
+
+  -- "An `else if..` line is two statements: a jump to `end if`, then the test"
+  pub line-jump : lineKind t i ≡ 21 → isTest (kindOfWord (wordAt t (i + 1))) ≡ true
+  line-jump = line t i .jump
+
+  pub line-function : lineKind t i ≡ 1 → wordAt t i ≡ 9
+  line-function = line t i .function

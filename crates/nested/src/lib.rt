@@ -1,0 +1,1 @@
+// No code: theorems on the rows of accepted sources.
