@@ -7,3 +7,5 @@ pub mod Clean
 pub mod Kept
 pub mod Nested
 pub mod Frames
+pub mod Depth
+pub mod Locals
