@@ -19,7 +19,7 @@ use Rattle.tables.specs.WellFormed.{shallow}
 use Rattle.tables.proofs.Each.{given-then}
 use Rattle.tables.proofs.Nested.{small, open-some}
 use Rattle.nested.proofs.View.{strip}
-use Rattle.nested.proofs.Standing.{open-same}
+use Rattle.nested.proofs.Standing.{kind-same, open-same}
 use Rattle.nested.proofs.Frames.{frameIn, scope-low, scope-open, frame-low, frame-stays, frame-function, frame-block, end-function, Block, end-block}
 
 pub given-by : (p q : Bool) → (p ≡ true → q ≡ true) → given p q ≡ true
@@ -57,12 +57,6 @@ module _ (f : ℕ → Row) where
 -- ---- views that agree on the first c rows
 
 module _ (f g : ℕ → Row) (c : ℕ) (same : (i : ℕ) → i < c → strip (g i) ≡ strip (f i)) (low : (i : ℕ) → i < c → f i .scope ≤ i) where
-  pub kind-same : (i : ℕ) → i < c → g i .kind ≡ f i .kind
-  kind-same i h = ap (λ (r : Row). r .kind) (same i h)
-
-  pub scope-same : (i : ℕ) → i < c → g i .scope ≡ f i .scope
-  scope-same i h = ap (λ (r : Row). r .scope) (same i h)
-
   pub depth-same : (fuel s : ℕ) → s < c → depthOf g fuel s ≡ depthOf f fuel s
   unfolding depthOf
   depth-same zero s h = refl
@@ -75,7 +69,7 @@ module _ (f g : ℕ → Row) (c : ℕ) (same : (i : ℕ) → i < c → strip (g 
 
   pub shallow-same : (m : ℕ) → m < c → shallow f m ≡ true → shallow g m ≡ true
   unfolding shallow
-  shallow-same m h e = rw (kind-same m h, depth-same 17 m h) e
+  shallow-same m h e = rw (kind-same f g c same m h, depth-same 17 m h) e
 
 -- ---- row after row
 
@@ -137,3 +131,15 @@ module _ (f : ℕ → Row) (c : ℕ) (ok : (n : ℕ) → n < c → stands f n �
         ];
         depth = next-depth;
       }
+
+-- two views that agree on the first c rows
+pub deep-same : (f g : ℕ → Row) (c d : ℕ) → ((n : ℕ) → n < c → stands f n ≡ true) → ((i : ℕ) → i < c → strip (g i) ≡ strip (f i)) → Deep f c d → Deep g c d
+deep-same f g c d ok same p =
+    let o : openBefore g c ≡ openBefore f c = open-same f g c same c (omega arith) in
+    let l : openBefore f c ≤ c = small f c ok c (omega arith) .open-low in
+    record {
+      rows = λ m h. shallow-same f g c same (scope-low f c ok) m h (p .rows m h);
+      depth = λ s. let s′ : 1 ≤ openBefore f c = omega arith in
+          ap (λ (i : ℕ). depthOf g 17 (frameIn g i)) o ∙ ap (depthOf g 17) (frame-same f g c same (scope-low f c ok) (openBefore f c) s′ l)
+          ∙ depth-same f g c same (scope-low f c ok) 17 (frameIn f (openBefore f c)) (omega (arith, frame-low f c ok (openBefore f c) s′ l)) ∙ p .depth s′;
+    }

@@ -9,3 +9,4 @@ pub mod Nested
 pub mod Frames
 pub mod Depth
 pub mod Locals
+pub mod Bounds

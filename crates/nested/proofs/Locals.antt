@@ -20,9 +20,9 @@ use Rattle.tables.specs.WellFormed.{fewLocals}
 use Rattle.tables.proofs.Each.{both-true, given-then}
 use Rattle.tables.proofs.Nested.{here, small, open-some, func-open, Held, held}
 use Rattle.nested.proofs.View.{strip}
-use Rattle.nested.proofs.Standing.{open-same}
+use Rattle.nested.proofs.Standing.{kind-same, func-same, scope-same, own-same, open-same}
 use Rattle.nested.proofs.Frames.{frameIn, open-low, scope-low, scope-open, frame-low, func-stays, frame-stays, frame-function, frame-block, end-function, Block, end-block, inner}
-use Rattle.nested.proofs.Depth.{given-by, Deep, depth-in, kind-same, scope-same, frame-same}
+use Rattle.nested.proofs.Depth.{given-by, Deep, depth-in, frame-same}
 
 -- ---- counts
 
@@ -257,14 +257,11 @@ module _ (f : ℕ → Row) (c : ℕ) (ok : (n : ℕ) → n < c → stands f n �
 -- ---- views that agree on the first c rows
 
 module _ (f g : ℕ → Row) (c : ℕ) (ok : (n : ℕ) → n < c → stands f n ≡ true) (same : (i : ℕ) → i < c → strip (g i) ≡ strip (f i)) where
-  func-same : (i : ℕ) → i < c → g i .func ≡ f i .func
-  func-same i h = ap (λ (r : Row). r .func) (same i h)
-
   func-low : (i : ℕ) → i < c → f i .func < c
   func-low i h = omega (arith, held f c ok c (omega arith) i h .before)
 
   parameters-same : (i : ℕ) → i < c → g (g i .func) .b ≡ f (f i .func) .b
-  parameters-same i h = ap (λ (n : ℕ). g n .b) (func-same i h) ∙ ap (λ (r : Row). r .b) (same (f i .func) (func-low i h))
+  parameters-same i h = ap (λ (n : ℕ). g n .b) (func-same f g c same i h) ∙ own-same f g c same (f i .func) (func-low i h)
 
   enc-same : (fuel e s : ℕ) → s < c → encloses g fuel e s ≡ encloses f fuel e s
   unfolding encloses
@@ -285,14 +282,25 @@ module _ (f g : ℕ → Row) (c : ℕ) (ok : (n : ℕ) → n < c → stands f n 
   locals-same : (m : ℕ) → m < c → localsAt g m ≡ localsAt f m
   unfolding localsAt
   locals-same m h =
-      ap₂ (λ (b s : ℕ). b + countBelow (letSeen g s) m) (parameters-same m h) (scope-same f g c same (scope-low f c ok) m h)
+      ap₂ (λ (b s : ℕ). b + countBelow (letSeen g s) m) (parameters-same m h) (scope-same f g c same m h)
       ∙ ap (λ (n : ℕ). f (f m .func) .b + n) (count-same (f m .scope) m (omega (arith, scope-low f c ok m h)) (omega arith))
 
   pub few-same : (m : ℕ) → m < c → fewLocals f m ≡ true → fewLocals g m ≡ true
   unfolding fewLocals
-  few-same m h e = rw (kind-same f g c same (scope-low f c ok) m h, locals-same m h, ap (λ (r : Row). r .b) (same m h)) e
+  few-same m h e = rw (kind-same f g c same m h, locals-same m h, own-same f g c same m h) e
 
   in-same : (o : ℕ) → 1 ≤ o → o ≤ c → localsIn g o c ≡ localsIn f o c
   in-same o l h =
       ap₂ (λ (b s : ℕ). b + countBelow (letSeen g s) c) (parameters-same (o - 1) (omega arith)) (frame-same f g c same (scope-low f c ok) o l h)
       ∙ ap (λ (n : ℕ). f (f (o - 1) .func) .b + n) (count-same (frameIn f o) c (omega (arith, frame-low f c ok o l h)) (omega arith))
+
+  pub few-alike : (before after : ℕ → ℕ) (v : ℕ) → ((i : ℕ) → i < c → after i ≡ before i) → Few f before c v → Few g after c v
+  few-alike before after v held p =
+      let o : openBefore g c ≡ openBefore f c = open-same f g c same c (omega arith) in
+      let l : openBefore f c ≤ c = open-low f c ok c (omega arith) in
+      record {
+        rows = λ m h. few-same m h (p .rows m h);
+        blocks = λ m h k. held m h ∙ p .blocks m h (sym (kind-same f g c same m h) ∙ k) ∙ sym (locals-same m h);
+        locals = λ s. let s′ : 1 ≤ openBefore f c = omega arith in
+            ap (λ (i : ℕ). localsIn g i c) o ∙ in-same (openBefore f c) s′ l ∙ p .locals s′;
+      }

@@ -56,17 +56,6 @@ module _ (x : List ℕ) (c : ℕ) (h : c ≤ 1024) where
   strip-is m l =
       rw (kind-is x c h m l, func-is x c h m l, scope-is x c h m l, up-is x c h m l, parameters-are x c h m l, add-one m) refl
 
--- nesting looks at no other words
-open-strip : (f : ℕ → Row) (n : ℕ) → openBefore (λ i. strip (f i)) n ≡ openBefore f n
-unfolding openBefore behind
-open-strip f zero = refl
-open-strip f (suc n) = refl
-
-stands-strip : (f : ℕ → Row) (n : ℕ) → stands (λ i. strip (f i)) n ≡ stands f n
-unfolding stands openBefore behind groundIn funcIn scopeIn upIn followsJump
-stands-strip f zero = refl
-stands-strip f (suc n) = refl
-
 module _ (w : Width) (t : List ℕ) (n c l : ℕ) (e : length t ≡ 32768) (a : outlineOf w t n .answer ≡ answer.Accepted c l) where
   pub accepted-formed : Formed (outlineOf w t n .rows) c 0 × (c ≤ 1024)
   accepted-formed = subst (λ (p : Parsed). NestsAnswer p (outlineOf w t n .rows)) a (outline-nests w t n e)
@@ -80,11 +69,10 @@ module _ (w : Width) (t : List ℕ) (n c l : ℕ) (e : length t ≡ 32768) (a : 
   -- "each function, `if` and block closed by its own `end`, no `let` in an `if` of its frame"
   pub rows-stand : (m : ℕ) → m < c → stands (rowAt (skeletonOf (outlineOf w t n .rows) c)) m ≡ true
   rows-stand m h =
-      sym (stands-strip (rowAt (skeletonOf x c)) m)
-      ∙ stands-same (viewOf x) (λ i. strip (rowAt (skeletonOf x c) i)) c rows-alike (accepted-formed .0 .rows) m h
+      stands-same (viewOf x) (rowAt (skeletonOf x c)) c rows-alike (accepted-formed .0 .rows) m h
 
   pub rows-closed : allClosed (rowAt (skeletonOf (outlineOf w t n .rows) c)) c ≡ true
   unfolding allClosed
   rows-closed =
       eq-eqb _ _
-      (sym (open-strip (rowAt (skeletonOf x c)) c) ∙ open-same (viewOf x) (λ i. strip (rowAt (skeletonOf x c) i)) c rows-alike c (omega arith) ∙ accepted-formed .0 .last)
+      (open-same (viewOf x) (rowAt (skeletonOf x c)) c rows-alike c (omega arith) ∙ accepted-formed .0 .last)
