@@ -10,6 +10,14 @@ use native.Mathlib.Omega.{arith}
 use lib.ListN.{length}
 use Rattle.prelude.specs.Choice.{ifLt, ifEq, ifTrue}
 use Rattle.prelude.proofs.Choice.{either, either-eq, ifEq-yes, ifEq-no}
+use Rattle.prelude.specs.Fault.{none}
+use Rattle.prelude.specs.Lists.{zeros}
+use Rattle.prelude.specs.Walk.{Step, go, stop}
+use Rattle.prelude.proofs.Walk.{Kept, walk-kept}
+use Rattle.limits.specs.declared.Width.{Width}
+use Rattle.parser.specs.declared.Verdict.{Verdict}
+use Rattle.parser.specs.declared.Verdict.the-variants.{Accepted, Refused}
+use Rattle.parser.proofs.Bounds.{clean-room, clean-lets, clean-deep}
 use Rattle.parser.specs.Outline as outline
 use Rattle.parser.specs.Outline.{putRow}
 use Rattle.parser.specs.declared.Row as declared
@@ -25,6 +33,7 @@ use Rattle.skeleton.specs.Skeleton.{parametersOf}
 use Rattle.tables.specs.Tests.{given}
 use Rattle.tables.specs.Statement.{Row, isTest}
 use Rattle.tables.specs.Nesting.{openBefore, groundIn, isListed, mayStand, followsJump, stands}
+use Rattle.tables.specs.WellFormed.{shallow, fewLocals}
 use Rattle.nested.proofs.View.{strip, seen, viewOf, put-same, put-other}
 use Rattle.nested.proofs.Standing.{open-same}
 use Rattle.nested.proofs.Put.{Formed, old, new, put-formed, top-low, top-some, open-is}
@@ -224,3 +233,78 @@ module _ (t : List ℕ) (x : World) (h : Between t x) (u : Span) (k : ℕ) (pk :
   grow-behind =
       either-eq (λ (y : World). Behind y d v) (rowsOf k) 0 _ _ none-behind (λ a.
       either-eq (λ (y : World). Behind y d v) (rowsOf k) 1 _ _ one-behind (λ b. let r = rows-two k a b in two-behind (r .0) (r .1)))
+
+-- ---- a turn
+
+abbrev BehindOf : World → Type 0
+BehindOf x = Behind x (x .state .depth) (x .state .locals)
+
+-- an answer: of an accepted source all rows are shallow and have few locals
+pub record Bounded (x : List ℕ) (n : ℕ) : Type 0 where
+  pub c : ℕ
+  pub count : n ≡ suc c
+  pub rows-shallow : (m : ℕ) → m < c → shallow (viewOf x) m ≡ true
+  pub rows-few : (m : ℕ) → m < c → fewLocals (viewOf x) m ≡ true
+
+abbrev pub Bounds : Verdict → List ℕ → Type 0
+Bounds (Accepted count labels) x = Bounded x count
+Bounds (Refused k) x = Unit {0}
+
+abbrev Onward : Step World Result → Type 0
+Onward (go x) = BehindOf x
+Onward (stop r) = Bounds (r .verdict) (r .outline)
+
+abbrev pub Ready : List ℕ → World → Type 0
+Ready t x = Between t x × BehindOf x
+
+abbrev pub Answers : Result → Type 0
+Answers r = Nests (r .verdict) (r .outline) × Bounds (r .verdict) (r .outline)
+
+module _ (w : Width) (t : List ℕ) (n : ℕ) (x : World) (h : Between t x) (b : BehindOf x) where
+  counted-here : Counted x (h .whole .c) (x .state .depth) (x .state .locals)
+  counted-here =
+      let e : b .c ≡ h .whole .c = omega (arith, b .count, h .whole .rows .count) in
+      subst (λ (i : ℕ). Counted x i (x .state .depth) (x .state .locals)) e (b .counted)
+
+  advance-behind : none ≤ faultIn w t n (unitAt t (x .state .at)) x → BehindOf (advance t n (unitAt t (x .state .at)) (lineKind t (unitAt t (x .state .at) .word)) x)
+  unfolding faultIn advance joinState stateBehind openRow
+  advance-behind c =
+      let r = grow-behind t x h (unitAt t (x .state .at)) (lineKind t (unitAt t (x .state .at) .word)) refl
+      (clean-place w t n (unitAt t (x .state .at)) (lineKind t (unitAt t (x .state .at) .word)) (places.groundIn (x .state) (openRow x)) (x .state) c)
+      (clean-room w t n (unitAt t (x .state .at)) (lineKind t (unitAt t (x .state .at) .word)) (places.groundIn (x .state) (openRow x)) (x .state) c) counted-here
+      (clean-deep w t n (unitAt t (x .state .at)) (lineKind t (unitAt t (x .state .at) .word)) (places.groundIn (x .state) (openRow x)) (x .state) c)
+      (clean-list w t n (unitAt t (x .state .at)) (lineKind t (unitAt t (x .state .at) .word)) (places.groundIn (x .state) (openRow x)) (x .state) c refl)
+      (clean-lets w t n (unitAt t (x .state .at)) (lineKind t (unitAt t (x .state .at) .word)) (places.groundIn (x .state) (openRow x)) (x .state) c) in
+      record { c = r .c; count = r .count; counted = record { deep = r .counted .deep; few = r .counted .few } }
+
+  turn-onward : Onward (turnOf w t n x)
+  unfolding turnOf turnOn
+  turn-onward =
+      either Onward (faultIn w t n (unitAt t (x .state .at)) x) none _ _ (λ _. tt) (λ c.
+      either-eq Onward (lineKind t (unitAt t (x .state .at) .word)) 0 _ _
+      (λ e. record { c = b .c; count = b .count; rows-shallow = b .counted .deep .rows; rows-few = b .counted .few .rows }) (λ _. advance-behind c))
+
+  pub turn-ready : Kept (Ready t) Answers (turnOf w t n x)
+  turn-ready = by (turnOf w t n x) (turn-between w t n x h) turn-onward
+    where
+      by : (s : Step World Result) → Kept (Between t) (λ (r : Result). Nests (r .verdict) (r .outline)) s → Onward s → Kept (Ready t) Answers s
+      by (go y) g f = (g, f)
+      by (stop r) g f = (g, f)
+
+begin-behind : BehindOf (world begin (zeros 8200))
+unfolding openBefore
+begin-behind =
+    record {
+      c = 0;
+      count = refl;
+      counted = record {
+        deep = record { rows = λ m l. absurd (not-suc-le-zero l); depth = λ l. absurd (not-suc-le-zero l) };
+        few = record { rows = λ m l. absurd (not-suc-le-zero l); blocks = λ m l. absurd (not-suc-le-zero l); locals = λ l. absurd (not-suc-le-zero l) };
+      };
+    }
+
+pub parse-answers : (w : Width) (t : List ℕ) (n : ℕ) → length t ≡ 32768 → Answers (parseOf w t n)
+unfolding parseOf parseFrom
+parse-answers w t n e =
+    walk-kept (Ready t) Answers (turnOf w t n) (result (Refused none) []) (tt, tt) (λ x g. turn-ready w t n x (g .0) (g .1))
+    (suc (length t)) (world begin (zeros 8200)) (begin-between t e, begin-behind)

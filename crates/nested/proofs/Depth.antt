@@ -111,15 +111,15 @@ module _ (f : ℕ → Row) (c : ℕ) (ok : (n : ℕ) → n < c → stands f n �
       elim (ℕ-discrete (f j .kind) 1) [
         | yes e ↦ λ l. ap (depthOf f 17) (frame-function f c ok j e) ∙ depth-out f 16 j (λ q. omega arith) ∙ sym (ifEq-yes _ _ e)
         | no a ↦ elim (ℕ-discrete (f j .kind) 3) [
-            | yes e ↦ λ l. ap (depthOf f 17) (frame-block f c ok j e) ∙ block-depth e ∙ sym (ifEq-no _ _ a ∙ ifEq-yes _ _ e ∙ omega arith)
-            | no b ↦ elim (ℕ-discrete (f j .kind) 4) [
-                | yes e ↦ λ l. end-depth e ∙ sym (ifEq-no _ _ a ∙ ifEq-no _ _ b ∙ ifEq-yes _ _ e)
-                | no g ↦ elim (ℕ-discrete (f j .kind) 2) [
-                    | yes e ↦ λ l. absurd (omega (arith, end-function f c ok j h e))
-                    | no i ↦ λ l. ap (depthOf f 17) (frame-stays f c ok j h a i b g) ∙ open-here a ∙ sym (ifEq-no _ _ a ∙ ifEq-no _ _ b ∙ ifEq-no _ _ g)
-                  ]
-              ]
+          | yes e ↦ λ l. ap (depthOf f 17) (frame-block f c ok j e) ∙ block-depth e ∙ sym (ifEq-no _ _ a ∙ ifEq-yes _ _ e ∙ omega arith)
+          | no b ↦ elim (ℕ-discrete (f j .kind) 4) [
+            | yes e ↦ λ l. end-depth e ∙ sym (ifEq-no _ _ a ∙ ifEq-no _ _ b ∙ ifEq-yes _ _ e)
+            | no g ↦ elim (ℕ-discrete (f j .kind) 2) [
+              | yes e ↦ λ l. absurd (omega (arith, end-function f c ok j h e))
+              | no i ↦ λ l. ap (depthOf f 17) (frame-stays f c ok j h a i b g) ∙ open-here a ∙ sym (ifEq-no _ _ a ∙ ifEq-no _ _ b ∙ ifEq-no _ _ g)
+            ]
           ]
+        ]
       ]
 
   pub deep-next : Deep f (suc j) (depthBehind (f j .kind) d)

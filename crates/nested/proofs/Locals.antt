@@ -77,17 +77,17 @@ module _ (f : ℕ → Row) where
       elim (ℕ-discrete s e) [
         | yes q ↦ enc-here 0 e s q ∙ sym (enc-first e s q)
         | no q ↦ elim (ℕ-discrete (f s .kind) 3) [
-            | yes k ↦ absurd (omega (arith, depth-in f 0 s k))
-            | no k ↦ enc-out 0 e s q k ∙ sym (enc-last e s q)
-          ]
+          | yes k ↦ absurd (omega (arith, depth-in f 0 s k))
+          | no k ↦ enc-out 0 e s q k ∙ sym (enc-last e s q)
+        ]
       ]
   enc-less (suc fuel) e s h =
       elim (ℕ-discrete s e) [
         | yes q ↦ enc-here (suc fuel) e s q ∙ sym (enc-here fuel e s q)
         | no q ↦ elim (ℕ-discrete (f s .kind) 3) [
-            | yes k ↦ enc-in (suc fuel) e s q k ∙ enc-less fuel e (f s .scope) (omega (arith, depth-in f (suc fuel) s k)) ∙ sym (enc-in fuel e s q k)
-            | no k ↦ enc-out (suc fuel) e s q k ∙ sym (enc-out fuel e s q k)
-          ]
+          | yes k ↦ enc-in (suc fuel) e s q k ∙ enc-less fuel e (f s .scope) (omega (arith, depth-in f (suc fuel) s k)) ∙ sym (enc-in fuel e s q k)
+          | no k ↦ enc-out (suc fuel) e s q k ∙ sym (enc-out fuel e s q k)
+        ]
       ]
 
   -- a frame behind s is not around it
@@ -192,9 +192,9 @@ module _ (f : ℕ → Row) (c : ℕ) (ok : (n : ℕ) → n < c → stands f n �
         elim (ℕ-discrete i j) [
           | yes z ↦ let-no f _ i (λ y. let x : f j .kind ≡ 5 = ap (λ (x : ℕ). f x .kind) (sym z) ∙ y in omega arith)
           | no z ↦ elim (ℕ-discrete i (b .q)) [
-              | yes y ↦ let-no f _ i (λ x. let w : f (b .q) .kind ≡ 5 = ap (λ (x : ℕ). f x .kind) (sym y) ∙ x in omega (arith, b .kind))
-              | no y ↦ let-far f _ i (enc-low f c (scope-low f c ok) 17 (f i .scope) (f (b .q) .scope) (omega (arith, outside, b .below)) (omega (arith, outside, within y z)))
-            ]
+            | yes y ↦ let-no f _ i (λ x. let w : f (b .q) .kind ≡ 5 = ap (λ (x : ℕ). f x .kind) (sym y) ∙ x in omega (arith, b .kind))
+            | no y ↦ let-far f _ i (enc-low f c (scope-low f c ok) 17 (f i .scope) (f (b .q) .scope) (omega (arith, outside, b .below)) (omega (arith, outside, within y z)))
+          ]
         ]
       where
         outside : f (b .q) .scope < b .q
@@ -223,20 +223,20 @@ module _ (f : ℕ → Row) (c : ℕ) (ok : (n : ℕ) → n < c → stands f n �
       elim (ℕ-discrete (f j .kind) 1) [
         | yes e ↦ λ l. next-in j l (frame-function f c ok j e) ∙ function-count e ∙ sym (ifEq-yes _ _ e)
         | no a ↦ elim (ℕ-discrete (f j .kind) 5) [
-            | yes e ↦ λ l. next-in (f j .scope) l (frame-stays f c ok j h a (λ q. omega arith) (λ q. omega arith) (λ q. omega arith)) ∙ let-count e ∙ sym (ifEq-no _ _ a ∙ ifEq-yes _ _ e)
-            | no g ↦ elim (ℕ-discrete (f j .kind) 4) [
-                | yes e ↦ λ l. let b : Block f c ok j = end-block f c ok j h e in
-                    let z : b .q ≡ openBefore f j - 1 = omega (arith, b .opened) in
-                    next-in (f (b .q) .scope) l (b .outer) ∙ end-count e b ∙ ap before z ∙ sym (ifEq-no _ _ a ∙ ifEq-no _ _ g ∙ ifEq-yes _ _ e)
-                | no i ↦ elim (ℕ-discrete (f j .kind) 3) [
-                    | yes e ↦ λ l. next-in j l (frame-block f c ok j e) ∙ block-count e ∙ sym (ifEq-no _ _ a ∙ ifEq-no _ _ g ∙ ifEq-no _ _ i)
-                    | no k ↦ elim (ℕ-discrete (f j .kind) 2) [
-                        | yes e ↦ λ l. absurd (omega (arith, end-function f c ok j h e))
-                        | no m ↦ λ l. next-in (f j .scope) l (frame-stays f c ok j h a m k i) ∙ plain-count a g ∙ sym (ifEq-no _ _ a ∙ ifEq-no _ _ g ∙ ifEq-no _ _ i)
-                      ]
-                  ]
+          | yes e ↦ λ l. next-in (f j .scope) l (frame-stays f c ok j h a (λ q. omega arith) (λ q. omega arith) (λ q. omega arith)) ∙ let-count e ∙ sym (ifEq-no _ _ a ∙ ifEq-yes _ _ e)
+          | no g ↦ elim (ℕ-discrete (f j .kind) 4) [
+            | yes e ↦ λ l. let b : Block f c ok j = end-block f c ok j h e in
+                let z : b .q ≡ openBefore f j - 1 = omega (arith, b .opened) in
+                next-in (f (b .q) .scope) l (b .outer) ∙ end-count e b ∙ ap before z ∙ sym (ifEq-no _ _ a ∙ ifEq-no _ _ g ∙ ifEq-yes _ _ e)
+            | no i ↦ elim (ℕ-discrete (f j .kind) 3) [
+              | yes e ↦ λ l. next-in j l (frame-block f c ok j e) ∙ block-count e ∙ sym (ifEq-no _ _ a ∙ ifEq-no _ _ g ∙ ifEq-no _ _ i)
+              | no k ↦ elim (ℕ-discrete (f j .kind) 2) [
+                | yes e ↦ λ l. absurd (omega (arith, end-function f c ok j h e))
+                | no m ↦ λ l. next-in (f j .scope) l (frame-stays f c ok j h a m k i) ∙ plain-count a g ∙ sym (ifEq-no _ _ a ∙ ifEq-no _ _ g ∙ ifEq-no _ _ i)
               ]
+            ]
           ]
+        ]
       ]
 
   pub few-next : Few f before (suc j) (localsBehind (f j .kind) (f j .b) (before (openBefore f j - 1)) v)
