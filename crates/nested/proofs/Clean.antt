@@ -7,13 +7,17 @@ use Prim.Native.Nat.{ℕ, zero, suc, _+_, _-_, _≤_, _<_, min}
 use native.Mathlib.Omega.{arith}
 use Rattle.prelude.specs.Choice.{ifLt, ifEq, ifTrue}
 use Rattle.prelude.specs.Fault.{none, leastOf}
-use Rattle.prelude.proofs.Choice.{either, either-eq, either-true}
+use Rattle.prelude.proofs.Choice.{either, ifEq-yes, ifTrue-yes}
 use Rattle.prelude.proofs.Keys.{key-fault}
 use Rattle.limits.specs.declared.Width.{Width}
 use Rattle.kinds.specs.Nesting.{standsIn, rowsOf}
 use Rattle.lines.specs.Tokens.{keyAt, wordAt}
 use Rattle.lines.specs.declared.Span.{Span}
-use Rattle.rules.specs.Rules.{shapeRule, leftRule, tokensRule, listRule, labelsRule}
+use Rattle.rules.specs.Rules.{shapeRule, leftRule, tokensRule, pastMost, listRule, labelsRule}
+use Rattle.shapes.specs.Shapes.{operandCount, isListed}
+use Rattle.vocabulary.specs.Words.{words, mostOperands, entryOf, firstOf, isNumber}
+use Rattle.lines.specs.Lines.{lineKind}
+use Rattle.nested.proofs.Lines.{line-function}
 use Rattle.parser.specs.Places.{labelRule, placeRule, roomRule, localsRule, depthRule, lineFaults, limitFaults, unitFault}
 use Rattle.parser.specs.declared.State.{State}
 
@@ -29,6 +33,20 @@ place-by t n u k g =
     (λ a. either (λ (x : ℕ). none ≤ x → (standsIn k .lo ≤ g) × (g < standsIn k .hi)) g (standsIn k .hi) _ _ (λ b _. (a, b))
     (λ _ h. let z : ⊥ = omega (arith, key-low t n (u .word) 8 (omega arith)) in absurd z))
 
+-- a function has at most 8 parameters
+function-most : mostOperands 9 ≡ 8
+unfolding mostOperands entryOf firstOf isNumber words
+function-most = refl
+
+list-by : (t : List ℕ) (n : ℕ) (u : Span) (k : ℕ) → k ≡ 1 → wordAt t (u .word) ≡ 9 → none ≤ listRule t n u k → operandCount u ≤ 8
+unfolding listRule pastMost isListed
+list-by t n u k e q h =
+    let m : mostOperands (wordAt t (u .word)) ≡ 8 = ap mostOperands q ∙ function-most in
+    let z : ifLt (u .word + 1 + mostOperands (wordAt t (u .word))) (u .next) (keyAt t n (u .word + 1 + mostOperands (wordAt t (u .word))) 14) none ≡ listRule t n u k = sym (ifTrue-yes _ _ (ifEq-yes _ _ e)) in
+    either (λ (x : ℕ). none ≤ x → operandCount u ≤ 8) (u .word + 1 + mostOperands (wordAt t (u .word))) (u .next) (keyAt t n (u .word + 1 + mostOperands (wordAt t (u .word))) 14) none
+    (λ _ h. let z : ⊥ = omega (arith, key-low t n (u .word + 1 + mostOperands (wordAt t (u .word))) 14 (omega arith)) in absurd z) (λ l _. omega arith)
+    (omega arith)
+
 module _ (w : Width) (t : List ℕ) (n : ℕ) (u : Span) (k g : ℕ) (s : State) (c : none ≤ unitFault w t n u k g s) where
   lines-clean : none ≤ leastOf (lineFaults w t n u k g s)
   unfolding unitFault
@@ -40,3 +58,14 @@ module _ (w : Width) (t : List ℕ) (n : ℕ) (u : Span) (k g : ℕ) (s : State)
 
   pub clean-place : (standsIn k .lo ≤ g) × (g < standsIn k .hi)
   clean-place = place-by t n u k g place-clean
+
+  limits-clean : none ≤ leastOf (limitFaults t n u k s)
+  unfolding unitFault
+  limits-clean = omega arith
+
+  list-clean : none ≤ listRule t n u k
+  unfolding limitFaults leastOf
+  list-clean = omega (arith, limits-clean)
+
+  pub clean-list : k ≡ lineKind t (u .word) → k ≡ 1 → operandCount u ≤ 8
+  clean-list p e = list-by t n u k e (line-function t (u .word) (sym p ∙ e)) list-clean

@@ -323,9 +323,9 @@ module _ (f : ℕ → Row) (c : ℕ) (ok : (n : ℕ) → n < c → stands f n �
             rows = λ l i a b. elim (decLt i (openBefore f p)) [
               | no d ↦ omega (arith, m l, tops s i (omega arith) b)
               | yes d ↦ elim (ℕ-discrete i (openBefore f p - 1)) [
-                  | yes y ↦ subst (λ (i : ℕ). frameIn f (f p .up) ≤ f i .scope) (sym y) (omega (arith, ap (frameIn f) u, q .own (omega arith)))
-                  | no y ↦ omega (arith, ap (frameIn f) u, q .rows (omega arith) i (omega arith) (omega arith))
-                ]
+                | yes y ↦ subst (λ (i : ℕ). frameIn f (f p .up) ≤ f i .scope) (sym y) (omega (arith, ap (frameIn f) u, q .own (omega arith)))
+                | no y ↦ omega (arith, ap (frameIn f) u, q .rows (omega arith) i (omega arith) (omega arith))
+              ]
             ];
           }
 

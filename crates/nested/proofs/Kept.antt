@@ -55,14 +55,21 @@ rows-some k =
     either-eq (λ (m : ℕ). (m ≡ 0 → ⊥) → (1 ≤ k) × (k < 25)) k 21 _ _ (λ e q. (omega arith, omega arith)) (λ b.
     either (λ (m : ℕ). (m ≡ 0 → ⊥) → (1 ≤ k) × (k < 25)) k 25 _ _ (λ l q. (omega arith, l)) (λ l q. absurd (q refl))))
 
-rows-two : (k : ℕ) → (rowsOf k ≡ 0 → ⊥) → (rowsOf k ≡ 1 → ⊥) → (k ≡ 21) × (rowsOf k ≡ 2)
+pub rows-two : (k : ℕ) → (rowsOf k ≡ 0 → ⊥) → (rowsOf k ≡ 1 → ⊥) → (k ≡ 21) × (rowsOf k ≡ 2)
 unfolding rowsOf
 rows-two k =
     either-eq (λ (m : ℕ). (m ≡ 0 → ⊥) → (m ≡ 1 → ⊥) → (k ≡ 21) × (m ≡ 2)) k 0 _ _ (λ _ p q. absurd (p refl)) (λ a.
     either-eq (λ (m : ℕ). (m ≡ 0 → ⊥) → (m ≡ 1 → ⊥) → (k ≡ 21) × (m ≡ 2)) k 21 _ _ (λ e p q. (e, refl)) (λ b.
     either (λ (m : ℕ). (m ≡ 0 → ⊥) → (m ≡ 1 → ⊥) → (k ≡ 21) × (m ≡ 2)) k 25 _ _ (λ l p q. absurd (q refl)) (λ l p q. absurd (p refl))))
 
-rows-one : (k : ℕ) → rowsOf k ≡ 1 → k ≡ 21 → ⊥
+pub rows-none : (k : ℕ) → rowsOf k ≡ 0 → 1 ≤ k → 25 ≤ k
+unfolding rowsOf
+rows-none k =
+    either-eq (λ (m : ℕ). m ≡ 0 → 1 ≤ k → 25 ≤ k) k 0 _ _ (λ e p q. omega arith) (λ a.
+    either-eq (λ (m : ℕ). m ≡ 0 → 1 ≤ k → 25 ≤ k) k 21 _ _ (λ e p q. omega arith) (λ b.
+    either (λ (m : ℕ). m ≡ 0 → 1 ≤ k → 25 ≤ k) k 25 _ _ (λ l p q. omega arith) (λ l p q. l)))
+
+pub rows-one : (k : ℕ) → rowsOf k ≡ 1 → k ≡ 21 → ⊥
 unfolding rowsOf
 rows-one k e q = let z : rowsOf k ≡ 2 = ifEq-no _ _ (λ d. omega arith) ∙ ifEq-yes _ _ q in omega arith
 
@@ -157,10 +164,10 @@ line-ground x k l s a b =
       | no z ↦ subst (λ (i : ℕ). mayStand k i ≡ true) (open-ground x z) (on-ground k (places.groundIn (x .state) (openRow x)) a b)
     ]
 
-abbrev RowsOf : World → ℕ → Type 0
+abbrev pub RowsOf : World → ℕ → Type 0
 RowsOf x c = Rows (x .table) c (x .state .count) (x .state .top)
 
-abbrev WholeOf : World → Type 0
+abbrev pub WholeOf : World → Type 0
 WholeOf x = Whole (x .table) (x .state .count) (x .state .top)
 
 -- what stands between two units
@@ -170,25 +177,25 @@ pub record Between (t : List ℕ) (x : World) : Type 0 where
   pub whole : WholeOf x
   pub section : x .state .section < 4
 
-length-put : (k token next operands : ℕ) (x : World) → x .state .count ≤ 1024 → length (x .table) ≡ 8200 → length (putKind k token next operands x .table) ≡ 8200
+pub length-put : (k token next operands : ℕ) (x : World) → x .state .count ≤ 1024 → length (x .table) ≡ 8200 → length (putKind k token next operands x .table) ≡ 8200
 unfolding putKind
 length-put k token next operands x h l = ap length (sym (row-put (x .table) (x .state .count) _ (omega arith))) ∙ (simp length-set) ∙ l
 
-count-put : (k token next operands : ℕ) (x : World) → putKind k token next operands x .state .count ≡ x .state .count + 1
+pub count-put : (k token next operands : ℕ) (x : World) → putKind k token next operands x .state .count ≡ x .state .count + 1
 unfolding putKind putState
 count-put k token next operands x = refl
 
-test-listed : (k : ℕ) → isTest k ≡ true → isListed k ≡ true
+pub test-listed : (k : ℕ) → isTest k ≡ true → isListed k ≡ true
 test-listed k h = let b = test-between k h in is-listed k (omega (arith, b .0)) (omega (arith, b .1))
 
 -- the test behind an else-if jump
 module _ (y : World) (c : ℕ) (a : RowsOf y (suc c)) (v : viewOf (y .table) c .kind ≡ 21) (few : y .state .count ≤ 1024) (long : length (y .table) ≡ 8200)
     (k token next operands : ℕ) (i : isTest k ≡ true) where
-  second-ground : mayStand k (groundIn (viewOf (y .table)) (y .state .top)) ≡ true
+  pub second-ground : mayStand k (groundIn (viewOf (y .table)) (y .state .top)) ≡ true
   second-ground =
       rw (← a .formed .last) (jump-ground (viewOf (y .table)) (suc c) (a .formed .rows) c (omega arith) v k i)
 
-  second-jump : given (followsJump (viewOf (y .table)) (suc c)) (isTest k) ≡ true
+  pub second-jump : given (followsJump (viewOf (y .table)) (suc c)) (isTest k) ≡ true
   second-jump = given-second (followsJump (viewOf (y .table)) (suc c)) (isTest k) i
 
   second-whole : WholeOf (putKind k token next operands y)
@@ -202,10 +209,10 @@ module _ (y : World) (c : ℕ) (a : RowsOf y (suc c)) (v : viewOf (y .table) c .
 
 module _ (t : List ℕ) (x : World) (h : Between t x) (u : Span) (k : ℕ) (pk : k ≡ lineKind t (u .word))
     (place : (standsIn k .lo ≤ places.groundIn (x .state) (openRow x)) × (places.groundIn (x .state) (openRow x) < standsIn k .hi)) (room : rowsOf k ≤ 1025 - x .state .count) where
-  row-listed : (rowsOf k ≡ 0 → ⊥) → isListed k ≡ true
+  pub row-listed : (rowsOf k ≡ 0 → ⊥) → isListed k ≡ true
   row-listed q = rw pk (line-row t (u .word) (rw pk at q))
 
-  row-ground : isListed k ≡ true → mayStand k (groundIn (viewOf (x .table)) (x .state .top)) ≡ true
+  pub row-ground : isListed k ≡ true → mayStand k (groundIn (viewOf (x .table)) (x .state .top)) ≡ true
   row-ground l = line-ground x k l (h .section) (place .0) (place .1)
 
   abbrev c : ℕ
@@ -214,7 +221,7 @@ module _ (t : List ℕ) (x : World) (h : Between t x) (u : Span) (k : ℕ) (pk :
   abbrev g : Rows (x .table) (h .whole .c) (x .state .count) (x .state .top)
   g = h .whole .rows
 
-  row-jump : given (followsJump (viewOf (x .table)) (h .whole .c)) (isTest k) ≡ true
+  pub row-jump : given (followsJump (viewOf (x .table)) (h .whole .c)) (isTest k) ≡ true
   row-jump = given-false (followsJump (viewOf (x .table)) (h .whole .c)) (isTest k) (h .whole .whole)
 
   one-whole : rowsOf k ≡ 1 → WholeOf (putKind k (u .word) (u .next) (operandCount u) x)

@@ -5,5 +5,8 @@ pub mod Put
 pub mod Jumps
 pub mod Clean
 pub mod Kept
-pub mod Nested
 pub mod Frames
+pub mod Depth
+pub mod Locals
+pub mod Bounds
+pub mod Nested

@@ -1,4 +1,5 @@
--- The rows of an accepted source stand where the rules of nesting put them, and nothing is open behind the last.
+-- The rows of an accepted source stand where the rules of nesting put them, nothing is open behind the last, blocks are at most 16
+-- deep, and parameters and locals are within their limits.
 -- Assumes nothing.
 use mathlib.Core.Path.{_≡_, refl, sym, _∙_, ap, subst}
 use mathlib.Core.Bool.{Bool, true, false}
@@ -25,29 +26,41 @@ use Rattle.tables.specs.Nesting.{behind, openBefore, groundIn, funcIn, scopeIn,
 use Rattle.nested.proofs.View.{strip, viewOf}
 use Rattle.nested.proofs.Standing.{open-same, stands-same}
 use Rattle.nested.proofs.Put.{Formed}
-use Rattle.nested.proofs.Kept.{Between, Whole, Nests, turn-between, begin-between}
-
-parse-nests : (w : Width) (t : List ℕ) (n : ℕ) → length t ≡ 32768 → Nests (parseOf w t n .verdict) (parseOf w t n .outline)
-unfolding parseOf parseFrom
-parse-nests w t n e =
-    walk-kept (Between t) (λ (r : Result). Nests (r .verdict) (r .outline)) (turnOf w t n) (result (Refused none) []) tt (turn-between w t n)
-    (suc (length t)) (world begin (zeros 8200)) (begin-between t e)
+use Rattle.nested.proofs.Kept.{Whole, Nests}
+use Rattle.nested.proofs.Bounds.{Bounded, Bounds, parse-answers}
+use Rattle.nested.proofs.Frames.{scope-low}
+use Rattle.nested.proofs.Depth.{shallow-same}
+use Rattle.nested.proofs.Locals.{few-same}
+use Rattle.tables.specs.WellFormed.{shallow, fewLocals}
 
 -- an answer with the rows x
-abbrev NestsAnswer : Parsed → List ℕ → Type 0
-NestsAnswer (answer.Accepted c l) x = Formed x c 0 × (c ≤ 1024)
-NestsAnswer (answer.Refused number place) x = Unit {0}
+pub record Accepting (c : ℕ) (x : List ℕ) : Type 0 where
+  pub formed : Formed x c 0
+  pub few : c ≤ 1024
+  pub shallows : (m : ℕ) → m < c → shallow (viewOf x) m ≡ true
+  pub locals : (m : ℕ) → m < c → fewLocals (viewOf x) m ≡ true
 
-answer-nests : (v : Verdict) (x : List ℕ) → Nests v x → NestsAnswer (answerOf v) x
+abbrev Answered : Parsed → List ℕ → Type 0
+Answered (answer.Accepted c l) x = Accepting c x
+Answered (answer.Refused number place) x = Unit {0}
+
+answered : (v : Verdict) (x : List ℕ) → Nests v x → Bounds v x → Answered (answerOf v) x
 unfolding answerOf
-answer-nests (Accepted count labels) x h =
+answered (Accepted count labels) x h b =
     let e : h .0 .c ≡ count - 1 = omega (arith, h .0 .rows .count) in
-    (subst (λ (i : ℕ). Formed x i 0) e (h .0 .rows .formed), omega (arith, h .1))
-answer-nests (Refused k) x h = tt
+    let d : b .c ≡ count - 1 = omega (arith, b .count) in
+    record {
+      formed = subst (λ (i : ℕ). Formed x i 0) e (h .0 .rows .formed);
+      few = omega (arith, h .1);
+      shallows = λ m l. b .rows-shallow m (omega arith);
+      locals = λ m l. b .rows-few m (omega arith);
+    }
+answered (Refused k) x h b = tt
 
-outline-nests : (w : Width) (t : List ℕ) (n : ℕ) → length t ≡ 32768 → NestsAnswer (outlineOf w t n .answer) (outlineOf w t n .rows)
+outline-answered : (w : Width) (t : List ℕ) (n : ℕ) → length t ≡ 32768 → Answered (outlineOf w t n .answer) (outlineOf w t n .rows)
 unfolding outlineOf
-outline-nests w t n e = answer-nests (parseOf w t n .verdict) (parseOf w t n .outline) (parse-nests w t n e)
+outline-answered w t n e =
+    let p = parse-answers w t n e in answered (parseOf w t n .verdict) (parseOf w t n .outline) (p .0) (p .1)
 
 -- ---- the skeleton's rows are those of the outline
 
@@ -56,35 +69,33 @@ module _ (x : List ℕ) (c : ℕ) (h : c ≤ 1024) where
   strip-is m l =
       rw (kind-is x c h m l, func-is x c h m l, scope-is x c h m l, up-is x c h m l, parameters-are x c h m l, add-one m) refl
 
--- nesting looks at no other words
-open-strip : (f : ℕ → Row) (n : ℕ) → openBefore (λ i. strip (f i)) n ≡ openBefore f n
-unfolding openBefore behind
-open-strip f zero = refl
-open-strip f (suc n) = refl
-
-stands-strip : (f : ℕ → Row) (n : ℕ) → stands (λ i. strip (f i)) n ≡ stands f n
-unfolding stands openBefore behind groundIn funcIn scopeIn upIn followsJump
-stands-strip f zero = refl
-stands-strip f (suc n) = refl
-
 module _ (w : Width) (t : List ℕ) (n c l : ℕ) (e : length t ≡ 32768) (a : outlineOf w t n .answer ≡ answer.Accepted c l) where
-  pub accepted-formed : Formed (outlineOf w t n .rows) c 0 × (c ≤ 1024)
-  accepted-formed = subst (λ (p : Parsed). NestsAnswer p (outlineOf w t n .rows)) a (outline-nests w t n e)
+  -- the rows of the outline
+  pub accepted : Accepting c (outlineOf w t n .rows)
+  accepted = subst (λ (p : Parsed). Answered p (outlineOf w t n .rows)) a (outline-answered w t n e)
 
   abbrev x : List ℕ
   x = outlineOf w t n .rows
 
+  -- the skeleton has the same
   pub rows-alike : (m : ℕ) → m < c → strip (rowAt (skeletonOf (outlineOf w t n .rows) c) m) ≡ viewOf (outlineOf w t n .rows) m
-  rows-alike m h = strip-is x c (accepted-formed .1) m h
+  rows-alike m h = strip-is x c (accepted .few) m h
 
   -- "each function, `if` and block closed by its own `end`, no `let` in an `if` of its frame"
   pub rows-stand : (m : ℕ) → m < c → stands (rowAt (skeletonOf (outlineOf w t n .rows) c)) m ≡ true
-  rows-stand m h =
-      sym (stands-strip (rowAt (skeletonOf x c)) m)
-      ∙ stands-same (viewOf x) (λ i. strip (rowAt (skeletonOf x c) i)) c rows-alike (accepted-formed .0 .rows) m h
+  rows-stand m h = stands-same (viewOf x) (rowAt (skeletonOf x c)) c rows-alike (accepted .formed .rows) m h
 
   pub rows-closed : allClosed (rowAt (skeletonOf (outlineOf w t n .rows) c)) c ≡ true
   unfolding allClosed
   rows-closed =
       eq-eqb _ _
-      (sym (open-strip (rowAt (skeletonOf x c)) c) ∙ open-same (viewOf x) (λ i. strip (rowAt (skeletonOf x c) i)) c rows-alike c (omega arith) ∙ accepted-formed .0 .last)
+      (open-same (viewOf x) (rowAt (skeletonOf x c)) c rows-alike c (omega arith) ∙ accepted .formed .last)
+
+  -- "blocks nested 16 deep"
+  pub rows-shallow : (m : ℕ) → m < c → shallow (rowAt (skeletonOf (outlineOf w t n .rows) c)) m ≡ true
+  rows-shallow m h =
+      shallow-same (viewOf x) (rowAt (skeletonOf x c)) c rows-alike (scope-low (viewOf x) c (accepted .formed .rows)) m h (accepted .shallows m h)
+
+  -- "parameters and arguments 8; locals in scope 64, parameters and shadowed ones included"
+  pub rows-few : (m : ℕ) → m < c → fewLocals (rowAt (skeletonOf (outlineOf w t n .rows) c)) m ≡ true
+  rows-few m h = few-same (viewOf x) (rowAt (skeletonOf x c)) c (accepted .formed .rows) rows-alike m h (accepted .locals m h)

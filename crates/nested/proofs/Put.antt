@@ -65,14 +65,14 @@ module _ (t : List ℕ) (n c top k token next before operands : ℕ) (e : n ≡ 
   pub new : g c ≡ seen r
   new = ap (λ (m : ℕ). seen (outline.rowAt (putRow t n r) m)) (sym e) ∙ ap seen (put-same t n r room)
 
-  top-low : top ≤ c
+  pub top-low : top ≤ c
   top-low = omega (arith, small f c (h .rows) c (omega arith) .open-low, h .last)
 
-  open-is : openBefore g c ≡ top
+  pub open-is : openBefore g c ≡ top
   open-is = open-same f g c old c (omega arith) ∙ h .last
 
   -- the row that is open, unless the new row is a function
-  top-some : (k ≡ 1 → ⊥) → 1 ≤ top
+  pub top-some : (k ≡ 1 → ⊥) → 1 ≤ top
   unfolding groundIn
   top-some q =
       elim (ℕ-discrete top 0) [

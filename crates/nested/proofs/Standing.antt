@@ -16,6 +16,7 @@ use Rattle.tables.specs.Tests.{both, given, all}
 use Rattle.tables.specs.Statement.{Row, isTest}
 use Rattle.tables.specs.Nesting.{behind, openBefore, groundIn, funcIn, scopeIn, upIn, isListed, mayStand, followsJump, standsTests, stands}
 use Rattle.tables.proofs.Each.{both-true, given-then}
+use Rattle.nested.proofs.View.{strip}
 use Rattle.tables.proofs.Nested.{Standing, small, here, fact, open-some, not-eq}
 
 -- ---- one row
@@ -30,9 +31,24 @@ standing-stands f n h =
 
 -- ---- views that agree on the first c rows
 
-module _ (f g : ℕ → Row) (c : ℕ) (same : (i : ℕ) → i < c → g i ≡ f i) where
+module _ (f g : ℕ → Row) (c : ℕ) (same : (i : ℕ) → i < c → strip (g i) ≡ strip (f i)) where
+  pub kind-same : (i : ℕ) → i < c → g i .kind ≡ f i .kind
+  kind-same i h = ap (λ (r : Row). r .kind) (same i h)
+
+  pub func-same : (i : ℕ) → i < c → g i .func ≡ f i .func
+  func-same i h = ap (λ (r : Row). r .func) (same i h)
+
+  pub scope-same : (i : ℕ) → i < c → g i .scope ≡ f i .scope
+  scope-same i h = ap (λ (r : Row). r .scope) (same i h)
+
+  pub up-same : (i : ℕ) → i < c → g i .up ≡ f i .up
+  up-same i h = ap (λ (r : Row). r .up) (same i h)
+
+  pub own-same : (i : ℕ) → i < c → g i .b ≡ f i .b
+  own-same i h = ap (λ (r : Row). r .b) (same i h)
+
   pub open-same : (n : ℕ) → n ≤ c → openBefore g n ≡ openBefore f n
-  unfolding openBefore
+  unfolding openBefore behind
   open-same zero h = refl
   open-same (suc n) h = ap (behind n) (same n h)
 
@@ -51,10 +67,11 @@ module _ (f g : ℕ → Row) (c : ℕ) (same : (i : ℕ) → i < c → g i ≡ f
 
   module _ (ok : (n : ℕ) → n < c → stands f n ≡ true) where
     pub stands-same : (n : ℕ) → n < c → stands g n ≡ true
-    unfolding stands
+    unfolding stands funcIn scopeIn upIn
     stands-same n h =
         let l : openBefore f n ≤ n = small f c ok n (omega arith) .open-low in
-        rw (open-same n (omega arith), same n h, follows-same n (omega arith), ground-same (openBefore f n) (omega arith), same (openBefore f n - 1) (omega arith)) (ok n h)
+        let o : openBefore f n - 1 < c = omega arith in
+        rw (open-same n (omega arith), kind-same n h, func-same n h, scope-same n h, up-same n h, follows-same n (omega arith), ground-same (openBefore f n) (omega arith), kind-same (openBefore f n - 1) o, func-same (openBefore f n - 1) o, scope-same (openBefore f n - 1) o, up-same (openBefore f n - 1) o) (ok n h)
 
     -- with row c also standing, one row more stands
     pub stands-more : Standing g c → (n : ℕ) → n < suc c → stands g n ≡ true
