@@ -19,16 +19,16 @@ slots-long zero os = refl
 slots-long (suc n) [] = let h = slots-long n [] in omega (arith, h)
 slots-long (suc n) (o ∷ os) = let h = slots-long n os in omega (arith, h)
 
-encode-long : (r : Row) → length (encode r) ≡ 27
+pub encode-long : (r : Row) → length (encode r) ≡ 27
 unfolding encode
 encode-long r = let h = slots-long 8 (r .operands) in omega (arith, h)
 
 -- rows one behind the other
-rows : (ℕ → Row) → ℕ → List ℕ
+pub rows : (ℕ → Row) → ℕ → List ℕ
 rows g zero = []
 rows g (suc n) = rows g n ++ encode (g n)
 
-rows-long : (g : ℕ → Row) (n : ℕ) → length (rows g n) ≡ n * 27
+pub rows-long : (g : ℕ → Row) (n : ℕ) → length (rows g n) ≡ n * 27
 unfolding rows
 rows-long g zero = refl
 rows-long g (suc n) =
@@ -36,7 +36,7 @@ rows-long g (suc n) =
     length-append (rows g n) (encode (g n)) ∙ omega (arith, h, encode-long (g n))
 
 -- row m stands behind those before it
-rows-split : (g : ℕ → Row) (m d : ℕ) → (ys : List ℕ) × (rows g (m + suc d) ≡ rows g m ++ (encode (g m) ++ ys))
+pub rows-split : (g : ℕ → Row) (m d : ℕ) → (ys : List ℕ) × (rows g (m + suc d) ≡ rows g m ++ (encode (g m) ++ ys))
 unfolding rows
 rows-split g m zero =
     let e : m + 1 ≡ suc m = omega arith in
@@ -72,7 +72,7 @@ module _ (same : ℕ → ℕ → Bool) (t k y : List ℕ) (l : ℕ) (w z : List 
         ∙ drop-drop 27 (n * 27) out ∙ ap (λ (i : ℕ). drop i out) e)
 
   module _ (room : c * 27 ≤ length out) where
-    table-is : statementTable same t k y l w z c out ≡ rows (rowOf same t k y l w z c) c ++ drop (c * 27) out
+    pub table-is : statementTable same t k y l w z c out ≡ rows (rowOf same t k y l w z c) c ++ drop (c * 27) out
     unfolding statementTable
     table-is = below-is c room
 

@@ -1,0 +1,4 @@
+pub mod Zeros
+pub mod Rows
+pub mod Labels
+pub mod Whole

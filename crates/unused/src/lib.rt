@@ -1,0 +1,1 @@
+// No code: theorems on the unused words of the tables.
