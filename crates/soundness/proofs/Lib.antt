@@ -1,3 +1,4 @@
 pub mod Accepted
 pub mod Rows
 pub mod Tests
+pub mod Whole
