@@ -1,0 +1,5 @@
+pub mod Scans
+pub mod Grown
+pub mod Unit
+pub mod Marked
+pub mod LabelRows

@@ -1,0 +1,1 @@
+// No code: theorems on the labels of an accepted source.
