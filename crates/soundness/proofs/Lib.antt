@@ -2,3 +2,4 @@ pub mod Accepted
 pub mod Rows
 pub mod Tests
 pub mod Whole
+pub mod Labels
