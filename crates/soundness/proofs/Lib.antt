@@ -3,3 +3,4 @@ pub mod Rows
 pub mod Tests
 pub mod Whole
 pub mod Labels
+pub mod NewNames
