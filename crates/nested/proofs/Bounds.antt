@@ -1,14 +1,14 @@
 -- Every turn of the parser that finds no fault keeps blocks shallow and locals few.
 -- Assumes nothing.
 use mathlib.Core.Path.{_≡_, refl, sym, _∙_, ap, subst}
-use mathlib.Core.Bool.{Bool, true, false}
-use mathlib.Core.List.{List, [], _∷_}
-use Prim.Native.Nat.{ℕ, zero, suc, _+_, _-_, _*_, _≤_, _<_}
+use mathlib.Core.Bool.{true}
+use mathlib.Core.List.{List, []}
+use Prim.Native.Nat.{ℕ, suc, _+_, _-_, _*_, _≤_, _<_}
 use native.Mathlib.Nat.{not-suc-le-zero}
 use native.Mathlib.Decide.{ℕ-discrete}
 use native.Mathlib.Omega.{arith}
 use lib.ListN.{length}
-use Rattle.prelude.specs.Choice.{ifLt, ifEq, ifTrue}
+use Rattle.prelude.specs.Choice.{ifEq}
 use Rattle.prelude.proofs.Choice.{either, either-eq, ifEq-yes, ifEq-no}
 use Rattle.prelude.specs.Fault.{none}
 use Rattle.prelude.specs.Lists.{zeros}
@@ -34,8 +34,7 @@ use Rattle.tables.specs.Tests.{given}
 use Rattle.tables.specs.Statement.{Row, isTest}
 use Rattle.tables.specs.Nesting.{openBefore, groundIn, isListed, mayStand, followsJump, stands}
 use Rattle.tables.specs.WellFormed.{shallow, fewLocals}
-use Rattle.nested.proofs.View.{strip, seen, viewOf, put-same, put-other}
-use Rattle.nested.proofs.Standing.{open-same}
+use Rattle.nested.proofs.View.{seen, viewOf, put-same, put-other}
 use Rattle.nested.proofs.Put.{Formed, old, new, put-formed, top-low, top-some, open-is}
 use Rattle.nested.proofs.Kept.{Rows, RowsOf, Between, Nests, rows-none, rows-two, test-listed, put-rows, put-kind, count-put, length-put, second-ground, second-jump, row-listed, row-ground, row-jump, turn-between, begin-between}
 use Rattle.nested.proofs.Lines.{line-jump}

@@ -2,33 +2,31 @@
 -- Assumes nothing.
 use mathlib.Core.Path.{_≡_, refl, sym, _∙_, ap, subst}
 use mathlib.Core.Bool.{Bool, true, false, not}
-use mathlib.Core.List.{List, [], _∷_}
-use Prim.Native.Nat.{ℕ, zero, suc, _+_, _-_, _*_, _≤_, _<_}
+use mathlib.Core.List.{List}
+use Prim.Native.Nat.{ℕ, suc, _+_, _-_, _≤_, _<_}
 use native.Mathlib.Nat.{not-suc-le-zero}
 use native.Mathlib.Decide.{ℕ-discrete, decLt}
 use native.Mathlib.Omega.{arith}
-use borrow.Author.Tests.{eqb-true, eq-eqb, ne-eqb, leb-true, ltb-true, le-leb, lt-ltb}
-use lib.Dec.{eqb, ltb, leb}
+use borrow.Author.Tests.{eqb-true, eq-eqb, ne-eqb, leb-true, le-leb, lt-ltb}
+use lib.Dec.{eqb, leb}
 use lib.ListN.{length, length-set, length-replicate}
-use Rattle.prelude.specs.Choice.{ifLt, ifEq, ifTrue}
+use Rattle.prelude.specs.Choice.{ifEq}
 use Rattle.prelude.specs.Fault.{none}
 use Rattle.prelude.specs.Lists.{zeros}
 use Rattle.prelude.specs.Walk.{Step, go, stop}
 use Rattle.prelude.proofs.Choice.{either, either-eq, ifEq-yes, ifEq-no, true-false}
 use Rattle.prelude.proofs.Walk.{Kept}
 use Rattle.limits.specs.declared.Width.{Width}
-use Rattle.kinds.specs.Nesting.{standsIn, statementIn, rowsOf, groundOf, enters, kindOfWord}
+use Rattle.kinds.specs.Nesting.{standsIn, rowsOf, groundOf, enters, kindOfWord}
 use Rattle.lines.specs.Tokens.{wordAt}
 use Rattle.lines.specs.Units.{unitAt}
 use Rattle.lines.specs.Lines.{lineKind}
 use Rattle.lines.specs.declared.Span.{Span}
 use Rattle.shapes.specs.Shapes.{operandCount}
 use Rattle.parser.specs.Outline as outline
-use Rattle.parser.specs.Outline.{putRow}
 use Rattle.parser.specs.Places as places
-use Rattle.parser.specs.Parse.{World, world, Result, result, begin, putState, putKind, growTwo, growBy, sectionBehind, stateBehind, joinState, advance, openRow, faultIn, turnOn, turnOf}
+use Rattle.parser.specs.Parse.{World, world, Result, begin, putState, putKind, growTwo, growBy, sectionBehind, stateBehind, joinState, advance, openRow, faultIn, turnOn, turnOf}
 use Rattle.parser.specs.Fits.{TurnFits}
-use Rattle.parser.specs.declared.State.{State}
 use Rattle.parser.specs.declared.Verdict.{Verdict}
 use Rattle.parser.specs.declared.Verdict.the-variants.{Accepted, Refused}
 use Rattle.parser.proofs.Cases.{row-put}
@@ -36,12 +34,12 @@ use Rattle.parser.proofs.Bounds.{clean-room}
 use Rattle.parser.proofs.Turns.{TurnGood, turn-good}
 use Rattle.tables.specs.Tests.{both, given}
 use Rattle.tables.specs.Statement.{Row, isTest}
-use Rattle.tables.specs.Nesting.{openBefore, groundIn, isListed, mayStand, followsJump, stands}
+use Rattle.tables.specs.Nesting.{openBefore, groundIn, isListed, mayStand, followsJump}
 use Rattle.tables.proofs.Each.{both-left, both-right, both-true, given-then}
 use Rattle.tables.proofs.Nested.{kind-fact, fact, small}
 use Rattle.nested.proofs.View.{viewOf}
 use Rattle.nested.proofs.Lines.{line-listed, line-jump}
-use Rattle.nested.proofs.Standing.{Opened, opened}
+use Rattle.nested.proofs.Standing.{opened}
 use Rattle.nested.proofs.Put.{Formed, new, put-formed}
 use Rattle.nested.proofs.Jumps.{jump-ground, test-between}
 use Rattle.nested.proofs.Clean.{clean-place}

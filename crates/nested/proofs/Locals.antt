@@ -1,24 +1,22 @@
 -- Locals in scope, row after row.
 -- Assumes nothing.
 use mathlib.Core.Path.{_≡_, refl, sym, _∙_, ap, ap₂, subst}
-use mathlib.Core.Bool.{Bool, true, false, not}
+use mathlib.Core.Bool.{Bool, true, false}
 use Prim.Native.Nat.{ℕ, zero, suc, _+_, _-_, _≤_, _<_}
-use native.Mathlib.Nat.{not-suc-le-zero}
 use native.Mathlib.Decide.{ℕ-discrete}
 use native.Mathlib.Omega.{arith}
-use borrow.Author.Tests.{eqb-true, eq-eqb, ne-eqb, leb-true, le-leb, lt-ltb}
+use borrow.Author.Tests.{eqb-true, eq-eqb, ne-eqb, le-leb, lt-ltb}
 use lib.Dec.{eqb, leb, ltb}
-use Rattle.prelude.specs.Choice.{pick, ifEq, ifTrue}
-use Rattle.prelude.proofs.Choice.{true-false, ifEq-yes, ifEq-no}
-use Rattle.kinds.specs.Nesting.{isFrame}
+use Rattle.prelude.specs.Choice.{pick, ifEq}
+use Rattle.prelude.proofs.Choice.{ifEq-yes, ifEq-no}
 use Rattle.parser.specs.Parse.{localsBehind}
-use Rattle.tables.specs.Tests.{both, given, countBelow}
+use Rattle.tables.specs.Tests.{both, countBelow}
 use Rattle.tables.specs.Statement.{Row}
 use Rattle.tables.specs.Nesting.{openBefore, funcIn, stands, depthOf, encloses}
 use Rattle.tables.specs.Frames.{letSeen, localsAt}
 use Rattle.tables.specs.WellFormed.{fewLocals}
-use Rattle.tables.proofs.Each.{both-true, given-then}
-use Rattle.tables.proofs.Nested.{here, small, open-some, func-open, Held, held}
+use Rattle.tables.proofs.Each.{both-true}
+use Rattle.tables.proofs.Nested.{here, open-some, func-open, held}
 use Rattle.nested.proofs.View.{strip}
 use Rattle.nested.proofs.Standing.{kind-same, func-same, scope-same, own-same, open-same}
 use Rattle.nested.proofs.Frames.{frameIn, open-low, scope-low, scope-open, frame-low, func-stays, frame-stays, frame-function, frame-block, end-function, Block, end-block, inner}

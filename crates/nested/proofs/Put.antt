@@ -2,26 +2,26 @@
 -- Assumes nothing.
 use mathlib.Core.Path.{_≡_, refl, sym, _∙_, ap, subst}
 use mathlib.Core.Bool.{Bool, true, false, not}
-use mathlib.Core.List.{List, [], _∷_}
-use Prim.Native.Nat.{ℕ, zero, suc, _+_, _-_, _*_, _≤_, _<_}
+use mathlib.Core.List.{List}
+use Prim.Native.Nat.{ℕ, suc, _+_, _-_, _*_, _≤_, _<_}
 use native.Mathlib.Decide.{ℕ-discrete}
 use native.Mathlib.Omega.{arith}
-use borrow.Author.Tests.{eqb-true, eq-eqb, ne-eqb, leb-true}
+use borrow.Author.Tests.{ne-eqb, leb-true}
 use lib.Dec.{eqb, ltb, leb}
 use lib.ListN.{length}
 use Rattle.prelude.specs.Choice.{ifLt, ifEq, ifTrue}
-use Rattle.prelude.proofs.Choice.{either-eq, either-true, ifTrue-yes, ifTrue-no, ifEq-yes, ifEq-no}
+use Rattle.prelude.proofs.Choice.{ifTrue-no, ifEq-yes, ifEq-no}
 use Rattle.kinds.specs.Nesting.{standsIn, enters, leaves, groundOf, isFrame}
 use Rattle.parser.specs.Outline as outline
 use Rattle.parser.specs.Outline.{putRow}
 use Rattle.parser.specs.declared.Row as declared
-use Rattle.tables.specs.Tests.{both, given, all}
+use Rattle.tables.specs.Tests.{given}
 use Rattle.tables.specs.Statement.{Row, isTest}
 use Rattle.tables.specs.Nesting.{behind, openBefore, groundIn, funcIn, scopeIn, upIn, isListed, mayStand, followsJump, stands}
-use Rattle.tables.proofs.Each.{both-left, both-right, given-then}
+use Rattle.tables.proofs.Each.{both-left, given-then}
 use Rattle.tables.proofs.Nested.{Standing, small, kind-fact}
 use Rattle.nested.proofs.View.{seen, viewOf, put-same, put-other}
-use Rattle.nested.proofs.Standing.{open-same, follows-same, ground-same, stands-same, stands-more}
+use Rattle.nested.proofs.Standing.{open-same, follows-same, ground-same, stands-more}
 
 -- c rows stand, and behind them `top` is open
 pub record Formed (t : List ℕ) (c top : ℕ) : Type 0 where

@@ -1,20 +1,19 @@
 -- Rows that stand: two views that agree, what is open, and one row more.
 -- Assumes nothing.
 use mathlib.Core.Path.{_≡_, refl, sym, _∙_, ap, subst}
-use mathlib.Core.Bool.{Bool, true, false, not}
-use mathlib.Core.List.{List, [], _∷_}
-use Prim.Native.Nat.{ℕ, zero, suc, _+_, _-_, _≤_, _<_}
+use mathlib.Core.Bool.{true, not}
+use Prim.Native.Nat.{ℕ, zero, suc, _-_, _≤_, _<_}
 use native.Mathlib.Nat.{not-suc-le-zero}
 use native.Mathlib.Decide.{ℕ-discrete}
 use native.Mathlib.Omega.{arith}
-use borrow.Author.Tests.{eqb-true, eq-eqb, ne-eqb, leb-true}
-use lib.Dec.{eqb, ltb, leb}
-use Rattle.prelude.specs.Choice.{ifEq, ifTrue}
-use Rattle.prelude.proofs.Choice.{either-true, true-false, ifTrue-yes, ifEq-yes, ifEq-no}
-use Rattle.kinds.specs.Nesting.{standsIn, enters, leaves, groundOf}
-use Rattle.tables.specs.Tests.{both, given, all}
-use Rattle.tables.specs.Statement.{Row, isTest}
-use Rattle.tables.specs.Nesting.{behind, openBefore, groundIn, funcIn, scopeIn, upIn, isListed, mayStand, followsJump, standsTests, stands}
+use borrow.Author.Tests.{eq-eqb}
+use lib.Dec.{eqb}
+use Rattle.prelude.specs.Choice.{ifEq}
+use Rattle.prelude.proofs.Choice.{either-true, ifEq-yes}
+use Rattle.kinds.specs.Nesting.{enters, leaves, groundOf}
+use Rattle.tables.specs.Tests.{all}
+use Rattle.tables.specs.Statement.{Row}
+use Rattle.tables.specs.Nesting.{behind, openBefore, groundIn, funcIn, scopeIn, upIn, followsJump, stands}
 use Rattle.tables.proofs.Each.{both-true, given-then}
 use Rattle.nested.proofs.View.{strip}
 use Rattle.tables.proofs.Nested.{Standing, small, here, fact, open-some, not-eq}
