@@ -137,7 +137,8 @@ module _ (f : ℕ → Row) (c : ℕ) (ok : (n : ℕ) → n < c → stands f n �
   -- an arm: no frame
   arm-high : (p : ℕ) → p < c → leaves (f p .kind) ≡ true → (f p .kind ≡ 2 → ⊥) → (f p .kind ≡ 4 → ⊥) → 14 ≤ f (openBefore f p - 1) .kind
   arm-high p h e a b =
-      let l : 6 ≤ standsIn (f p .kind) .lo = leb-true _ _ (given-then (both (leaves (f p .kind)) (both (not (eqb (f p .kind) 2)) (not (eqb (f p .kind) 4)))) (leb 6 (standsIn (f p .kind) .lo)) (frame-fact p 0 h (omega arith)) (both-true _ _ e (both-true _ _ (not-ne _ _ a) (not-ne _ _ b)))) in
+      let k : both (leaves (f p .kind)) (both (not (eqb (f p .kind) 2)) (not (eqb (f p .kind) 4))) ≡ true = both-true _ _ e (both-true _ _ (not-ne _ _ a) (not-ne _ _ b)) in
+      let l : 6 ≤ standsIn (f p .kind) .lo = leb-true _ _ (given-then (both (leaves (f p .kind)) (both (not (eqb (f p .kind) 2)) (not (eqb (f p .kind) 4)))) (leb 6 (standsIn (f p .kind) .lo)) (frame-fact p 0 h (omega arith)) k) in
       let s : 1 ≤ openBefore f p = leaver-some f c ok p h e in
       let o : openBefore f p ≤ p = open-low p (omega arith) in
       let g : 6 ≤ groundOf (f (openBefore f p - 1) .kind) = omega (arith, ground-low f c ok p h, ground-some f c ok (openBefore f p) s) in

@@ -17,7 +17,7 @@ use Rattle.prelude.specs.Walk.{Step, go, stop}
 use Rattle.prelude.proofs.Choice.{either, either-eq, ifEq-yes, ifEq-no, true-false}
 use Rattle.prelude.proofs.Walk.{Kept}
 use Rattle.limits.specs.declared.Width.{Width}
-use Rattle.kinds.specs.Nesting.{standsIn, rowsOf, groundOf, enters, kindOfWord}
+use Rattle.kinds.specs.Nesting.{standsIn, rowsOf, groundOf, kindOfWord}
 use Rattle.lines.specs.Tokens.{wordAt}
 use Rattle.lines.specs.Units.{unitAt}
 use Rattle.lines.specs.Lines.{lineKind}
@@ -36,10 +36,10 @@ use Rattle.tables.specs.Tests.{both, given}
 use Rattle.tables.specs.Statement.{Row, isTest}
 use Rattle.tables.specs.Nesting.{openBefore, groundIn, isListed, mayStand, followsJump}
 use Rattle.tables.proofs.Each.{both-left, both-right, both-true, given-then}
-use Rattle.tables.proofs.Nested.{kind-fact, fact, small}
+use Rattle.tables.proofs.Nested.{kind-fact}
 use Rattle.nested.proofs.View.{viewOf}
 use Rattle.nested.proofs.Lines.{line-listed, line-jump}
-use Rattle.nested.proofs.Standing.{opened}
+use Rattle.nested.proofs.Standing.{open-high}
 use Rattle.nested.proofs.Put.{Formed, new, put-formed}
 use Rattle.nested.proofs.Jumps.{jump-ground, test-between}
 use Rattle.nested.proofs.Clean.{clean-place}
@@ -266,11 +266,8 @@ closed t x h l =
     elim (ℕ-discrete (x .state .top) 0) [
       | yes z ↦ z
       | no z ↦
-          let c : ℕ = h .whole .c in
           let o : openBefore (viewOf (x .table)) (h .whole .c) ≡ x .state .top = h .whole .rows .formed .last in
-          let b = small (viewOf (x .table)) (h .whole .c) (h .whole .rows .formed .rows) (h .whole .c) (omega arith) .open-low in
-          let e : enters (viewOf (x .table) (x .state .top - 1) .kind) ≡ true = rw o at (opened (viewOf (x .table)) (h .whole .c) (h .whole .rows .formed .rows) (h .whole .c) (omega arith) .top (omega arith)) in
-          let m : 4 ≤ groundOf (viewOf (x .table) (x .state .top - 1) .kind) = leb-true _ _ (given-then (enters (viewOf (x .table) (x .state .top - 1) .kind)) (leb 4 (groundOf (viewOf (x .table) (x .state .top - 1) .kind))) (fact (viewOf (x .table)) (h .whole .c) (h .whole .rows .formed .rows) (x .state .top - 1) 7 (omega arith) (omega arith)) e) in
+          let m : 4 ≤ groundOf (viewOf (x .table) (x .state .top - 1) .kind) = rw o at (open-high (viewOf (x .table)) (h .whole .c) (h .whole .rows .formed .rows) (h .whole .c) (omega arith) (omega arith)) in
           absurd (omega (arith, open-ground x z, ifEq-no 1 (groundOf (viewOf (x .table) (x .state .top - 1) .kind)) z))
     ]
 

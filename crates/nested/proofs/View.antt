@@ -56,10 +56,12 @@ module _ (t : List ℕ) (n : ℕ) (r : declared.Row) (h : n * 8 + 8 ≤ length t
   pub put-same : outline.rowAt (putRow t n r) n ≡ r
   unfolding outline.rowAt tokenWord
   put-same =
-      rw (word-same 0 (omega arith), word-same 1 (omega arith), word-same 2 (omega arith), word-same 3 (omega arith), word-same 4 (omega arith), word-same 5 (omega arith), word-same 6 (omega arith), word-same 7 (omega arith)) refl
+      rw (word-same 0 (omega arith), word-same 1 (omega arith), word-same 2 (omega arith), word-same 3 (omega arith))
+      (rw (word-same 4 (omega arith), word-same 5 (omega arith), word-same 6 (omega arith), word-same 7 (omega arith)) refl)
 
   -- the rows before it
   pub put-other : (m : ℕ) → m < n → outline.rowAt (putRow t n r) m ≡ outline.rowAt t m
   unfolding outline.rowAt tokenWord
   put-other m g =
-      rw (word-before (m * 8 + 0) (omega arith), word-before (m * 8 + 1) (omega arith), word-before (m * 8 + 2) (omega arith), word-before (m * 8 + 3) (omega arith), word-before (m * 8 + 4) (omega arith), word-before (m * 8 + 5) (omega arith), word-before (m * 8 + 6) (omega arith), word-before (m * 8 + 7) (omega arith)) refl
+      rw (word-before (m * 8 + 0) (omega arith), word-before (m * 8 + 1) (omega arith), word-before (m * 8 + 2) (omega arith), word-before (m * 8 + 3) (omega arith))
+      (rw (word-before (m * 8 + 4) (omega arith), word-before (m * 8 + 5) (omega arith), word-before (m * 8 + 6) (omega arith), word-before (m * 8 + 7) (omega arith)) refl)
