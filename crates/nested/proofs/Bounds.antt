@@ -34,8 +34,8 @@ use Rattle.tables.specs.Tests.{given}
 use Rattle.tables.specs.Statement.{Row, isTest}
 use Rattle.tables.specs.Nesting.{openBefore, groundIn, isListed, mayStand, followsJump, stands}
 use Rattle.tables.specs.WellFormed.{shallow, fewLocals}
-use Rattle.nested.proofs.View.{seen, viewOf, put-same, put-other}
-use Rattle.nested.proofs.Put.{Formed, old, new, put-formed, top-low, top-some, open-is}
+use Rattle.nested.proofs.View.{strip, seen, viewOf, put-same, put-other}
+use Rattle.nested.proofs.Put.{Formed, alike, new, put-formed, top-low, top-some, open-is}
 use Rattle.nested.proofs.Kept.{Rows, RowsOf, Between, Nests, rows-none, rows-two, test-listed, put-rows, put-kind, count-put, length-put, second-ground, second-jump, row-listed, row-ground, row-jump, turn-between, begin-between}
 use Rattle.nested.proofs.Lines.{line-jump}
 use Rattle.nested.proofs.Jumps.{test-between}
@@ -69,8 +69,8 @@ module _ (t : List ℕ) (n c top k token next before operands : ℕ) (e : n ≡ 
   abbrev t′ : List ℕ
   t′ = putRow t n (outline.rowIn k n top (outline.rowAt t top) token next before operands)
 
-  same : (i : ℕ) → i < c → viewOf t′ i ≡ viewOf t i
-  same = old t n c top k token next before operands e room h listed ground jump
+  same : (i : ℕ) → i < c → strip (viewOf t′ i) ≡ strip (viewOf t i)
+  same = alike t n c top k token next before operands e room h listed ground jump
 
   row-is : viewOf t′ c ≡ seen (outline.rowIn k n top (outline.rowAt t top) token next before operands)
   row-is = new t n c top k token next before operands e room h listed ground jump

@@ -62,7 +62,7 @@ outline-answered w t n e =
 -- ---- the skeleton's rows are those of the outline
 
 module _ (x : List ℕ) (c : ℕ) (h : c ≤ 1024) where
-  pub strip-is : (m : ℕ) → m < c → strip (rowAt (skeletonOf x c) m) ≡ viewOf x m
+  pub strip-is : (m : ℕ) → m < c → strip (rowAt (skeletonOf x c) m) ≡ strip (viewOf x m)
   strip-is m l =
       rw (kind-is x c h m l, func-is x c h m l, scope-is x c h m l, up-is x c h m l, parameters-are x c h m l, add-one m) refl
 
@@ -75,7 +75,7 @@ module _ (w : Width) (t : List ℕ) (n c l : ℕ) (e : length t ≡ 32768) (a : 
   x = outlineOf w t n .rows
 
   -- the skeleton has the same
-  pub rows-alike : (m : ℕ) → m < c → strip (rowAt (skeletonOf (outlineOf w t n .rows) c) m) ≡ viewOf (outlineOf w t n .rows) m
+  pub rows-alike : (m : ℕ) → m < c → strip (rowAt (skeletonOf (outlineOf w t n .rows) c) m) ≡ strip (viewOf (outlineOf w t n .rows) m)
   rows-alike m h = strip-is x c (accepted .few) m h
 
   -- "each function, `if` and block closed by its own `end`, no `let` in an `if` of its frame"

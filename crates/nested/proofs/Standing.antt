@@ -15,6 +15,7 @@ use Rattle.tables.specs.Tests.{all}
 use Rattle.tables.specs.Statement.{Row}
 use Rattle.tables.specs.Nesting.{behind, openBefore, groundIn, funcIn, scopeIn, upIn, followsJump, stands}
 use Rattle.tables.proofs.Each.{both-true, given-then}
+use Rattle.skeleton.specs.Skeleton.{parametersOf}
 use Rattle.nested.proofs.View.{strip}
 use Rattle.tables.proofs.Nested.{Standing, small, here, fact, open-some, not-eq}
 
@@ -43,8 +44,10 @@ module _ (f g : ℕ → Row) (c : ℕ) (same : (i : ℕ) → i < c → strip (g 
   pub up-same : (i : ℕ) → i < c → g i .up ≡ f i .up
   up-same i h = ap (λ (r : Row). r .up) (same i h)
 
-  pub own-same : (i : ℕ) → i < c → g i .b ≡ f i .b
-  own-same i h = ap (λ (r : Row). r .b) (same i h)
+  pub parameters-same : (i : ℕ) → i < c → f i .kind ≡ 1 → g i .b ≡ f i .b
+  unfolding parametersOf
+  parameters-same i h e =
+      sym (ifEq-yes (g i .b) 0 (kind-same i h ∙ e)) ∙ ap (λ (r : Row). r .b) (same i h) ∙ ifEq-yes (f i .b) 0 e
 
   pub open-same : (n : ℕ) → n ≤ c → openBefore g n ≡ openBefore f n
   unfolding openBefore behind

@@ -19,9 +19,9 @@ abbrev pub bare : ℕ → ℕ → ℕ → ℕ → ℕ → Row
 bare kind func scope up b =
     record { kind = kind; func = func; scope = scope; up = up; a = 0; b = b; expr = 0; callee = 0; count = 0; address = Unlisted; operands = [] }
 
--- those five words of a row
+-- those five words of a row; only a function's row has parameters
 abbrev pub strip : Row → Row
-strip r = bare (r .kind) (r .func) (r .scope) (r .up) (r .b)
+strip r = bare (r .kind) (r .func) (r .scope) (r .up) (parametersOf (r .kind) (r .b))
 
 -- a row of the outline: rows of functions and frames count from 1 there
 abbrev pub seen : declared.Row → Row
