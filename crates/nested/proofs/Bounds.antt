@@ -1,14 +1,14 @@
 -- Every turn of the parser that finds no fault keeps blocks shallow and locals few.
 -- Assumes nothing.
 use mathlib.Core.Path.{_≡_, refl, sym, _∙_, ap, subst}
-use mathlib.Core.Bool.{Bool, true, false}
-use mathlib.Core.List.{List, [], _∷_}
-use Prim.Native.Nat.{ℕ, zero, suc, _+_, _-_, _*_, _≤_, _<_}
+use mathlib.Core.Bool.{true}
+use mathlib.Core.List.{List, []}
+use Prim.Native.Nat.{ℕ, suc, _+_, _-_, _*_, _≤_, _<_}
 use native.Mathlib.Nat.{not-suc-le-zero}
 use native.Mathlib.Decide.{ℕ-discrete}
 use native.Mathlib.Omega.{arith}
 use lib.ListN.{length}
-use Rattle.prelude.specs.Choice.{ifLt, ifEq, ifTrue}
+use Rattle.prelude.specs.Choice.{ifEq}
 use Rattle.prelude.proofs.Choice.{either, either-eq, ifEq-yes, ifEq-no}
 use Rattle.prelude.specs.Fault.{none}
 use Rattle.prelude.specs.Lists.{zeros}
@@ -35,8 +35,7 @@ use Rattle.tables.specs.Statement.{Row, isTest}
 use Rattle.tables.specs.Nesting.{openBefore, groundIn, isListed, mayStand, followsJump, stands}
 use Rattle.tables.specs.WellFormed.{shallow, fewLocals}
 use Rattle.nested.proofs.View.{strip, seen, viewOf, put-same, put-other}
-use Rattle.nested.proofs.Standing.{open-same}
-use Rattle.nested.proofs.Put.{Formed, old, new, put-formed, top-low, top-some, open-is}
+use Rattle.nested.proofs.Put.{Formed, alike, new, put-formed, top-low, top-some, open-is}
 use Rattle.nested.proofs.Kept.{Rows, RowsOf, Between, Nests, rows-none, rows-two, test-listed, put-rows, put-kind, count-put, length-put, second-ground, second-jump, row-listed, row-ground, row-jump, turn-between, begin-between}
 use Rattle.nested.proofs.Lines.{line-jump}
 use Rattle.nested.proofs.Jumps.{test-between}
@@ -70,8 +69,8 @@ module _ (t : List ℕ) (n c top k token next before operands : ℕ) (e : n ≡ 
   abbrev t′ : List ℕ
   t′ = putRow t n (outline.rowIn k n top (outline.rowAt t top) token next before operands)
 
-  same : (i : ℕ) → i < c → viewOf t′ i ≡ viewOf t i
-  same = old t n c top k token next before operands e room h listed ground jump
+  same : (i : ℕ) → i < c → strip (viewOf t′ i) ≡ strip (viewOf t i)
+  same = alike t n c top k token next before operands e room h listed ground jump
 
   row-is : viewOf t′ c ≡ seen (outline.rowIn k n top (outline.rowAt t top) token next before operands)
   row-is = new t n c top k token next before operands e room h listed ground jump
@@ -116,9 +115,10 @@ module _ (t : List ℕ) (n c top k token next before operands : ℕ) (e : n ≡ 
         (beforeOf (putRow t n (outline.rowIn k n top (outline.rowAt t top) token next before operands))) (suc c) (localsBehind k operands (outline.rowAt t top .before) before)
     put-few =
         let s : Few (viewOf t′) (beforeOf t′) c before = few-alike (viewOf t) (viewOf t′) c (h .rows) same (beforeOf t) (beforeOf t′) before held-old few in
-        let r : Few (viewOf t′) (beforeOf t′) (suc c) (localsBehind (viewOf t′ c .kind) (viewOf t′ c .b) (beforeOf t′ (openBefore (viewOf t′) c - 1)) before) = few-next (viewOf t′) (suc c) stand (beforeOf t′) c d before (omega arith) deep-before s (λ q. shallow (sym kind-is ∙ q)) (λ q. omega (arith, own-is (sym kind-is ∙ q), parameters (sym kind-is ∙ q))) (λ q. lets (sym kind-is ∙ q)) (λ q. held-new) in
+        let k′ : (i : ℕ) → viewOf t′ c .kind ≡ i → k ≡ i = λ i q. sym kind-is ∙ q in
         subst (λ (i : ℕ). Few (viewOf t′) (beforeOf t′) (suc c) i)
-        (ap (λ (i : ℕ). localsBehind i (viewOf t′ c .b) (beforeOf t′ (openBefore (viewOf t′) c - 1)) before) kind-is ∙ locals-by k _ _ _ _ before own-is open-before) r
+        (ap (λ (i : ℕ). localsBehind i (viewOf t′ c .b) (beforeOf t′ (openBefore (viewOf t′) c - 1)) before) kind-is ∙ locals-by k _ _ _ _ before own-is open-before)
+        (few-next (viewOf t′) (suc c) stand (beforeOf t′) c d before (omega arith) deep-before s (λ q. shallow (k′ 3 q)) (λ q. omega (arith, own-is (k′ 1 q), parameters (k′ 1 q))) (λ q. lets (k′ 5 q)) (λ q. held-new))
 
 -- ---- the rows of a line
 
@@ -138,13 +138,31 @@ module _ (k token next operands : ℕ) (x : World) (c : ℕ) (g : Rows (x .table
         few = put-few (x .table) (x .state .count) c (x .state .top) k token next (x .state .locals) operands (g .count) (omega arith) (g .formed) listed ground jump d (p .deep) shallow (p .few) parameters lets;
       }
 
-depth-plain : (k d : ℕ) → (k ≡ 1 → ⊥) → (k ≡ 3 → ⊥) → (k ≡ 4 → ⊥) → depthBehind k d ≡ d
-unfolding depthBehind
-depth-plain k d a b c = ifEq-no _ _ a ∙ ifEq-no _ _ b ∙ ifEq-no _ _ c
+-- a kind that opens no frame, closes none and adds no local
+abbrev Still : ℕ → Type 0
+Still k = (k ≡ 1 → ⊥) × (k ≡ 3 → ⊥) × (k ≡ 4 → ⊥) × (k ≡ 5 → ⊥)
 
-locals-plain : (k a b v : ℕ) → (k ≡ 1 → ⊥) → (k ≡ 5 → ⊥) → (k ≡ 4 → ⊥) → localsBehind k a b v ≡ v
+still-high : (k : ℕ) → 6 ≤ k → Still k
+still-high k h = (λ e. omega arith, λ e. omega arith, λ e. omega arith, λ e. omega arith)
+
+still-depth : (k d : ℕ) → Still k → depthBehind k d ≡ d
+unfolding depthBehind
+still-depth k d s = ifEq-no _ _ (s .0) ∙ ifEq-no _ _ (s .1) ∙ ifEq-no _ _ (s .2)
+
+still-locals : (k a b v : ℕ) → Still k → localsBehind k a b v ≡ v
 unfolding localsBehind
-locals-plain k a b v p q r = ifEq-no _ _ p ∙ ifEq-no _ _ q ∙ ifEq-no _ _ r
+still-locals k a b v s = ifEq-no _ _ (s .0) ∙ ifEq-no _ _ (s .3) ∙ ifEq-no _ _ (s .2)
+
+module _ (k a b : ℕ) (s : Still k) (x : World) (c d v : ℕ) where
+  still-before : Counted x c (depthBehind k d) (localsBehind k a b v) → Counted x c d v
+  still-before h =
+      subst (λ (n : ℕ). Counted x c n v) (still-depth k d s)
+      (subst (λ (n : ℕ). Counted x c (depthBehind k d) n) (still-locals k a b v s) h)
+
+  still-behind : Counted x c d v → Counted x c (depthBehind k d) (localsBehind k a b v)
+  still-behind h =
+      subst (λ (n : ℕ). Counted x c n (localsBehind k a b v)) (sym (still-depth k d s))
+      (subst (λ (n : ℕ). Counted x c d n) (sym (still-locals k a b v s)) h)
 
 locals-put : (k token next operands : ℕ) (x : World) → putKind k token next operands x .state .locals ≡ x .state .locals
 unfolding putKind putState
@@ -169,9 +187,8 @@ module _ (y : World) (c : ℕ) (a : RowsOf y (suc c)) (v : viewOf (y .table) c .
       record {
         c = suc (suc c);
         count = put-rows k token next operands y (suc c) a few long h m j .count;
-        counted = subst (λ (n : ℕ). Counted (putKind k token next operands y) (suc (suc c)) n (y .state .locals)) (depth-plain k d (λ q. omega arith) (λ q. omega arith) (λ q. omega arith))
-            (subst (λ (n : ℕ). Counted (putKind k token next operands y) (suc (suc c)) (depthBehind k d) n) (locals-plain k operands (openRow y .before) (y .state .locals) (λ q. omega arith) (λ q. omega arith) (λ q. omega arith))
-            (put-counted k token next operands y (suc c) a few long h m j d p (λ q. absurd (omega arith)) (λ q. absurd (omega arith)) (λ q. absurd (omega arith))));
+        counted = still-before k operands (openRow y .before) (still-high k (omega arith)) (putKind k token next operands y) (suc (suc c)) d (y .state .locals)
+            (put-counted k token next operands y (suc c) a few long h m j d p (λ q. absurd (omega arith)) (λ q. absurd (omega arith)) (λ q. absurd (omega arith)));
       }
 
 module _ (t : List ℕ) (x : World) (h : Between t x) (u : Span) (k : ℕ) (pk : k ≡ lineKind t (u .word))
@@ -195,11 +212,11 @@ module _ (t : List ℕ) (x : World) (h : Between t x) (u : Span) (k : ℕ) (pk :
   none-behind : rowsOf k ≡ 0 → Behind x d v
   none-behind e =
       let z : (1 ≤ k → 25 ≤ k) = rows-none k e in
+      let still : Still k = (λ q. omega (arith, z (omega arith)), λ q. omega (arith, z (omega arith)), λ q. omega (arith, z (omega arith)), λ q. omega (arith, z (omega arith))) in
       record {
         c = h .whole .c;
         count = h .whole .rows .count;
-        counted = subst (λ (n : ℕ). Counted x (h .whole .c) n v) (sym (depth-plain k (x .state .depth) (λ q. omega (arith, z (omega arith))) (λ q. omega (arith, z (omega arith))) (λ q. omega (arith, z (omega arith)))))
-            (subst (λ (n : ℕ). Counted x (h .whole .c) (x .state .depth) n) (sym (locals-plain k (operandCount u) (openRow x .before) (x .state .locals) (λ q. omega (arith, z (omega arith))) (λ q. omega (arith, z (omega arith))) (λ q. omega (arith, z (omega arith))))) p);
+        counted = still-behind k (operandCount u) (openRow x .before) still x (h .whole .c) (x .state .depth) (x .state .locals) p;
       }
 
   one-behind : rowsOf k ≡ 1 → Behind (putKind k (u .word) (u .next) (operandCount u) x) d v
@@ -212,21 +229,35 @@ module _ (t : List ℕ) (x : World) (h : Between t x) (u : Span) (k : ℕ) (pk :
         counted = put-counted k (u .word) (u .next) (operandCount u) x (h .whole .c) (h .whole .rows) m (h .fits .long) l (ground-is l) jump-is (x .state .depth) p shallow parameters lets;
       }
 
+  -- the state behind an else-if jump
+  abbrev jumped : World
+  jumped = putKind k (u .word) (u .word + 1) 0 x
+
+  jump-counted : k ≡ 21 → rowsOf k ≡ 2 → Counted jumped (suc (h .whole .c)) (x .state .depth) (x .state .locals)
+  jump-counted e n =
+      let l : isListed k ≡ true = listed-is (λ z. omega arith) in
+      let m : x .state .count ≤ 1024 = omega (arith, h .fits .free) in
+      still-before k 0 (openRow x .before) (still-high k (omega arith)) jumped (suc (h .whole .c)) (x .state .depth) (x .state .locals)
+      (put-counted k (u .word) (u .word + 1) 0 x (h .whole .c) (h .whole .rows) m (h .fits .long) l (ground-is l) jump-is (x .state .depth) p shallow (λ q. absurd (omega arith)) lets)
+
   two-behind : k ≡ 21 → rowsOf k ≡ 2 → Behind (growTwo t u k x) d v
   unfolding growTwo
   two-behind e n =
       let l : isListed k ≡ true = listed-is (λ z. omega arith) in
       let m : x .state .count ≤ 1023 = omega (arith, h .fits .free) in
       let m′ : x .state .count ≤ 1024 = omega arith in
-      let a : RowsOf (putKind k (u .word) (u .word + 1) 0 x) (suc (h .whole .c)) = put-rows k (u .word) (u .word + 1) 0 x (h .whole .c) (h .whole .rows) m′ (h .fits .long) l (ground-is l) jump-is in
-      let w : viewOf (putKind k (u .word) (u .word + 1) 0 x .table) (h .whole .c) .kind ≡ k = put-kind k (u .word) (u .word + 1) 0 x (h .whole .c) (h .whole .rows) m′ (h .fits .long) l (ground-is l) jump-is in
-      let f = put-counted k (u .word) (u .word + 1) 0 x (h .whole .c) (h .whole .rows) m′ (h .fits .long) l (ground-is l) jump-is (x .state .depth) p shallow (λ q. absurd (omega arith)) lets in
-      let y : localsBehind k 0 (openRow x .before) (x .state .locals) ≡ putKind k (u .word) (u .word + 1) 0 x .state .locals = locals-plain k 0 (openRow x .before) (x .state .locals) (λ q. omega arith) (λ q. omega arith) (λ q. omega arith) ∙ sym (locals-put k (u .word) (u .word + 1) 0 x) in
-      let i : putKind k (u .word) (u .word + 1) 0 x .state .locals ≡ v = locals-put k (u .word) (u .word + 1) 0 x ∙ sym (locals-plain k (operandCount u) (openRow x .before) (x .state .locals) (λ q. omega arith) (λ q. omega arith) (λ q. omega arith)) in
-      subst (λ (n : ℕ). Behind (putKind (kindOfWord (wordAt t (u .word + 1))) (u .word + 1) (u .next) 2 (putKind k (u .word) (u .word + 1) 0 x)) d n) i
-      (second-behind (putKind k (u .word) (u .word + 1) 0 x) (h .whole .c) a (w ∙ e) (omega (arith, count-put k (u .word) (u .word + 1) 0 x))
-      (length-put k (u .word) (u .word + 1) 0 x m′ (h .fits .long)) (kindOfWord (wordAt t (u .word + 1))) (u .word + 1) (u .next) 2 (line-jump t (u .word) (sym pk ∙ e)) d
-      (subst (λ (n : ℕ). Counted (putKind k (u .word) (u .word + 1) 0 x) (suc (h .whole .c)) d n) y f))
+      let a : RowsOf jumped (suc (h .whole .c)) = put-rows k (u .word) (u .word + 1) 0 x (h .whole .c) (h .whole .rows) m′ (h .fits .long) l (ground-is l) jump-is in
+      let f : viewOf (jumped .table) (h .whole .c) .kind ≡ k = put-kind k (u .word) (u .word + 1) 0 x (h .whole .c) (h .whole .rows) m′ (h .fits .long) l (ground-is l) jump-is in
+      let i : jumped .state .locals ≡ x .state .locals = locals-put k (u .word) (u .word + 1) 0 x in
+      let r : Behind (growTwo t u k x) (x .state .depth) (jumped .state .locals) = second-behind jumped (h .whole .c) a (f ∙ e) (omega (arith, count-put k (u .word) (u .word + 1) 0 x))
+      (length-put k (u .word) (u .word + 1) 0 x m′ (h .fits .long)) (kindOfWord (wordAt t (u .word + 1))) (u .word + 1) (u .next) 2 (line-jump t (u .word) (sym pk ∙ e)) (x .state .depth)
+      (subst (λ (n : ℕ). Counted jumped (suc (h .whole .c)) (x .state .depth) n) (sym i) (jump-counted e n)) in
+      record {
+        c = r .c;
+        count = r .count;
+        counted = still-behind k (operandCount u) (openRow x .before) (still-high k (omega arith)) (growTwo t u k x) (r .c) (x .state .depth) (x .state .locals)
+            (subst (λ (n : ℕ). Counted (growTwo t u k x) (r .c) (x .state .depth) n) i (r .counted));
+      }
 
   grow-behind : Behind (growBy (rowsOf k) t u k x) d v
   unfolding growBy

@@ -1,24 +1,23 @@
 -- What a line without a fault says of its place and its list.
 -- Assumes nothing.
-use mathlib.Core.Path.{_≡_, refl, sym, _∙_, ap, subst}
-use mathlib.Core.Bool.{Bool, true, false}
-use mathlib.Core.List.{List, [], _∷_}
-use Prim.Native.Nat.{ℕ, zero, suc, _+_, _-_, _≤_, _<_, min}
+use mathlib.Core.Path.{_≡_, refl, sym, _∙_, ap}
+use mathlib.Core.List.{List}
+use Prim.Native.Nat.{ℕ, _+_, _≤_, _<_}
 use native.Mathlib.Omega.{arith}
-use Rattle.prelude.specs.Choice.{ifLt, ifEq, ifTrue}
+use Rattle.prelude.specs.Choice.{ifLt}
 use Rattle.prelude.specs.Fault.{none, leastOf}
 use Rattle.prelude.proofs.Choice.{either, ifEq-yes, ifTrue-yes}
 use Rattle.prelude.proofs.Keys.{key-fault}
 use Rattle.limits.specs.declared.Width.{Width}
-use Rattle.kinds.specs.Nesting.{standsIn, rowsOf}
+use Rattle.kinds.specs.Nesting.{standsIn}
 use Rattle.lines.specs.Tokens.{keyAt, wordAt}
 use Rattle.lines.specs.declared.Span.{Span}
-use Rattle.rules.specs.Rules.{shapeRule, leftRule, tokensRule, pastMost, listRule, labelsRule}
+use Rattle.rules.specs.Rules.{pastMost, listRule}
 use Rattle.shapes.specs.Shapes.{operandCount, isListed}
 use Rattle.vocabulary.specs.Words.{words, mostOperands, entryOf, firstOf, isNumber}
 use Rattle.lines.specs.Lines.{lineKind}
 use Rattle.nested.proofs.Lines.{line-function}
-use Rattle.parser.specs.Places.{labelRule, placeRule, roomRule, localsRule, depthRule, lineFaults, limitFaults, unitFault}
+use Rattle.parser.specs.Places.{placeRule, lineFaults, limitFaults, unitFault}
 use Rattle.parser.specs.declared.State.{State}
 
 key-low : (t : List ℕ) (n i number : ℕ) → number < 64 → keyAt t n i number < none

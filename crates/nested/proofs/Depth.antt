@@ -1,20 +1,20 @@
 -- Blocks: how deep a row stands, row after row.
 -- Assumes nothing.
 use mathlib.Core.Path.{_≡_, refl, sym, _∙_, ap, subst}
-use mathlib.Core.Bool.{Bool, true, false, not}
-use Prim.Native.Nat.{ℕ, zero, suc, _+_, _-_, _≤_, _<_}
+use mathlib.Core.Bool.{Bool, true, false}
+use Prim.Native.Nat.{ℕ, zero, suc, _-_, _≤_, _<_}
 use native.Mathlib.Nat.{not-suc-le-zero}
 use native.Mathlib.Decide.{ℕ-discrete}
 use native.Mathlib.Omega.{arith}
-use borrow.Author.Tests.{eqb-true, eq-eqb, ne-eqb, leb-true, le-leb}
+use borrow.Author.Tests.{eqb-true, eq-eqb, leb-true, le-leb}
 use lib.Dec.{eqb, leb}
 use Rattle.prelude.specs.Choice.{ifEq, ifTrue}
-use Rattle.prelude.proofs.Choice.{true-false, ifEq-yes, ifEq-no}
+use Rattle.prelude.proofs.Choice.{ifEq-yes, ifEq-no}
 use Rattle.kinds.specs.Nesting.{isFrame}
 use Rattle.parser.specs.Parse.{depthBehind}
 use Rattle.tables.specs.Tests.{given}
 use Rattle.tables.specs.Statement.{Row}
-use Rattle.tables.specs.Nesting.{openBefore, stands, depthOf, encloses}
+use Rattle.tables.specs.Nesting.{openBefore, stands, depthOf}
 use Rattle.tables.specs.WellFormed.{shallow}
 use Rattle.tables.proofs.Each.{given-then}
 use Rattle.tables.proofs.Nested.{small, open-some}

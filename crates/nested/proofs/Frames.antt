@@ -3,7 +3,7 @@
 use mathlib.Core.Path.{_≡_, refl, sym, _∙_, ap, subst}
 use mathlib.Core.Bool.{Bool, true, false, not}
 use mathlib.Core.List.{List, [], _∷_}
-use Prim.Native.Nat.{ℕ, zero, suc, _+_, _-_, _≤_, _<_}
+use Prim.Native.Nat.{ℕ, zero, suc, _-_, _≤_, _<_}
 use native.Mathlib.Nat.{not-suc-le-zero}
 use native.Mathlib.Decide.{ℕ-discrete, decLt}
 use native.Mathlib.Omega.{arith}
@@ -11,13 +11,13 @@ use borrow.Author.Tests.{eqb-true, eq-eqb, ne-eqb, leb-true, ltb-true, le-leb}
 use lib.Dec.{eqb, ltb, leb}
 use lib.ListN.{getD}
 use Rattle.prelude.specs.Choice.{ifLt, ifEq, ifTrue}
-use Rattle.prelude.proofs.Choice.{either-true, either-eq, true-false, ifTrue-yes, ifTrue-no, ifEq-yes, ifEq-no}
+use Rattle.prelude.proofs.Choice.{either-true, either-eq, ifTrue-yes, ifTrue-no, ifEq-yes, ifEq-no}
 use Rattle.kinds.specs.Nesting.{statementIn, standsIn, enters, leaves, groundOf, isFrame}
 use Rattle.tables.specs.Tests.{both, given, all, allBelow}
 use Rattle.tables.specs.Statement.{Row}
-use Rattle.tables.specs.Nesting.{behind, openBefore, groundIn, funcIn, scopeIn, upIn, isListed, stands}
-use Rattle.tables.proofs.Each.{both-left, both-right, both-true, given-then, all-at, below-at}
-use Rattle.tables.proofs.Nested.{here, fact, ground-some, ground-low, ground-high, open-some, small, func-open, kind-not}
+use Rattle.tables.specs.Nesting.{behind, openBefore, scopeIn, upIn, isListed, stands}
+use Rattle.tables.proofs.Each.{both-true, given-then, all-at, below-at}
+use Rattle.tables.proofs.Nested.{here, ground-some, ground-low, ground-high, open-some, small, func-open, kind-not}
 use Rattle.nested.proofs.Standing.{leaver-some}
 
 -- the frame in which a row stands, where what has the number o is open
@@ -137,7 +137,8 @@ module _ (f : ℕ → Row) (c : ℕ) (ok : (n : ℕ) → n < c → stands f n �
   -- an arm: no frame
   arm-high : (p : ℕ) → p < c → leaves (f p .kind) ≡ true → (f p .kind ≡ 2 → ⊥) → (f p .kind ≡ 4 → ⊥) → 14 ≤ f (openBefore f p - 1) .kind
   arm-high p h e a b =
-      let l : 6 ≤ standsIn (f p .kind) .lo = leb-true _ _ (given-then (both (leaves (f p .kind)) (both (not (eqb (f p .kind) 2)) (not (eqb (f p .kind) 4)))) (leb 6 (standsIn (f p .kind) .lo)) (frame-fact p 0 h (omega arith)) (both-true _ _ e (both-true _ _ (not-ne _ _ a) (not-ne _ _ b)))) in
+      let k : both (leaves (f p .kind)) (both (not (eqb (f p .kind) 2)) (not (eqb (f p .kind) 4))) ≡ true = both-true _ _ e (both-true _ _ (not-ne _ _ a) (not-ne _ _ b)) in
+      let l : 6 ≤ standsIn (f p .kind) .lo = leb-true _ _ (given-then (both (leaves (f p .kind)) (both (not (eqb (f p .kind) 2)) (not (eqb (f p .kind) 4)))) (leb 6 (standsIn (f p .kind) .lo)) (frame-fact p 0 h (omega arith)) k) in
       let s : 1 ≤ openBefore f p = leaver-some f c ok p h e in
       let o : openBefore f p ≤ p = open-low p (omega arith) in
       let g : 6 ≤ groundOf (f (openBefore f p - 1) .kind) = omega (arith, ground-low f c ok p h, ground-some f c ok (openBefore f p) s) in

@@ -1,17 +1,15 @@
 -- The test of an `else if..` line stands where the `if` stands.
 -- Assumes nothing.
-use mathlib.Core.Path.{_≡_, refl, sym, _∙_, ap, subst}
+use mathlib.Core.Path.{_≡_, sym, _∙_, ap}
 use mathlib.Core.Bool.{Bool, true, false, not}
-use mathlib.Core.List.{List, [], _∷_}
-use Prim.Native.Nat.{ℕ, zero, suc, _+_, _-_, _≤_, _<_}
+use Prim.Native.Nat.{ℕ, suc, _-_, _≤_, _<_}
 use native.Mathlib.Omega.{arith}
 use borrow.Author.Tests.{eqb-true, eq-eqb, ltb-true}
 use lib.Dec.{eqb, ltb, leb}
-use Rattle.prelude.specs.Choice.{ifLt, ifEq, ifTrue}
 use Rattle.prelude.proofs.Choice.{either, true-false, ifTrue-yes, ifTrue-no, ifEq-no, ifLt-yes}
 use Rattle.kinds.specs.Nesting.{range, statementIn, standsIn, enters, leaves, groundOf}
 use Rattle.kinds.specs.declared.Range.{Range}
-use Rattle.tables.specs.Tests.{both, given}
+use Rattle.tables.specs.Tests.{both}
 use Rattle.tables.specs.Statement.{Row, isTest}
 use Rattle.tables.specs.Nesting.{behind, openBefore, groundIn, upIn, mayStand, stands}
 use Rattle.tables.proofs.Each.{both-left, both-right, given-then}

@@ -2,33 +2,31 @@
 -- Assumes nothing.
 use mathlib.Core.Path.{_≡_, refl, sym, _∙_, ap, subst}
 use mathlib.Core.Bool.{Bool, true, false, not}
-use mathlib.Core.List.{List, [], _∷_}
-use Prim.Native.Nat.{ℕ, zero, suc, _+_, _-_, _*_, _≤_, _<_}
+use mathlib.Core.List.{List}
+use Prim.Native.Nat.{ℕ, suc, _+_, _-_, _≤_, _<_}
 use native.Mathlib.Nat.{not-suc-le-zero}
 use native.Mathlib.Decide.{ℕ-discrete, decLt}
 use native.Mathlib.Omega.{arith}
-use borrow.Author.Tests.{eqb-true, eq-eqb, ne-eqb, leb-true, ltb-true, le-leb, lt-ltb}
-use lib.Dec.{eqb, ltb, leb}
+use borrow.Author.Tests.{eqb-true, eq-eqb, ne-eqb, leb-true, le-leb, lt-ltb}
+use lib.Dec.{eqb, leb}
 use lib.ListN.{length, length-set, length-replicate}
-use Rattle.prelude.specs.Choice.{ifLt, ifEq, ifTrue}
+use Rattle.prelude.specs.Choice.{ifEq}
 use Rattle.prelude.specs.Fault.{none}
 use Rattle.prelude.specs.Lists.{zeros}
 use Rattle.prelude.specs.Walk.{Step, go, stop}
 use Rattle.prelude.proofs.Choice.{either, either-eq, ifEq-yes, ifEq-no, true-false}
 use Rattle.prelude.proofs.Walk.{Kept}
 use Rattle.limits.specs.declared.Width.{Width}
-use Rattle.kinds.specs.Nesting.{standsIn, statementIn, rowsOf, groundOf, enters, kindOfWord}
+use Rattle.kinds.specs.Nesting.{standsIn, rowsOf, groundOf, kindOfWord}
 use Rattle.lines.specs.Tokens.{wordAt}
 use Rattle.lines.specs.Units.{unitAt}
 use Rattle.lines.specs.Lines.{lineKind}
 use Rattle.lines.specs.declared.Span.{Span}
 use Rattle.shapes.specs.Shapes.{operandCount}
 use Rattle.parser.specs.Outline as outline
-use Rattle.parser.specs.Outline.{putRow}
 use Rattle.parser.specs.Places as places
-use Rattle.parser.specs.Parse.{World, world, Result, result, begin, putState, putKind, growTwo, growBy, sectionBehind, stateBehind, joinState, advance, openRow, faultIn, turnOn, turnOf}
+use Rattle.parser.specs.Parse.{World, world, Result, begin, putState, putKind, growTwo, growBy, sectionBehind, stateBehind, joinState, advance, openRow, faultIn, turnOn, turnOf}
 use Rattle.parser.specs.Fits.{TurnFits}
-use Rattle.parser.specs.declared.State.{State}
 use Rattle.parser.specs.declared.Verdict.{Verdict}
 use Rattle.parser.specs.declared.Verdict.the-variants.{Accepted, Refused}
 use Rattle.parser.proofs.Cases.{row-put}
@@ -36,12 +34,12 @@ use Rattle.parser.proofs.Bounds.{clean-room}
 use Rattle.parser.proofs.Turns.{TurnGood, turn-good}
 use Rattle.tables.specs.Tests.{both, given}
 use Rattle.tables.specs.Statement.{Row, isTest}
-use Rattle.tables.specs.Nesting.{openBefore, groundIn, isListed, mayStand, followsJump, stands}
+use Rattle.tables.specs.Nesting.{openBefore, groundIn, isListed, mayStand, followsJump}
 use Rattle.tables.proofs.Each.{both-left, both-right, both-true, given-then}
-use Rattle.tables.proofs.Nested.{kind-fact, fact, small}
+use Rattle.tables.proofs.Nested.{kind-fact}
 use Rattle.nested.proofs.View.{viewOf}
 use Rattle.nested.proofs.Lines.{line-listed, line-jump}
-use Rattle.nested.proofs.Standing.{Opened, opened}
+use Rattle.nested.proofs.Standing.{open-high}
 use Rattle.nested.proofs.Put.{Formed, new, put-formed}
 use Rattle.nested.proofs.Jumps.{jump-ground, test-between}
 use Rattle.nested.proofs.Clean.{clean-place}
@@ -268,11 +266,8 @@ closed t x h l =
     elim (ℕ-discrete (x .state .top) 0) [
       | yes z ↦ z
       | no z ↦
-          let c : ℕ = h .whole .c in
           let o : openBefore (viewOf (x .table)) (h .whole .c) ≡ x .state .top = h .whole .rows .formed .last in
-          let b = small (viewOf (x .table)) (h .whole .c) (h .whole .rows .formed .rows) (h .whole .c) (omega arith) .open-low in
-          let e : enters (viewOf (x .table) (x .state .top - 1) .kind) ≡ true = rw o at (opened (viewOf (x .table)) (h .whole .c) (h .whole .rows .formed .rows) (h .whole .c) (omega arith) .top (omega arith)) in
-          let m : 4 ≤ groundOf (viewOf (x .table) (x .state .top - 1) .kind) = leb-true _ _ (given-then (enters (viewOf (x .table) (x .state .top - 1) .kind)) (leb 4 (groundOf (viewOf (x .table) (x .state .top - 1) .kind))) (fact (viewOf (x .table)) (h .whole .c) (h .whole .rows .formed .rows) (x .state .top - 1) 7 (omega arith) (omega arith)) e) in
+          let m : 4 ≤ groundOf (viewOf (x .table) (x .state .top - 1) .kind) = rw o at (open-high (viewOf (x .table)) (h .whole .c) (h .whole .rows .formed .rows) (h .whole .c) (omega arith) (omega arith)) in
           absurd (omega (arith, open-ground x z, ifEq-no 1 (groundOf (viewOf (x .table) (x .state .top - 1) .kind)) z))
     ]
 

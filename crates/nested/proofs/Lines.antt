@@ -1,14 +1,14 @@
 -- What kinds lines have: a line that makes rows has a kind that docs/TABLES.md lists, and behind `else` on its line stands a test.
 -- Assumes nothing.
-use mathlib.Core.Path.{_≡_, refl, sym, _∙_, ap, subst}
-use mathlib.Core.Bool.{Bool, true, false, not}
+use mathlib.Core.Path.{_≡_, refl}
+use mathlib.Core.Bool.{Bool, true, not}
 use mathlib.Core.List.{List, [], _∷_}
-use Prim.Native.Nat.{ℕ, zero, suc, _+_, _-_, _≤_, _<_}
+use Prim.Native.Nat.{ℕ, _+_, _≤_, _<_}
 use native.Mathlib.Decide.{decLt}
 use native.Mathlib.Omega.{arith}
-use borrow.Author.Tests.{eqb-true, eq-eqb, lt-ltb, leb-true, ltb-true}
-use lib.Dec.{eqb, ltb, leb}
-use lib.ListN.{length, getD, List·getD-eq-default}
+use borrow.Author.Tests.{eqb-true, eq-eqb, lt-ltb}
+use lib.Dec.{eqb, ltb}
+use lib.ListN.{getD, List·getD-eq-default}
 use Rattle.prelude.specs.Choice.{ifLt, ifEq, ifTrue}
 use Rattle.prelude.proofs.Choice.{either, either-eq}
 use Rattle.kinds.specs.Nesting.{wordKinds, kindOfWord}
@@ -16,7 +16,7 @@ use Rattle.lines.specs.Tokens.{kindAt, wordAt}
 use Rattle.lines.specs.Lines.{sectionKind, endKind, testKind, elseKind, setKind, symbolKind, otherKind, lineKind}
 use Rattle.tables.specs.Tests.{both, given, all, allBelow}
 use Rattle.tables.specs.Statement.{isTest}
-use Rattle.tables.proofs.Each.{given-then, all-at, below-at}
+use Rattle.tables.proofs.Each.{both-left, both-right, given-then, all-at, below-at}
 use Rattle.tables.proofs.Nested.{not-eq}
 
 -- ---- words
@@ -73,55 +73,68 @@ record Line (w v k : ℕ) : Type 0 where
   jump : k ≡ 21 → isTest (kindOfWord v) ≡ true
   function : k ≡ 1 → w ≡ 9
 
+-- neither a function, nor a jump, nor a kind that no line has
+abbrev isPlain : ℕ → Bool
+isPlain k = both (both (not (eqb k 23)) (not (eqb k 24))) (both (not (eqb k 21)) (not (eqb k 1)))
+
 module _ (w v : ℕ) where
-  other : (k : ℕ) → (23 ≤ k → 25 ≤ k) → (k ≡ 21 → ⊥) → (k ≡ 1 → ⊥) → Line w v k
-  other k a b c = record { listed = a; jump = λ e. absurd (b e); function = λ e. absurd (c e) }
+  other : (k : ℕ) → isPlain k ≡ true → Line w v k
+  other k h =
+      let p : both (not (eqb k 23)) (not (eqb k 24)) ≡ true = both-left (both (not (eqb k 23)) (not (eqb k 24))) (both (not (eqb k 21)) (not (eqb k 1))) h in
+      let q : both (not (eqb k 21)) (not (eqb k 1)) ≡ true = both-right (both (not (eqb k 23)) (not (eqb k 24))) (both (not (eqb k 21)) (not (eqb k 1))) h in
+      let a : (k ≡ 23 → ⊥) = not-eq k 23 (both-left (not (eqb k 23)) (not (eqb k 24)) p) in
+      let b : (k ≡ 24 → ⊥) = not-eq k 24 (both-right (not (eqb k 23)) (not (eqb k 24)) p) in
+      record {
+        listed = λ l. omega arith;
+        jump = λ e. absurd (not-eq k 21 (both-left (not (eqb k 21)) (not (eqb k 1)) q) e);
+        function = λ e. absurd (not-eq k 1 (both-right (not (eqb k 21)) (not (eqb k 1)) q) e);
+      }
 
   section-line : (z : ℕ) → Line w v (sectionKind z)
   unfolding sectionKind
   section-line z =
-      either-eq (Line w v) z 52 _ _ (λ _. other 25 (λ l. omega arith) (λ e. omega arith) (λ e. omega arith)) (λ _.
-      either-eq (Line w v) z 53 _ _ (λ _. other 26 (λ l. omega arith) (λ e. omega arith) (λ e. omega arith)) (λ _.
-      either-eq (Line w v) z 54 _ _ (λ _. other 34 (λ l. omega arith) (λ e. omega arith) (λ e. omega arith))
-      (λ _. other 35 (λ l. omega arith) (λ e. omega arith) (λ e. omega arith))))
+      either-eq (Line w v) z 52 _ _ (λ _. other 25 refl) (λ _.
+      either-eq (Line w v) z 53 _ _ (λ _. other 26 refl) (λ _.
+      either-eq (Line w v) z 54 _ _ (λ _. other 34 refl)
+      (λ _. other 35 refl)))
 
   end-line : (z : ℕ) → Line w v (endKind z)
   unfolding endKind
   end-line z =
-      either-eq (Line w v) z 9 _ _ (λ _. other 2 (λ l. omega arith) (λ e. omega arith) (λ e. omega arith)) (λ _.
-      either-eq (Line w v) z 10 _ _ (λ _. other 4 (λ l. omega arith) (λ e. omega arith) (λ e. omega arith)) (λ _.
-      either-eq (Line w v) z 13 _ _ (λ _. other 22 (λ l. omega arith) (λ e. omega arith) (λ e. omega arith)) (λ _.
-      either-eq (Line w v) z 8 _ _ (λ _. other 33 (λ l. omega arith) (λ e. omega arith) (λ e. omega arith))
-      (λ _. other 35 (λ l. omega arith) (λ e. omega arith) (λ e. omega arith)))))
+      either-eq (Line w v) z 9 _ _ (λ _. other 2 refl) (λ _.
+      either-eq (Line w v) z 10 _ _ (λ _. other 4 refl) (λ _.
+      either-eq (Line w v) z 13 _ _ (λ _. other 22 refl) (λ _.
+      either-eq (Line w v) z 8 _ _ (λ _. other 33 refl)
+      (λ _. other 35 refl))))
 
   test-line : Line w v (testKind v)
   unfolding testKind
   test-line =
-      either (Line w v) v 27 _ _ (λ _. other 35 (λ l. omega arith) (λ e. omega arith) (λ e. omega arith)) (λ a.
+      either (Line w v) v 27 _ _ (λ _. other 35 refl) (λ a.
       either (Line w v) v 33 _ _ (λ b. record { listed = λ l. omega arith; jump = λ e. word-test v a b; function = λ e. omega arith })
-      (λ _. other 35 (λ l. omega arith) (λ e. omega arith) (λ e. omega arith)))
+      (λ _. other 35 refl))
 
   else-line : (kind : ℕ) → Line w v (elseKind kind v)
   unfolding elseKind
   else-line kind =
-      either (Line w v) kind 2 _ _ (λ _. other 20 (λ l. omega arith) (λ e. omega arith) (λ e. omega arith)) (λ _.
-      either-eq (Line w v) kind 3 _ _ (λ _. test-line) (λ _. other 35 (λ l. omega arith) (λ e. omega arith) (λ e. omega arith)))
+      either (Line w v) kind 2 _ _ (λ _. other 20 refl) (λ _.
+      either-eq (Line w v) kind 3 _ _ (λ _. test-line) (λ _. other 35 refl))
 
   set-line : (kind : ℕ) → Line w v (setKind kind)
   unfolding setKind
   set-line kind =
-      either-eq (Line w v) kind 5 _ _ (λ _. other 7 (λ l. omega arith) (λ e. omega arith) (λ e. omega arith)) (λ _.
-      either-eq (Line w v) kind 6 _ _ (λ _. other 7 (λ l. omega arith) (λ e. omega arith) (λ e. omega arith)) (λ _.
-      either-eq (Line w v) kind 8 _ _ (λ _. other 7 (λ l. omega arith) (λ e. omega arith) (λ e. omega arith))
-      (λ _. other 6 (λ l. omega arith) (λ e. omega arith) (λ e. omega arith))))
+      either-eq (Line w v) kind 5 _ _ (λ _. other 7 refl) (λ _.
+      either-eq (Line w v) kind 6 _ _ (λ _. other 7 refl) (λ _.
+      either-eq (Line w v) kind 8 _ _ (λ _. other 7 refl)
+      (λ _. other 6 refl)))
 
   symbol-line : (kind : ℕ) → Line w v (symbolKind w kind v)
   unfolding symbolKind
   symbol-line kind =
       either-eq (Line w v) w 1 _ _
-      (λ _. either-eq (Line w v) kind 3 _ _ (λ _. section-line v) (λ _. other 35 (λ l. omega arith) (λ e. omega arith) (λ e. omega arith))) (λ _.
+      (λ _. either-eq (Line w v) kind 3 _ _ (λ _. section-line v) (λ _. other 35 refl)) (λ _.
       either-eq (Line w v) w 11 _ _
-      (λ _. either-eq (Line w v) kind 3 _ _ (λ _. end-line v) (λ _. other 35 (λ l. omega arith) (λ e. omega arith) (λ e. omega arith))) (λ _.
+      (λ _. either-eq (Line w v) kind 3 _ _ (λ _. end-line v) (λ _. other 35 refl)) (λ _.
       either-eq (Line w v) w 12 _ _ (λ _. else-line kind) (λ _.
       either-eq (Line w v) w 18 _ _ (λ _. set-line kind)
       (λ _. let f = word-kind w in record { listed = f .listed; jump = λ e. absurd (f .no-jump e); function = f .function }))))
@@ -129,14 +142,14 @@ module _ (w v : ℕ) where
   other-line : (kind : ℕ) → Line w v (otherKind kind w)
   unfolding otherKind
   other-line kind =
-      either-eq (Line w v) kind 0 _ _ (λ _. other 0 (λ l. omega arith) (λ e. omega arith) (λ e. omega arith)) (λ _.
+      either-eq (Line w v) kind 0 _ _ (λ _. other 0 refl) (λ _.
       either-eq (Line w v) kind 4 _ _ (λ _. left) (λ _.
-      either-eq (Line w v) kind 6 _ _ (λ _. left) (λ _. other 35 (λ l. omega arith) (λ e. omega arith) (λ e. omega arith))))
+      either-eq (Line w v) kind 6 _ _ (λ _. left) (λ _. other 35 refl)))
     where
       left : Line w v (ifEq w 3 34 35)
       left =
-          either-eq (Line w v) w 3 _ _ (λ _. other 34 (λ l. omega arith) (λ e. omega arith) (λ e. omega arith))
-          (λ _. other 35 (λ l. omega arith) (λ e. omega arith) (λ e. omega arith))
+          either-eq (Line w v) w 3 _ _ (λ _. other 34 refl)
+          (λ _. other 35 refl)
 
 line : (t : List ℕ) (i : ℕ) → Line (wordAt t i) (wordAt t (i + 1)) (lineKind t i)
 unfolding lineKind

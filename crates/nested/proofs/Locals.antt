@@ -1,26 +1,24 @@
 -- Locals in scope, row after row.
 -- Assumes nothing.
 use mathlib.Core.Path.{_≡_, refl, sym, _∙_, ap, ap₂, subst}
-use mathlib.Core.Bool.{Bool, true, false, not}
+use mathlib.Core.Bool.{Bool, true, false}
 use Prim.Native.Nat.{ℕ, zero, suc, _+_, _-_, _≤_, _<_}
-use native.Mathlib.Nat.{not-suc-le-zero}
 use native.Mathlib.Decide.{ℕ-discrete}
 use native.Mathlib.Omega.{arith}
-use borrow.Author.Tests.{eqb-true, eq-eqb, ne-eqb, leb-true, le-leb, lt-ltb}
+use borrow.Author.Tests.{eqb-true, eq-eqb, ne-eqb, le-leb, lt-ltb}
 use lib.Dec.{eqb, leb, ltb}
-use Rattle.prelude.specs.Choice.{pick, ifEq, ifTrue}
-use Rattle.prelude.proofs.Choice.{true-false, ifEq-yes, ifEq-no}
-use Rattle.kinds.specs.Nesting.{isFrame}
+use Rattle.prelude.specs.Choice.{pick, ifEq}
+use Rattle.prelude.proofs.Choice.{ifEq-yes, ifEq-no}
 use Rattle.parser.specs.Parse.{localsBehind}
 use Rattle.tables.specs.Tests.{both, given, countBelow}
 use Rattle.tables.specs.Statement.{Row}
 use Rattle.tables.specs.Nesting.{openBefore, funcIn, stands, depthOf, encloses}
 use Rattle.tables.specs.Frames.{letSeen, localsAt}
 use Rattle.tables.specs.WellFormed.{fewLocals}
-use Rattle.tables.proofs.Each.{both-true, given-then}
-use Rattle.tables.proofs.Nested.{here, small, open-some, func-open, Held, held}
+use Rattle.tables.proofs.Each.{both-left, both-right, given-then, both-true}
+use Rattle.tables.proofs.Nested.{here, open-some, func-open, held}
 use Rattle.nested.proofs.View.{strip}
-use Rattle.nested.proofs.Standing.{kind-same, func-same, scope-same, own-same, open-same}
+use Rattle.nested.proofs.Standing.{kind-same, func-same, scope-same, parameters-same, open-same}
 use Rattle.nested.proofs.Frames.{frameIn, open-low, scope-low, scope-open, frame-low, func-stays, frame-stays, frame-function, frame-block, end-function, Block, end-block, inner}
 use Rattle.nested.proofs.Depth.{given-by, Deep, depth-in, frame-same}
 
@@ -260,8 +258,10 @@ module _ (f g : ℕ → Row) (c : ℕ) (ok : (n : ℕ) → n < c → stands f n 
   func-low : (i : ℕ) → i < c → f i .func < c
   func-low i h = omega (arith, held f c ok c (omega arith) i h .before)
 
-  parameters-same : (i : ℕ) → i < c → g (g i .func) .b ≡ f (f i .func) .b
-  parameters-same i h = ap (λ (n : ℕ). g n .b) (func-same f g c same i h) ∙ own-same f g c same (f i .func) (func-low i h)
+  frame-parameters : (i : ℕ) → i < c → g (g i .func) .b ≡ f (f i .func) .b
+  frame-parameters i h =
+      ap (λ (n : ℕ). g n .b) (func-same f g c same i h)
+      ∙ parameters-same f g c same (f i .func) (func-low i h) (held f c ok c (omega arith) i h .is-function)
 
   enc-same : (fuel e s : ℕ) → s < c → encloses g fuel e s ≡ encloses f fuel e s
   unfolding encloses
@@ -282,16 +282,21 @@ module _ (f g : ℕ → Row) (c : ℕ) (ok : (n : ℕ) → n < c → stands f n 
   locals-same : (m : ℕ) → m < c → localsAt g m ≡ localsAt f m
   unfolding localsAt
   locals-same m h =
-      ap₂ (λ (b s : ℕ). b + countBelow (letSeen g s) m) (parameters-same m h) (scope-same f g c same m h)
+      ap₂ (λ (b s : ℕ). b + countBelow (letSeen g s) m) (frame-parameters m h) (scope-same f g c same m h)
       ∙ ap (λ (n : ℕ). f (f m .func) .b + n) (count-same (f m .scope) m (omega (arith, scope-low f c ok m h)) (omega arith))
 
   pub few-same : (m : ℕ) → m < c → fewLocals f m ≡ true → fewLocals g m ≡ true
   unfolding fewLocals
-  few-same m h e = rw (kind-same f g c same m h, locals-same m h, own-same f g c same m h) e
+  few-same m h e =
+      both-true _ _
+      (given-by (eqb (g m .kind) 1) (leb (g m .b) 8)
+      (λ q. let k : f m .kind ≡ 1 = sym (kind-same f g c same m h) ∙ eqb-true _ _ q in
+      rw (parameters-same f g c same m h k) (given-then (eqb (f m .kind) 1) (leb (f m .b) 8) (both-left _ _ e) (eq-eqb _ _ k))))
+      (rw (kind-same f g c same m h, locals-same m h) (both-right (given (eqb (f m .kind) 1) (leb (f m .b) 8)) _ e))
 
   in-same : (o : ℕ) → 1 ≤ o → o ≤ c → localsIn g o c ≡ localsIn f o c
   in-same o l h =
-      ap₂ (λ (b s : ℕ). b + countBelow (letSeen g s) c) (parameters-same (o - 1) (omega arith)) (frame-same f g c same (scope-low f c ok) o l h)
+      ap₂ (λ (b s : ℕ). b + countBelow (letSeen g s) c) (frame-parameters (o - 1) (omega arith)) (frame-same f g c same (scope-low f c ok) o l h)
       ∙ ap (λ (n : ℕ). f (f (o - 1) .func) .b + n) (count-same (frameIn f o) c (omega (arith, frame-low f c ok o l h)) (omega arith))
 
   pub few-alike : (before after : ℕ → ℕ) (v : ℕ) → ((i : ℕ) → i < c → after i ≡ before i) → Few f before c v → Few g after c v

@@ -1,19 +1,16 @@
 -- The rows of an accepted source stand where the rules of nesting put them, nothing is open behind the last, blocks are at most 16
 -- deep, and parameters and locals are within their limits.
 -- Assumes nothing.
-use mathlib.Core.Path.{_≡_, refl, sym, _∙_, ap, subst}
-use mathlib.Core.Bool.{Bool, true, false}
-use mathlib.Core.List.{List, [], _∷_}
-use Prim.Native.Nat.{ℕ, zero, suc, _+_, _-_, _≤_, _<_}
+use mathlib.Core.Path.{_≡_, refl, _∙_, subst}
+use mathlib.Core.Bool.{true}
+use mathlib.Core.List.{List}
+use Prim.Native.Nat.{ℕ, _-_, _≤_, _<_}
 use native.Mathlib.Numerals.{add-one}
 use native.Mathlib.Omega.{arith}
 use borrow.Author.Tests.{eq-eqb}
 use lib.ListN.{length}
-use Rattle.prelude.specs.Fault.{none}
-use Rattle.prelude.specs.Lists.{zeros}
-use Rattle.prelude.proofs.Walk.{walk-kept}
 use Rattle.limits.specs.declared.Width.{Width}
-use Rattle.parser.specs.Parse.{World, world, Result, result, begin, turnOf, parseFrom, parseOf}
+use Rattle.parser.specs.Parse.{parseOf}
 use Rattle.parser.specs.declared.Verdict.{Verdict}
 use Rattle.parser.specs.declared.Verdict.the-variants.{Accepted, Refused}
 use Rattle.outline.specs.Outline.{answerOf, outlineOf}
@@ -21,13 +18,13 @@ use Rattle.outline.specs.declared.Parsed.{Parsed}
 use Rattle.outline.specs.declared.Parsed.the-variants as answer
 use Rattle.skeleton.specs.Skeleton.{skeletonOf}
 use Rattle.skeleton.proofs.Laws.{kind-is, func-is, scope-is, up-is, parameters-are}
-use Rattle.tables.specs.Statement.{Row, rowAt}
-use Rattle.tables.specs.Nesting.{behind, openBefore, groundIn, funcIn, scopeIn, upIn, followsJump, stands, allClosed}
+use Rattle.tables.specs.Statement.{rowAt}
+use Rattle.tables.specs.Nesting.{stands, allClosed}
 use Rattle.nested.proofs.View.{strip, viewOf}
 use Rattle.nested.proofs.Standing.{open-same, stands-same}
 use Rattle.nested.proofs.Put.{Formed}
-use Rattle.nested.proofs.Kept.{Whole, Nests}
-use Rattle.nested.proofs.Bounds.{Bounded, Bounds, parse-answers}
+use Rattle.nested.proofs.Kept.{Nests}
+use Rattle.nested.proofs.Bounds.{Bounds, parse-answers}
 use Rattle.nested.proofs.Frames.{scope-low}
 use Rattle.nested.proofs.Depth.{shallow-same}
 use Rattle.nested.proofs.Locals.{few-same}
@@ -65,7 +62,7 @@ outline-answered w t n e =
 -- ---- the skeleton's rows are those of the outline
 
 module _ (x : List ℕ) (c : ℕ) (h : c ≤ 1024) where
-  pub strip-is : (m : ℕ) → m < c → strip (rowAt (skeletonOf x c) m) ≡ viewOf x m
+  pub strip-is : (m : ℕ) → m < c → strip (rowAt (skeletonOf x c) m) ≡ strip (viewOf x m)
   strip-is m l =
       rw (kind-is x c h m l, func-is x c h m l, scope-is x c h m l, up-is x c h m l, parameters-are x c h m l, add-one m) refl
 
@@ -78,7 +75,7 @@ module _ (w : Width) (t : List ℕ) (n c l : ℕ) (e : length t ≡ 32768) (a : 
   x = outlineOf w t n .rows
 
   -- the skeleton has the same
-  pub rows-alike : (m : ℕ) → m < c → strip (rowAt (skeletonOf (outlineOf w t n .rows) c) m) ≡ viewOf (outlineOf w t n .rows) m
+  pub rows-alike : (m : ℕ) → m < c → strip (rowAt (skeletonOf (outlineOf w t n .rows) c) m) ≡ strip (viewOf (outlineOf w t n .rows) m)
   rows-alike m h = strip-is x c (accepted .few) m h
 
   -- "each function, `if` and block closed by its own `end`, no `let` in an `if` of its frame"

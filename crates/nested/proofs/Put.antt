@@ -2,26 +2,26 @@
 -- Assumes nothing.
 use mathlib.Core.Path.{_≡_, refl, sym, _∙_, ap, subst}
 use mathlib.Core.Bool.{Bool, true, false, not}
-use mathlib.Core.List.{List, [], _∷_}
-use Prim.Native.Nat.{ℕ, zero, suc, _+_, _-_, _*_, _≤_, _<_}
+use mathlib.Core.List.{List}
+use Prim.Native.Nat.{ℕ, suc, _+_, _-_, _*_, _≤_, _<_}
 use native.Mathlib.Decide.{ℕ-discrete}
 use native.Mathlib.Omega.{arith}
-use borrow.Author.Tests.{eqb-true, eq-eqb, ne-eqb, leb-true}
+use borrow.Author.Tests.{ne-eqb, leb-true}
 use lib.Dec.{eqb, ltb, leb}
 use lib.ListN.{length}
 use Rattle.prelude.specs.Choice.{ifLt, ifEq, ifTrue}
-use Rattle.prelude.proofs.Choice.{either-eq, either-true, ifTrue-yes, ifTrue-no, ifEq-yes, ifEq-no}
+use Rattle.prelude.proofs.Choice.{ifTrue-no, ifEq-yes, ifEq-no}
 use Rattle.kinds.specs.Nesting.{standsIn, enters, leaves, groundOf, isFrame}
 use Rattle.parser.specs.Outline as outline
 use Rattle.parser.specs.Outline.{putRow}
 use Rattle.parser.specs.declared.Row as declared
-use Rattle.tables.specs.Tests.{both, given, all}
+use Rattle.tables.specs.Tests.{given}
 use Rattle.tables.specs.Statement.{Row, isTest}
 use Rattle.tables.specs.Nesting.{behind, openBefore, groundIn, funcIn, scopeIn, upIn, isListed, mayStand, followsJump, stands}
-use Rattle.tables.proofs.Each.{both-left, both-right, given-then}
+use Rattle.tables.proofs.Each.{both-left, given-then}
 use Rattle.tables.proofs.Nested.{Standing, small, kind-fact}
-use Rattle.nested.proofs.View.{seen, viewOf, put-same, put-other}
-use Rattle.nested.proofs.Standing.{open-same, follows-same, ground-same, stands-same, stands-more}
+use Rattle.nested.proofs.View.{strip, seen, viewOf, put-same, put-other}
+use Rattle.nested.proofs.Standing.{open-same, follows-same, ground-same, stands-more}
 
 -- c rows stand, and behind them `top` is open
 pub record Formed (t : List ℕ) (c top : ℕ) : Type 0 where
@@ -62,6 +62,9 @@ module _ (t : List ℕ) (n c top k token next before operands : ℕ) (e : n ≡ 
   pub old : (i : ℕ) → i < c → g i ≡ f i
   old i l = ap seen (put-other t n r room (suc i) (omega arith))
 
+  pub alike : (i : ℕ) → i < c → strip (g i) ≡ strip (f i)
+  alike i l = ap strip (old i l)
+
   pub new : g c ≡ seen r
   new = ap (λ (m : ℕ). seen (outline.rowAt (putRow t n r) m)) (sym e) ∙ ap seen (put-same t n r room)
 
@@ -69,7 +72,7 @@ module _ (t : List ℕ) (n c top k token next before operands : ℕ) (e : n ≡ 
   top-low = omega (arith, small f c (h .rows) c (omega arith) .open-low, h .last)
 
   pub open-is : openBefore g c ≡ top
-  open-is = open-same f g c old c (omega arith) ∙ h .last
+  open-is = open-same f g c alike c (omega arith) ∙ h .last
 
   -- the row that is open, unless the new row is a function
   pub top-some : (k ≡ 1 → ⊥) → 1 ≤ top
@@ -120,8 +123,8 @@ module _ (t : List ℕ) (n c top k token next before operands : ℕ) (e : n ≡ 
       let d : g c .kind ≡ k = ap (λ (x : Row). x .kind) new ∙ new-kind in
       record {
         listed = rw d listed;
-        ground = rw (d, open-is, ground-same f g c old top top-low) ground;
-        jump = rw (d, follows-same f g c old c (omega arith)) jump;
+        ground = rw (d, open-is, ground-same f g c alike top top-low) ground;
+        jump = rw (d, follows-same f g c alike c (omega arith)) jump;
         func-is = ap (λ (x : Row). x .func) new ∙ rw (d, open-is) new-func;
         scope-is = ap (λ (x : Row). x .scope) new ∙ rw (d, open-is) new-scope;
         up-is = ap (λ (x : Row). x .up) new ∙ rw (d, open-is) new-up;
@@ -132,4 +135,4 @@ module _ (t : List ℕ) (n c top k token next before operands : ℕ) (e : n ≡ 
   behind-is = ap (behind c) new ∙ ap (λ (i : ℕ). ifTrue (enters (r .kind)) i (r .up)) (sym e)
 
   pub put-formed : Formed (putRow t n r) (suc c) (outline.behind n r)
-  put-formed = record { rows = stands-more f g c old (h .rows) new-stands; last = behind-is }
+  put-formed = record { rows = stands-more f g c alike (h .rows) new-stands; last = behind-is }

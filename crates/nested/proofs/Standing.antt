@@ -1,21 +1,21 @@
 -- Rows that stand: two views that agree, what is open, and one row more.
 -- Assumes nothing.
 use mathlib.Core.Path.{_≡_, refl, sym, _∙_, ap, subst}
-use mathlib.Core.Bool.{Bool, true, false, not}
-use mathlib.Core.List.{List, [], _∷_}
-use Prim.Native.Nat.{ℕ, zero, suc, _+_, _-_, _≤_, _<_}
+use mathlib.Core.Bool.{true, not}
+use Prim.Native.Nat.{ℕ, zero, suc, _-_, _≤_, _<_}
 use native.Mathlib.Nat.{not-suc-le-zero}
 use native.Mathlib.Decide.{ℕ-discrete}
 use native.Mathlib.Omega.{arith}
-use borrow.Author.Tests.{eqb-true, eq-eqb, ne-eqb, leb-true}
-use lib.Dec.{eqb, ltb, leb}
-use Rattle.prelude.specs.Choice.{ifEq, ifTrue}
-use Rattle.prelude.proofs.Choice.{either-true, true-false, ifTrue-yes, ifEq-yes, ifEq-no}
-use Rattle.kinds.specs.Nesting.{standsIn, enters, leaves, groundOf}
-use Rattle.tables.specs.Tests.{both, given, all}
-use Rattle.tables.specs.Statement.{Row, isTest}
-use Rattle.tables.specs.Nesting.{behind, openBefore, groundIn, funcIn, scopeIn, upIn, isListed, mayStand, followsJump, standsTests, stands}
+use borrow.Author.Tests.{leb-true, eq-eqb}
+use lib.Dec.{leb, eqb}
+use Rattle.prelude.specs.Choice.{ifEq}
+use Rattle.prelude.proofs.Choice.{either-true, ifEq-yes}
+use Rattle.kinds.specs.Nesting.{enters, leaves, groundOf}
+use Rattle.tables.specs.Tests.{all}
+use Rattle.tables.specs.Statement.{Row}
+use Rattle.tables.specs.Nesting.{behind, openBefore, groundIn, funcIn, scopeIn, upIn, followsJump, stands}
 use Rattle.tables.proofs.Each.{both-true, given-then}
+use Rattle.skeleton.specs.Skeleton.{parametersOf}
 use Rattle.nested.proofs.View.{strip}
 use Rattle.tables.proofs.Nested.{Standing, small, here, fact, open-some, not-eq}
 
@@ -44,8 +44,10 @@ module _ (f g : ℕ → Row) (c : ℕ) (same : (i : ℕ) → i < c → strip (g 
   pub up-same : (i : ℕ) → i < c → g i .up ≡ f i .up
   up-same i h = ap (λ (r : Row). r .up) (same i h)
 
-  pub own-same : (i : ℕ) → i < c → g i .b ≡ f i .b
-  own-same i h = ap (λ (r : Row). r .b) (same i h)
+  pub parameters-same : (i : ℕ) → i < c → f i .kind ≡ 1 → g i .b ≡ f i .b
+  unfolding parametersOf
+  parameters-same i h e =
+      sym (ifEq-yes (g i .b) 0 (kind-same i h ∙ e)) ∙ ap (λ (r : Row). r .b) (same i h) ∙ ifEq-yes (f i .b) 0 e
 
   pub open-same : (n : ℕ) → n ≤ c → openBefore g n ≡ openBefore f n
   unfolding openBefore behind
@@ -71,7 +73,8 @@ module _ (f g : ℕ → Row) (c : ℕ) (same : (i : ℕ) → i < c → strip (g 
     stands-same n h =
         let l : openBefore f n ≤ n = small f c ok n (omega arith) .open-low in
         let o : openBefore f n - 1 < c = omega arith in
-        rw (open-same n (omega arith), kind-same n h, func-same n h, scope-same n h, up-same n h, follows-same n (omega arith), ground-same (openBefore f n) (omega arith), kind-same (openBefore f n - 1) o, func-same (openBefore f n - 1) o, scope-same (openBefore f n - 1) o, up-same (openBefore f n - 1) o) (ok n h)
+        rw (open-same n (omega arith), kind-same n h, func-same n h, scope-same n h, up-same n h, follows-same n (omega arith), ground-same (openBefore f n) (omega arith))
+        (rw (kind-same (openBefore f n - 1) o, func-same (openBefore f n - 1) o, scope-same (openBefore f n - 1) o, up-same (openBefore f n - 1) o) (ok n h))
 
     -- with row c also standing, one row more stands
     pub stands-more : Standing g c → (n : ℕ) → n < suc c → stands g n ≡ true
@@ -114,3 +117,11 @@ module _ (f : ℕ → Row) (c : ℕ) (ok : (n : ℕ) → n < c → stands f n �
         top = either-true (λ (x : ℕ). 1 ≤ x → enters (f (x - 1) .kind) ≡ true) (enters (f j .kind)) (suc j) (f j .up)
             (λ e l. let z : j ≡ suc j - 1 = omega arith in subst (λ (i : ℕ). enters (f i .kind) ≡ true) z e) (λ e. u);
       }
+
+  -- so it gives a ground in a function
+  pub open-high : (j : ℕ) → j ≤ c → 1 ≤ openBefore f j → 4 ≤ groundOf (f (openBefore f j - 1) .kind)
+  open-high j h l =
+      let o : openBefore f j ≤ j = small f c ok j h .open-low in
+      leb-true _ _
+      (given-then (enters (f (openBefore f j - 1) .kind)) (leb 4 (groundOf (f (openBefore f j - 1) .kind)))
+      (fact f c ok (openBefore f j - 1) 7 (omega arith) (omega arith)) (opened j h .top l))

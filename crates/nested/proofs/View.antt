@@ -1,8 +1,8 @@
 -- The rows of an outline as rows of the statement table, and what putting one row more does to them.
 -- Assumes nothing.
 use mathlib.Core.Path.{_≡_, refl, sym, _∙_, ap}
-use mathlib.Core.List.{List, [], _∷_, _++_}
-use Prim.Native.Nat.{ℕ, zero, suc, _+_, _*_, _-_, _≤_, _<_}
+use mathlib.Core.List.{List, [], _++_}
+use Prim.Native.Nat.{ℕ, suc, _+_, _*_, _-_, _≤_, _<_}
 use native.Mathlib.Omega.{arith}
 use lib.ListN.{length, getD, take, drop, length-append, List·getD-append}
 use lib.Seq.{length-take-le, getD-take, getD-append-add}
@@ -19,9 +19,9 @@ abbrev pub bare : ℕ → ℕ → ℕ → ℕ → ℕ → Row
 bare kind func scope up b =
     record { kind = kind; func = func; scope = scope; up = up; a = 0; b = b; expr = 0; callee = 0; count = 0; address = Unlisted; operands = [] }
 
--- those five words of a row
+-- those five words of a row; only a function's row has parameters
 abbrev pub strip : Row → Row
-strip r = bare (r .kind) (r .func) (r .scope) (r .up) (r .b)
+strip r = bare (r .kind) (r .func) (r .scope) (r .up) (parametersOf (r .kind) (r .b))
 
 -- a row of the outline: rows of functions and frames count from 1 there
 abbrev pub seen : declared.Row → Row
@@ -56,10 +56,12 @@ module _ (t : List ℕ) (n : ℕ) (r : declared.Row) (h : n * 8 + 8 ≤ length t
   pub put-same : outline.rowAt (putRow t n r) n ≡ r
   unfolding outline.rowAt tokenWord
   put-same =
-      rw (word-same 0 (omega arith), word-same 1 (omega arith), word-same 2 (omega arith), word-same 3 (omega arith), word-same 4 (omega arith), word-same 5 (omega arith), word-same 6 (omega arith), word-same 7 (omega arith)) refl
+      rw (word-same 0 (omega arith), word-same 1 (omega arith), word-same 2 (omega arith), word-same 3 (omega arith))
+      (rw (word-same 4 (omega arith), word-same 5 (omega arith), word-same 6 (omega arith), word-same 7 (omega arith)) refl)
 
   -- the rows before it
   pub put-other : (m : ℕ) → m < n → outline.rowAt (putRow t n r) m ≡ outline.rowAt t m
   unfolding outline.rowAt tokenWord
   put-other m g =
-      rw (word-before (m * 8 + 0) (omega arith), word-before (m * 8 + 1) (omega arith), word-before (m * 8 + 2) (omega arith), word-before (m * 8 + 3) (omega arith), word-before (m * 8 + 4) (omega arith), word-before (m * 8 + 5) (omega arith), word-before (m * 8 + 6) (omega arith), word-before (m * 8 + 7) (omega arith)) refl
+      rw (word-before (m * 8 + 0) (omega arith), word-before (m * 8 + 1) (omega arith), word-before (m * 8 + 2) (omega arith), word-before (m * 8 + 3) (omega arith))
+      (rw (word-before (m * 8 + 4) (omega arith), word-before (m * 8 + 5) (omega arith), word-before (m * 8 + 6) (omega arith), word-before (m * 8 + 7) (omega arith)) refl)
