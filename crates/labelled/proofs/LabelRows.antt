@@ -30,7 +30,7 @@ use Rattle.parser.specs.Fits.{TurnFits}
 use Rattle.parser.specs.declared.State.{State}
 use Rattle.parser.specs.declared.Verdict.{Verdict}
 use Rattle.parser.specs.declared.Verdict.the-variants.{Accepted, Refused}
-use Rattle.parser.proofs.Bounds.{clean-room}
+use Rattle.parser.proofs.Bounds.{unit-order, clean-room}
 use Rattle.parser.proofs.Turns.{TurnGood, turn-good}
 use Rattle.outline.specs.Labels as marks
 use Rattle.outline.specs.Labels.{labelNumber, Marked, marked, markUnit, Marking, marking, marksBehind, markOn, markStep, marksFrom, firstMarks, labelRows}
@@ -48,7 +48,7 @@ use Rattle.tables.specs.Statement.{Row}
 use Rattle.scope.specs.Lines.{labelToken, labelKind, labelStatement}
 use Rattle.labelled.proofs.Scans.{unit-plain}
 use Rattle.labelled.proofs.Grown.{Grown, grow-grown}
-use Rattle.labelled.proofs.Unit.{line-some, labelled-line, labelled-row}
+use Rattle.labelled.proofs.Unit.{Free, unit-free, line-some, labelled-line, labelled-row}
 use Rattle.labelled.proofs.Marked.{RowHas, Each, unit-each, unit-none, unit-count}
 
 -- ---- what a label names, in an outline x whose first free row is c
@@ -95,9 +95,9 @@ row-named x c k number h q =
     (λ e. record { kinds = inr (inl refl); within = λ _. h; function = λ _. q ∙ e; place = λ g _. let z : ⊥ = omega arith in z })
     (λ d. record { kinds = inr (inr refl); within = λ _. h; function = λ g. let z : ⊥ = omega arith in absurd z; place = λ _ g. d (sym q ∙ g) })
 
--- a label row: its token is a label
+-- a label row: its token is a label, whose name is not reserved
 abbrev pub Labels : List ℕ → List ℕ → ℕ → ℕ → ℕ → ℕ → Type 0
-Labels t x c token kind number = (kindAt t token ≡ 2) × Named x c kind number
+Labels t x c token kind number = (kindAt t token ≡ 2) × Free t token × Named x c kind number
 
 -- ---- the parser's walk and that of the label rows, side by side
 
@@ -179,12 +179,12 @@ module _ (w : Width) (t : List ℕ) (n : ℕ) (x : World) (m : Marking) (h : Lin
     old-each : Each (Labels t (growBy (rowsOf k) t u k x .table) (growBy (rowsOf k) t u k x .state .count)) (m .table) (m .state .labels)
     old-each j a b =
         let q = h .each j (omega (arith, h .labels)) b in
-        (q .0, named-grown _ _ _ _ _ _ (omega (arith, grown .count)) (grown .stays) (q .1))
+        (q .0, q .1, named-grown _ _ _ _ _ _ (omega (arith, grown .count)) (grown .stays) (q .2))
 
     new-each : Each (Labels t (growBy (rowsOf k) t u k x .table) (growBy (rowsOf k) t u k x .state .count)) (unit .table) (unit .count)
     new-each =
         elim (ℕ-discrete (kindAt t (u .first)) 2) [
-          | yes e ↦ unit-each t u k (m .state) (m .table) (Labels t (growBy (rowsOf k) t u k x .table) (growBy (rowsOf k) t u k x .state .count)) (λ i f. (f, new-named e)) (h .long) old-each
+          | yes e ↦ unit-each t u k (m .state) (m .table) (Labels t (growBy (rowsOf k) t u k x .table) (growBy (rowsOf k) t u k x .state .count)) (unit-order t (x .state .at) .1) (λ i a b f. (f, unit-free w t n u k (groundIn (x .state) (openRow x)) (x .state) clean i a b f, new-named e)) (h .long) old-each
           | no e ↦ subst (λ (y : Marked). Each (Labels t (growBy (rowsOf k) t u k x .table) (growBy (rowsOf k) t u k x .state .count)) (y .table) (y .count)) (sym (unit-none t u k (m .state) (m .table) (unit-plain t (x .state .at) e))) old-each
         ]
 
@@ -298,7 +298,7 @@ RowedBy t (answer.Refused number place) x y = Unit {0}
 answer-rowed : (t x y : List ℕ) (v : Verdict) → Answered t v x y → RowedBy t (answerOf v) x y
 unfolding answerOf
 answer-rowed t x y (Accepted count labels) h =
-    λ j a b. let q = h j a b in (q .0, named-grown x x count (suc (count - 1)) _ _ (omega arith) (λ i g. refl) (q .1))
+    λ j a b. let q = h j a b in (q .0, q .1, named-grown x x count (suc (count - 1)) _ _ (omega arith) (λ i g. refl) (q .2))
 answer-rowed t x y (Refused key) h = tt
 
 outline-rowed : (w : Width) (t : List ℕ) (n : ℕ) → length t ≡ 32768 → RowedBy t (outlineOf w t n .answer) (outlineOf w t n .rows) (outlineOf w t n .labels)
@@ -309,6 +309,8 @@ outline-rowed w t n e = answer-rowed t (parseOf w t n .outline) (labelRows t) (p
 pub record LabelRow (t y : List ℕ) (g : ℕ → Row) (c j : ℕ) : Type 0 where
   -- its token is a label
   pub token : kindAt t (labelToken y j) ≡ 2
+  -- whose name is not reserved
+  pub free : Free t (labelToken y j)
   -- data, a function or a place
   pub kinds : (labelKind y j ≡ 1) ⊎ ((labelKind y j ≡ 3) ⊎ (labelKind y j ≡ 5))
   -- what it names out of data is a statement, and not the test of an else-if line
@@ -339,11 +341,12 @@ module _ (t x y : List ℕ) (c j : ℕ) (few : c ≤ 1024) where
   row-good h =
       record {
         token = h .0;
-        kinds = h .1 .kinds;
-        below = λ d. let q : Within x (suc c) (getD y (j * 4 + 2) 0) = h .1 .within d in omega (arith, q .some, q .below);
-        first = λ d. view-first (getD y (j * 4 + 2) 0) (h .1 .within d);
-        function = λ e. view-is (getD y (j * 4 + 2) 0) (h .1 .within (λ d. let z : ⊥ = omega arith in z)) ∙ h .1 .function e;
-        place = λ e g. h .1 .place e (sym (view-is (getD y (j * 4 + 2) 0) (h .1 .within (λ d. let z : ⊥ = omega arith in z))) ∙ g);
+        free = h .1;
+        kinds = h .2 .kinds;
+        below = λ d. let q : Within x (suc c) (getD y (j * 4 + 2) 0) = h .2 .within d in omega (arith, q .some, q .below);
+        first = λ d. view-first (getD y (j * 4 + 2) 0) (h .2 .within d);
+        function = λ e. view-is (getD y (j * 4 + 2) 0) (h .2 .within (λ d. let z : ⊥ = omega arith in z)) ∙ h .2 .function e;
+        place = λ e g. h .2 .place e (sym (view-is (getD y (j * 4 + 2) 0) (h .2 .within (λ d. let z : ⊥ = omega arith in z))) ∙ g);
       }
 
 -- the label rows of an accepted source

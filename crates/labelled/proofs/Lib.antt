@@ -3,3 +3,5 @@ pub mod Grown
 pub mod Unit
 pub mod Marked
 pub mod LabelRows
+pub mod Addresses
+pub mod Tokens

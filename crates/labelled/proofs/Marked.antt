@@ -81,26 +81,28 @@ put-each P y c token kind number l e p j a b =
           ]
     ]
 
-module _ (t : List ℕ) (kind number : ℕ) (P : ℕ → ℕ → ℕ → Type 0) (p : (i : ℕ) → kindAt t i ≡ 2 → P i kind number) where
-  token-each : (i : ℕ) (m : Marked) → length (m .table) ≡ 1024 → Each P (m .table) (m .count)
+module _ (t : List ℕ) (first end kind number : ℕ) (P : ℕ → ℕ → ℕ → Type 0) (p : (i : ℕ) → first ≤ i → i < end → kindAt t i ≡ 2 → P i kind number) where
+  token-each : (i : ℕ) (m : Marked) → first ≤ i → i < end → length (m .table) ≡ 1024 → Each P (m .table) (m .count)
       → Each P (markToken t i kind number m .table) (markToken t i kind number m .count)
   unfolding markToken
-  token-each i m l h =
-      either-eq (λ (x : Marked). Each P (x .table) (x .count)) (kindAt t i) 2 _ _ (λ e. put-each P (m .table) (m .count) i kind number l h (p i e)) (λ _. h)
+  token-each i m a b l h =
+      either-eq (λ (x : Marked). Each P (x .table) (x .count)) (kindAt t i) 2 _ _ (λ e. put-each P (m .table) (m .count) i kind number l h (p i a b e)) (λ _. h)
 
-  from-each : (left i : ℕ) (m : Marked) → length (m .table) ≡ 1024 → Each P (m .table) (m .count)
+  from-each : (left i : ℕ) (m : Marked) → first ≤ i → i + left ≤ end → length (m .table) ≡ 1024 → Each P (m .table) (m .count)
       → Each P (markFrom left t i kind number m .table) (markFrom left t i kind number m .count)
   unfolding markFrom
-  from-each zero i m l h = h
-  from-each (suc left) i m l h =
-      from-each left (i + 1) (markToken t i kind number m) (token-kept t i kind number m l .0) (token-each i m l h)
+  from-each zero i m a b l h = h
+  from-each (suc left) i m a b l h =
+      from-each left (i + 1) (markToken t i kind number m) (omega arith) (omega arith) (token-kept t i kind number m l .0) (token-each i m a (omega arith) l h)
 
 -- the rows behind a unit
-pub unit-each : (t : List ℕ) (u : Span) (k : ℕ) (s : Marks) (y : List ℕ) (P : ℕ → ℕ → ℕ → Type 0)
-    → ((i : ℕ) → kindAt t i ≡ 2 → P i (labelKind k (s .section)) (labelNumber (s .section) (u .word) (s .row))) → length y ≡ 1024 → Each P y (s .labels)
-    → Each P (markUnit t u k s y .table) (markUnit t u k s y .count)
+pub unit-each : (t : List ℕ) (u : Span) (k : ℕ) (s : Marks) (y : List ℕ) (P : ℕ → ℕ → ℕ → Type 0) → u .first ≤ u .word
+    → ((i : ℕ) → u .first ≤ i → i < u .word → kindAt t i ≡ 2 → P i (labelKind k (s .section)) (labelNumber (s .section) (u .word) (s .row)))
+    → length y ≡ 1024 → Each P y (s .labels) → Each P (markUnit t u k s y .table) (markUnit t u k s y .count)
 unfolding markUnit
-unit-each t u k s y P p l h = from-each t (labelKind k (s .section)) (labelNumber (s .section) (u .word) (s .row)) P p (u .word - u .first) (u .first) (marked (s .labels) y) l h
+unit-each t u k s y P o p l h =
+    from-each t (u .first) (u .word) (labelKind k (s .section)) (labelNumber (s .section) (u .word) (s .row)) P p (u .word - u .first) (u .first) (marked (s .labels) y)
+    (omega arith) (omega arith) l h
 
 -- a unit without labels adds none
 pub unit-none : (t : List ℕ) (u : Span) (k : ℕ) (s : Marks) (y : List ℕ) → u .word ≡ u .first → markUnit t u k s y ≡ marked (s .labels) y

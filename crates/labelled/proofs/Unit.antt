@@ -20,7 +20,8 @@ use Rattle.kinds.proofs.Cases.{kind-none, kind-known}
 use Rattle.lines.specs.Tokens.{kindAt, wordAt, keyAt}
 use Rattle.lines.specs.Lines.{sectionKind, endKind, testKind, elseKind, setKind, symbolKind, otherKind, lineKind}
 use Rattle.lines.specs.declared.Span.{Span}
-use Rattle.rules.specs.Rules.{shapeRule, leftRule}
+use Rattle.rules.specs.Rules.{shapeRule, leftRule, reservedLabel, labelKey, labelled, labelStep, labelsFrom, labelsRule}
+use Rattle.rules.specs.declared.Labelled.{Labelled}
 use Rattle.parser.specs.Places.{groundIn, mayLabel, labelRule, placeRule, lineFaults, unitFault}
 use Rattle.parser.specs.declared.Row.{Row}
 use Rattle.parser.specs.declared.State.{State}
@@ -163,6 +164,51 @@ label-by t n u g e =
     (λ a _. a) (λ _ h. let z : ⊥ = omega (arith, key-low t n (u .first) 8 (omega arith)) in absurd z))
     (λ d _. absurd (d e))
 
+-- ---- the names of labels
+
+-- the number of a name that is not reserved
+abbrev pub Free : List ℕ → ℕ → Type 0
+Free t i = 1 ≤ wordAt t i → 52 ≤ wordAt t i
+
+reserved-by : (t : List ℕ) (n i : ℕ) → none ≤ reservedLabel t n i → Free t i
+unfolding reservedLabel
+reserved-by t n i =
+    either (λ (x : ℕ). none ≤ x → Free t i) (wordAt t i) 1 _ _ (λ a _ b. let z : ⊥ = omega arith in absurd z) (λ _.
+    either (λ (x : ℕ). none ≤ x → Free t i) (wordAt t i) 52 _ _ (λ _ h. let z : ⊥ = omega (arith, key-low t n i 8 (omega arith)) in absurd z) (λ a _ _. a))
+
+step-low : (t : List ℕ) (n i : ℕ) (x : Labelled) → labelStep t n i x .fault ≤ x .fault
+unfolding labelStep
+step-low t n i x = either-eq (λ (y : Labelled). y .fault ≤ x .fault) _ 2 _ _ (λ _. omega arith) (λ _. omega arith)
+
+from-low : (left : ℕ) (t : List ℕ) (n i : ℕ) (x : Labelled) → labelsFrom left t n i x .fault ≤ x .fault
+unfolding labelsFrom
+from-low zero t n i x = omega arith
+from-low (suc left) t n i x = omega (arith, from-low left t n (i + 1) (labelStep t n i x), step-low t n i x)
+
+min-clean : (t : List ℕ) (n i c f : ℕ) → none ≤ min f (labelKey t n i c) → none ≤ reservedLabel t n i
+unfolding labelKey
+min-clean t n i c f h = omega arith
+
+step-clean : (t : List ℕ) (n i : ℕ) (x : Labelled) → kindAt t i ≡ 2 → none ≤ labelStep t n i x .fault → none ≤ reservedLabel t n i
+unfolding labelStep
+step-clean t n i x e =
+    either-eq (λ (y : Labelled). none ≤ y .fault → none ≤ reservedLabel t n i) (kindAt t i) 2 _ _ (λ _ h. min-clean t n i (x .count) (x .fault) h) (λ d _. absurd (d e))
+
+from-free : (left : ℕ) (t : List ℕ) (n i : ℕ) (x : Labelled) → none ≤ labelsFrom left t n i x .fault → (j : ℕ) → i ≤ j → j < i + left → kindAt t j ≡ 2 → Free t j
+unfolding labelsFrom
+from-free zero t n i x h j a b e = let z : ⊥ = omega arith in absurd z
+from-free (suc left) t n i x h j a b e =
+    elim (ℕ-discrete i j) [
+      | yes q ↦ subst (Free t) q (reserved-by t n i (step-clean t n i x (ap (kindAt t) q ∙ e) (omega (arith, from-low left t n (i + 1) (labelStep t n i x)))))
+      | no d ↦ from-free left t n (i + 1) (labelStep t n i x) h j (omega arith) (omega arith) e
+    ]
+
+rule-free : (t : List ℕ) (n : ℕ) (u : Span) (c : ℕ) → none ≤ labelsRule t n u c .fault → (j : ℕ) → u .first ≤ j → j < u .word → kindAt t j ≡ 2 → Free t j
+unfolding labelsRule
+rule-free t n u c h j a b e = from-free (u .word - u .first) t n (u .first) (labelled none c) h j a (omega arith) e
+
+-- ---- the unit
+
 -- the ground: the section, or that of an open row
 ground-by : (s : State) (o : Row) → 1 ≤ groundIn s o → groundIn s o < 4 → groundIn s o ≡ s .section
 unfolding groundIn groundOf
@@ -174,6 +220,19 @@ ground-by s o =
     either (λ (g : ℕ). 1 ≤ g → g < 4 → g ≡ s .section) (o .kind) 20 _ _ (λ _ _ h. let z : ⊥ = omega arith in absurd z) (λ _.
     either-eq (λ (g : ℕ). 1 ≤ g → g < 4 → g ≡ s .section) (o .kind) 20 _ _ (λ _ _ h. let z : ⊥ = omega arith in absurd z) (λ _ h _. let z : ⊥ = omega arith in absurd z))))))
 
+unit-lines : (w : Width) (t : List ℕ) (n : ℕ) (u : Span) (k g : ℕ) (s : State) → none ≤ unitFault w t n u k g s → none ≤ leastOf (lineFaults w t n u k g s)
+unfolding unitFault
+unit-lines w t n u k g s c = omega arith
+
+unit-labels : (w : Width) (t : List ℕ) (n : ℕ) (u : Span) (k g : ℕ) (s : State) → none ≤ unitFault w t n u k g s → none ≤ labelsRule t n u (s .labels) .fault
+unfolding lineFaults leastOf
+unit-labels w t n u k g s c = omega (arith, unit-lines w t n u k g s c)
+
+-- no label of a unit has a reserved name
+pub unit-free : (w : Width) (t : List ℕ) (n : ℕ) (u : Span) (k g : ℕ) (s : State) → none ≤ unitFault w t n u k g s
+    → (j : ℕ) → u .first ≤ j → j < u .word → kindAt t j ≡ 2 → Free t j
+unit-free w t n u k g s c j a b e = rule-free t n u (s .labels) (unit-labels w t n u k g s c) j a b e
+
 module _ (w : Width) (t : List ℕ) (n : ℕ) (u : Span) (s : State) (o : Row) (c : none ≤ unitFault w t n u (lineKind t (u .word)) (groundIn s o) s) (e : kindAt t (u .first) ≡ 2) where
   abbrev k : ℕ
   k = lineKind t (u .word)
@@ -182,8 +241,7 @@ module _ (w : Width) (t : List ℕ) (n : ℕ) (u : Span) (s : State) (o : Row) (
   g = groundIn s o
 
   lines-clean : none ≤ leastOf (lineFaults w t n u (lineKind t (u .word)) (groundIn s o) s)
-  unfolding unitFault
-  lines-clean = omega arith
+  lines-clean = unit-lines w t n u (lineKind t (u .word)) (groundIn s o) s c
 
   label-clean : none ≤ labelRule t n u (groundIn s o)
   unfolding lineFaults leastOf
