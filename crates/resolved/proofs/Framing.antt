@@ -76,28 +76,28 @@ module _ (same : ℕ → ℕ → Bool) (t k y : List ℕ) (l : ℕ) (z : List �
   framed-passes =
       both-yes _ _
       (given-yes (f r .kind) 5 _ (λ e.
-        let g : rowAt k r .kind ≡ 5 = sym kind-is ∙ e in
-        eq-eqb (f r .a) (letWord f c r)
-        (a-is (λ d. absurd (omega (arith, g))) (λ d. absurd (omega (arith, g))) ∙ word-let (rowAt k) c hc few r l₀ g ∙ sym (let-same f (rowAt k) al c r))))
+      let g : rowAt k r .kind ≡ 5 = sym kind-is ∙ e in
+      eq-eqb (f r .a) (letWord f c r)
+      (a-is (λ d. absurd (omega (arith, g))) (λ d. absurd (omega (arith, g))) ∙ word-let (rowAt k) c hc few r l₀ g ∙ sym (let-same f (rowAt k) al c r))))
       (both-yes _ _
       (given-yes (f r .kind) 3 _ (λ e.
-        let g : rowAt k r .kind ≡ 3 = sym kind-is ∙ e in
-        both-yes _ _
-        (eq-eqb (f r .a) (blockWord f c r)
-        (a-is (λ d. absurd (omega (arith, g))) (λ d. absurd (omega (arith, g))) ∙ word-block (rowAt k) c hc few r l₀ g ∙ sym (block-same f (rowAt k) al c r)))
-        (both-yes _ _
-        (eq-eqb (f r .b) (letsBefore f r c) (b-is g ∙ sym (lets-same f (rowAt k) al r c)))
-        (eq-eqb (f r .callee) (localsAt f r) (callee-is g ∙ sym (locals-same f (rowAt k) al r outside))))))
+      let g : rowAt k r .kind ≡ 3 = sym kind-is ∙ e in
+      both-yes _ _
+      (eq-eqb (f r .a) (blockWord f c r)
+      (a-is (λ d. absurd (omega (arith, g))) (λ d. absurd (omega (arith, g))) ∙ word-block (rowAt k) c hc few r l₀ g ∙ sym (block-same f (rowAt k) al c r)))
+      (both-yes _ _
+      (eq-eqb (f r .b) (letsBefore f r c) (b-is g ∙ sym (lets-same f (rowAt k) al r c)))
+      (eq-eqb (f r .callee) (localsAt f r) (callee-is g ∙ sym (locals-same f (rowAt k) al r outside))))))
       (both-yes _ _
       (given-yes (f r .kind) 4 _ (λ e.
-        let g : rowAt k r .kind ≡ 4 = sym kind-is ∙ e in
-        eq-eqb (f r .a) (blockWord f c (f r .scope))
-        (a-is (λ d. absurd (omega (arith, g))) (λ d. absurd (omega (arith, g))) ∙ word-end (rowAt k) c hc few r l₀ g
-        ∙ ap (blockWord (rowAt k) c) (sym (al .scopes r)) ∙ sym (block-same f (rowAt k) al c (f r .scope)))))
+      let g : rowAt k r .kind ≡ 4 = sym kind-is ∙ e in
+      eq-eqb (f r .a) (blockWord f c (f r .scope))
+      (a-is (λ d. absurd (omega (arith, g))) (λ d. absurd (omega (arith, g))) ∙ word-end (rowAt k) c hc few r l₀ g
+      ∙ ap (blockWord (rowAt k) c) (sym (al .scopes r)) ∙ sym (block-same f (rowAt k) al c (f r .scope)))))
       (both-yes _ _
       (given-yes (f r .kind) 1 _ (λ e.
-        let g : rowAt k r .kind ≡ 1 = sym kind-is ∙ e in
-        eq-eqb (f r .a) (frameSize f c r)
-        (a-is (λ d. absurd (omega (arith, g))) (λ d. absurd (omega (arith, g))) ∙ word-function (rowAt k) c hc few r l₀ g
-        ∙ sym (size-same f (rowAt k) al c r (λ d. absurd (omega (arith, e)))))))
+      let g : rowAt k r .kind ≡ 1 = sym kind-is ∙ e in
+      eq-eqb (f r .a) (frameSize f c r)
+      (a-is (λ d. absurd (omega (arith, g))) (λ d. absurd (omega (arith, g))) ∙ word-function (rowAt k) c hc few r l₀ g
+      ∙ sym (size-same f (rowAt k) al c r (λ d. absurd (omega (arith, e)))))))
       refl)))

@@ -52,7 +52,7 @@ module _ (t : List ℕ) (n : ℕ) (k y : List ℕ) (r i : ℕ) where
   function-good count j =
       either-eq (λ (v : ℕ). none ≤ v → (labelKind y j ≡ 3) × (rowAt k (labelStatement y j) .b ≡ count)) (labelKind y j) 3 _ _
       (λ e. either-eq (λ (v : ℕ). none ≤ v → (labelKind y j ≡ 3) × (rowAt k (labelStatement y j) .b ≡ count)) (rowAt k (labelStatement y j) .b) count _ _
-        (λ q _. (e, q)) (λ _ h. no-key t n i 13 (omega arith) h))
+      (λ q _. (e, q)) (λ _ h. no-key t n i 13 (omega arith) h))
       (λ _ h. no-key t n i 11 (omega arith) h)
 
   pub place-good : (j : ℕ) → none ≤ placeFault t n k y r i j
@@ -61,8 +61,8 @@ module _ (t : List ℕ) (n : ℕ) (k y : List ℕ) (r i : ℕ) where
   place-good j =
       either-eq P (labelKind y j) 5 _ _
       (λ a. either-eq P (rowAt k (labelStatement y j) .func) (rowAt k r .func) _ _
-        (λ b. either-eq P (rowAt k (labelStatement y j) .scope) (rowAt k r .scope) _ _ (λ d _. (a, b, d)) (λ _ h. no-key t n i 11 (omega arith) h))
-        (λ _ h. no-key t n i 11 (omega arith) h))
+      (λ b. either-eq P (rowAt k (labelStatement y j) .scope) (rowAt k r .scope) _ _ (λ d _. (a, b, d)) (λ _ h. no-key t n i 11 (omega arith) h))
+      (λ _ h. no-key t n i 11 (omega arith) h))
       (λ _ h. no-key t n i 11 (omega arith) h)
     where
       P : ℕ → Type 0

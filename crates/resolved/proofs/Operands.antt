@@ -76,7 +76,7 @@ module _ (same : ℕ → ℕ → Bool) (t k y : List ℕ) (l : ℕ) (w z : List 
   named-kind s i m =
       either-eq (λ (b : Bool). b ≡ true → (rowAt k m .kind ≡ 5) × (encloses (rowAt k) frameDepth (rowAt k m .scope) s ≡ true)) (rowAt k m .kind) 5 _ _
       (λ e. either-true (λ (b : Bool). b ≡ true → (rowAt k m .kind ≡ 5) × (encloses (rowAt k) frameDepth (rowAt k m .scope) s ≡ true)) (same (firstToken k m + 1) i) _ _
-        (λ _ g. (e, g)) (λ _ g. true-false (sym g)))
+      (λ _ g. (e, g)) (λ _ g. true-false (sym g)))
       (λ _ g. true-false (sym g))
 
   -- a let's word is in scope

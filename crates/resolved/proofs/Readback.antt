@@ -49,8 +49,8 @@ rows-split g m (suc d) =
     let e : m + suc (suc d) ≡ suc (m + suc d) = omega arith in (
       p .0 ++ encode (g (m + suc d)),
       ap (rows g) e ∙ ap (λ (x : List ℕ). x ++ encode (g (m + suc d))) (p .1)
-      ∙ append-assoc (rows g m) (encode (g m) ++ p .0) (encode (g (m + suc d)))
-      ∙ ap (λ (x : List ℕ). rows g m ++ x) (append-assoc (encode (g m)) (p .0) (encode (g (m + suc d)))),
+          ∙ append-assoc (rows g m) (encode (g m) ++ p .0) (encode (g (m + suc d)))
+          ∙ ap (λ (x : List ℕ). rows g m ++ x) (append-assoc (encode (g m)) (p .0) (encode (g (m + suc d)))),
     )
 
 module _ (same : ℕ → ℕ → Bool) (t k y : List ℕ) (l : ℕ) (w z : List ℕ) (c : ℕ) (out : List ℕ) where
@@ -66,10 +66,10 @@ module _ (same : ℕ → ℕ → Bool) (t k y : List ℕ) (l : ℕ) (w z : List 
       let a = rows-long (rowOf same t k y l w z c) n in
       ap (λ (x : List ℕ). take (n * 27) x ++ encode (rowOf same t k y l w z c n) ++ drop (n * 27 + 27) x) q
       ∙ ap₂ (λ (x u : List ℕ). x ++ encode (rowOf same t k y l w z c n) ++ u)
-        (take-at (rows (rowOf same t k y l w z c) n) (drop (n * 27) out) (n * 27) a)
-        (sym (drop-drop 27 (n * 27) (rows (rowOf same t k y l w z c) n ++ drop (n * 27) out))
-        ∙ ap (drop 27) (drop-at (rows (rowOf same t k y l w z c) n) (drop (n * 27) out) (n * 27) a)
-        ∙ drop-drop 27 (n * 27) out ∙ ap (λ (i : ℕ). drop i out) e)
+      (take-at (rows (rowOf same t k y l w z c) n) (drop (n * 27) out) (n * 27) a)
+      (sym (drop-drop 27 (n * 27) (rows (rowOf same t k y l w z c) n ++ drop (n * 27) out))
+      ∙ ap (drop 27) (drop-at (rows (rowOf same t k y l w z c) n) (drop (n * 27) out) (n * 27) a)
+      ∙ drop-drop 27 (n * 27) out ∙ ap (λ (i : ℕ). drop i out) e)
 
   module _ (room : c * 27 ≤ length out) where
     pub table-is : statementTable same t k y l w z c out ≡ rows (rowOf same t k y l w z c) c ++ drop (c * 27) out
@@ -82,10 +82,10 @@ module _ (same : ℕ → ℕ → Bool) (t k y : List ℕ) (l : ℕ) (w z : List 
         let e : m + suc (c - suc m) ≡ c = omega arith in
         let p = rows-split (rowOf same t k y l w z c) m (c - suc m) in
         ap (λ (x : List ℕ). rowAt x m)
-          (table-is ∙ ap (λ (i : ℕ). rows (rowOf same t k y l w z c) i ++ drop (c * 27) out) (sym e)
-          ∙ ap (λ (x : List ℕ). x ++ drop (c * 27) out) (p .1)
-          ∙ append-assoc (rows (rowOf same t k y l w z c) m) (encode (rowOf same t k y l w z c m) ++ p .0) (drop (c * 27) out)
-          ∙ ap (λ (x : List ℕ). rows (rowOf same t k y l w z c) m ++ x) (append-assoc (encode (rowOf same t k y l w z c m)) (p .0) (drop (c * 27) out)))
+        (table-is ∙ ap (λ (i : ℕ). rows (rowOf same t k y l w z c) i ++ drop (c * 27) out) (sym e)
+        ∙ ap (λ (x : List ℕ). x ++ drop (c * 27) out) (p .1)
+        ∙ append-assoc (rows (rowOf same t k y l w z c) m) (encode (rowOf same t k y l w z c m) ++ p .0) (drop (c * 27) out)
+        ∙ ap (λ (x : List ℕ). rows (rowOf same t k y l w z c) m ++ x) (append-assoc (encode (rowOf same t k y l w z c m)) (p .0) (drop (c * 27) out)))
         ∙ row-again (rows (rowOf same t k y l w z c) m) (p .0 ++ drop (c * 27) out) m (rowOf same t k y l w z c m) f (rows-long (rowOf same t k y l w z c) m)
 
     pub table-long : length (statementTable same t k y l w z c out) ≡ length out

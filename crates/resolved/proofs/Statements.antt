@@ -96,8 +96,8 @@ module _ (same : ℕ → ℕ → Bool) (t k y : List ℕ) (l : ℕ) (w z : List 
       either-eq (λ (v : Operand). operandGood f h l r v ≡ true) (kindAt t i) 3 _ _
       (λ e. plain-good same t k y l w z c f h q n r i l₀ (meaningOf same k y l r i) (meaning-from same k y l r i) (subst Clean (ifEq-yes _ _ e) x .0))
       (λ d. either-eq (λ (v : Operand). operandGood f h l r v ≡ true) (kindAt t i) 5 _ _
-        (λ e. at-good same t k y l w z c f h q n r i l₀ (meaningOf same k y l r i) (meaning-from same k y l r i) (subst Clean (ifEq-no _ _ d ∙ ifEq-yes _ _ e) x .0))
-        (λ e. constant-good (kindAt t i) (valueAt t i) o d e))
+      (λ e. at-good same t k y l w z c f h q n r i l₀ (meaningOf same k y l r i) (meaning-from same k y l r i) (subst Clean (ifEq-no _ _ d ∙ ifEq-yes _ _ e) x .0))
+      (λ e. constant-good (kindAt t i) (valueAt t i) o d e))
 
   operands-good : (left total i : ℕ) → left ≤ total → Clean (operandFaults total same t n k y l r i) → ((j : ℕ) → i ≤ j → j < i + total → OperandKind (kindAt t j))
       → allOf (operandGood f h l r) (operandsFrom left same t k y l w z r i) ≡ true
@@ -185,9 +185,9 @@ module _ (same : ℕ → ℕ → Bool) (t k y : List ℕ) (l : ℕ) (w z : List 
     address-by u o =
         either-eq (λ (v : Operand). both (addressListed v) (operandGood f h l r v) ≡ true) (kindAt t (first + 1)) 5 _ _
         (λ e.
-          let c₀ : none ≤ valueFault t n y (first + 1) (meaningOf same k y l r (first + 1)) = subst Clean (ifEq-no _ _ (λ d. absurd (omega arith)) ∙ ifEq-yes _ _ e) u .0 in
-          both-yes _ _ (plain-listed same t k y l w z c f h q n r (first + 1) l₀ (meaningOf same k y l r (first + 1)) c₀)
-          (plain-good same t k y l w z c f h q n r (first + 1) l₀ (meaningOf same k y l r (first + 1)) (meaning-from same k y l r (first + 1)) c₀))
+        let c₀ : none ≤ valueFault t n y (first + 1) (meaningOf same k y l r (first + 1)) = subst Clean (ifEq-no _ _ (λ d. absurd (omega arith)) ∙ ifEq-yes _ _ e) u .0 in
+        both-yes _ _ (plain-listed same t k y l w z c f h q n r (first + 1) l₀ (meaningOf same k y l r (first + 1)) c₀)
+        (plain-good same t k y l w z c f h q n r (first + 1) l₀ (meaningOf same k y l r (first + 1)) (meaning-from same k y l r (first + 1)) c₀))
         (λ d. constant-address (kindAt t (first + 1)) (valueAt t (first + 1)) (⊎-elim (λ a. absurd (d a)) (λ a. a) o))
 
     pub address-passes : (kind ≡ 7 → (kindAt t (first + 1) ≡ 5) ⊎ ((kindAt t (first + 1) ≡ 6) ⊎ (kindAt t (first + 1) ≡ 8))) → addressGood f h l r ≡ true
@@ -213,7 +213,7 @@ module _ (same : ℕ → ℕ → Bool) (t k y : List ℕ) (l : ℕ) (w z : List 
         given-yes (f r .kind) 10 _ (λ e.
         let g : kind ≡ 10 = sym kind-is ∙ e in
         let m = goto-good same t k y l w z c f h q n r (first + 1) l₀ (meaningOf same k y l r (first + 1)) (meaning-from same k y l r (first + 1))
-              (subst Clean (ifEq-no _ _ (λ d. absurd (omega arith)) ∙ ifEq-no _ _ (λ d. absurd (omega arith)) ∙ ifEq-yes _ _ g) head-clean .0) in
+        (subst Clean (ifEq-no _ _ (λ d. absurd (omega arith)) ∙ ifEq-no _ _ (λ d. absurd (omega arith)) ∙ ifEq-yes _ _ g) head-clean .0) in
         let a : f r .a ≡ labelTarget z (meaningOf same k y l r (first + 1)) = a-is ∙ ifEq-no _ _ (λ d. absurd (omega arith)) ∙ ifEq-yes _ _ g in
         let b : f r .a ≡ labelStatement y (m .0) = a ∙ m .3 in
         let o : labelStatement y (m .0) < c = q .spots (m .0) (m .1) (m .2) in
@@ -229,7 +229,7 @@ module _ (same : ℕ → ℕ → Bool) (t k y : List ℕ) (l : ℕ) (w z : List 
         given-true (isCall (f r .kind) (f r .expr)) _ (λ e.
         let g : isCall kind (p .expr) ≡ true = ap₂ isCall (sym kind-is) (sym expr-is) ∙ e in
         let m = callee-good same t k y l w z c f h q n r (p .callee) l₀ (next - p .first) (meaningOf same k y l r (p .callee)) (meaning-from same k y l r (p .callee))
-              (subst Clean (ifEq-no _ _ (s g .0)) callee-clean .0) in
+        (subst Clean (ifEq-no _ _ (s g .0)) callee-clean .0) in
         let a : f r .callee ≡ labelTarget z (meaningOf same k y l r (p .callee)) = callee-is ∙ ifEq-no _ _ (s g .1) ∙ ifEq-no _ _ (s g .0) in
         let b : f r .callee ≡ labelStatement y (m .0) = a ∙ m .3 in
         let o = q .callees (m .0) (m .1) (m .2) in

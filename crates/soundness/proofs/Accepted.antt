@@ -77,7 +77,7 @@ pub record Checks (w : Width) (s : List ℕ) (b : Lent) : Type 0 where
   pub held : holds b (length tokens) c l size ≡ true
   pub leaves : checkOf w s b ≡ accept w s (sameText s (tokenTable tokens))
       (known (length tokens) (tokenTable tokens) c (skeletonOf (outlineOf w (tokenTable tokens) (length s) .rows) c) l (outlineOf w (tokenTable tokens) (length s) .labels)
-        (judgeOf (sameText s (tokenTable tokens)) (tokenTable tokens) (length s) (skeletonOf (outlineOf w (tokenTable tokens) (length s) .rows) c) (outlineOf w (tokenTable tokens) (length s) .labels) l c .flags))
+      (judgeOf (sameText s (tokenTable tokens)) (tokenTable tokens) (length s) (skeletonOf (outlineOf w (tokenTable tokens) (length s) .rows) c) (outlineOf w (tokenTable tokens) (length s) .labels) l c .flags))
       size b
 
 module _ (w : Width) (s : List ℕ) (b : Lent) where

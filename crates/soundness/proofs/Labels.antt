@@ -25,15 +25,15 @@ use Rattle.rows.specs.Rows.{labelNumber}
 use Rattle.labelled.proofs.LabelRows.{LabelRow, label-rows}
 use Rattle.soundness.proofs.Tests.{Labels}
 
-final-data : (flag : ℕ) → isData (finalKind 1 flag) ≡ true
+pub final-data : (flag : ℕ) → isData (finalKind 1 flag) ≡ true
 unfolding finalKind exportedKind isData ifEq
 final-data flag = either-eq (λ (v : ℕ). isData v ≡ true) flag 1 _ _ (λ _. refl) (λ _. refl)
 
-final-function : (flag : ℕ) → isFunctionLabel (finalKind 3 flag) ≡ true
+pub final-function : (flag : ℕ) → isFunctionLabel (finalKind 3 flag) ≡ true
 unfolding finalKind exportedKind isFunctionLabel ifEq
 final-function flag = either-eq (λ (v : ℕ). isFunctionLabel v ≡ true) flag 1 _ _ (λ _. refl) (λ _. refl)
 
-final-place : (flag : ℕ) → finalKind 5 flag ≡ 5
+pub final-place : (flag : ℕ) → finalKind 5 flag ≡ 5
 unfolding finalKind exportedKind ifEq
 final-place flag = either-eq (λ (v : ℕ). v ≡ 5) flag 1 _ _ (λ _. refl) (λ _. refl)
 
@@ -41,24 +41,24 @@ module _ (w : Width) (s t : List ℕ) (y flags : List ℕ) (l i j : ℕ) (room :
   abbrev z : List ℕ
   z = labelTable w t y flags l (zeros i)
 
-  word-of : (e v : ℕ) → e < l → v < 4 → getD (labelTable w t y flags l (zeros i)) (e * 4 + v) 0 ≡ getD (labelWords w t y flags e) v 0
+  pub word-of : (e v : ℕ) → e < l → v < 4 → getD (labelTable w t y flags l (zeros i)) (e * 4 + v) 0 ≡ getD (labelWords w t y flags e) v 0
   word-of e v g a = let q = length-replicate {A = ℕ} i 0 in label-word w t y flags l (zeros i) (omega (arith, q)) e v g a
 
-  kind-of : (e : ℕ) → e < l → labelAt (labelTable w t y flags l (zeros i)) (nameTable s t y l (zeros j)) e .kind ≡ finalKind (labelKind y e) (flagAt flags e)
+  pub kind-of : (e : ℕ) → e < l → labelAt (labelTable w t y flags l (zeros i)) (nameTable s t y l (zeros j)) e .kind ≡ finalKind (labelKind y e) (flagAt flags e)
   unfolding labelAt labelWords outlineWord labelKind
   kind-of e g =
       let q : e * 4 + 0 ≡ e * 4 = omega arith in
       ap (λ (v : ℕ). getD (labelTable w t y flags l (zeros i)) v 0) (sym q) ∙ word-of e 0 g (omega arith)
 
-  number-of : (e : ℕ) → e < l → labelNumber (labelTable w t y flags l (zeros i)) e ≡ finalNumber w t (labelKind y e) (getD y (e * 4 + 2) 0)
+  pub number-of : (e : ℕ) → e < l → labelNumber (labelTable w t y flags l (zeros i)) e ≡ finalNumber w t (labelKind y e) (getD y (e * 4 + 2) 0)
   unfolding labelNumber labelWords outlineWord labelKind
   number-of e g = word-of e 1 g (omega arith)
 
-  number-same : (e : ℕ) → labelAt (labelTable w t y flags l (zeros i)) (nameTable s t y l (zeros j)) e .number ≡ labelNumber (labelTable w t y flags l (zeros i)) e
+  pub number-same : (e : ℕ) → labelAt (labelTable w t y flags l (zeros i)) (nameTable s t y l (zeros j)) e .number ≡ labelNumber (labelTable w t y flags l (zeros i)) e
   unfolding labelAt labelNumber
   number-same e = refl
 
-  statement-of : (e : ℕ) → e < l → (labelKind y e ≡ 1 → ⊥) → labelNumber (labelTable w t y flags l (zeros i)) e ≡ labelStatement y e
+  pub statement-of : (e : ℕ) → e < l → (labelKind y e ≡ 1 → ⊥) → labelNumber (labelTable w t y flags l (zeros i)) e ≡ labelStatement y e
   unfolding finalNumber labelStatement
   statement-of e g d = number-of e g ∙ ifEq-no _ _ d
 

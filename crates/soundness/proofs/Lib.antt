@@ -4,3 +4,5 @@ pub mod Tests
 pub mod Whole
 pub mod Labels
 pub mod NewNames
+pub mod LabelTests
+pub mod Sound

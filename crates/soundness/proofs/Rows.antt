@@ -135,7 +135,7 @@ module _ (w : Width) (t : List ℕ) (n c l : ℕ) (x y : List ℕ) (long : lengt
         let p = partsAt t k r in
         let few = row-few w t n c l x y long oh r h in
         let a : length (operandsFrom (min (endToken k r - p .first) 8) same t k y l (wordsOf (rowAt k) c) z r (p .first)) ≡ endToken k r - p .first =
-            operands-long (min (endToken k r - p .first) 8) same t k y l (wordsOf (rowAt k) c) z r (p .first) ∙ min-eq-left few in
+        operands-long (min (endToken k r - p .first) 8) same t k y l (wordsOf (rowAt k) c) z r (p .first) ∙ min-eq-left few in
         record { used = a ∙ sym (row-uses r h); few = omega (arith, a, few) }
 
     pub back : (r : ℕ) → r < c → rowAt table r ≡ rowOf same t (skeletonOf x c) y l (wordsOf (rowAt (skeletonOf x c)) c) z c r

@@ -87,9 +87,9 @@ module _ (w : Width) (t : List ℕ) (n c l : ℕ) (x y : List ℕ) (long : lengt
         alike = like;
         lets = λ r g e. ap (λ (v : Row). v .a) (read r g) ∙ let-word r e;
         params = λ r g.
-          let v = in-function w t n c l x y long oh r g in
-          let u = function-parameters w t n c l x y long oh (rowAt (skeletonOf x c) r .func) (v .0) (v .1) in
-          (u .0, few-parameters w t n c l x y long oh (rowAt (skeletonOf x c) r .func));
+            let v = in-function w t n c l x y long oh r g in
+            let u = function-parameters w t n c l x y long oh (rowAt (skeletonOf x c) r .func) (v .0) (v .1) in
+            (u .0, few-parameters w t n c l x y long oh (rowAt (skeletonOf x c) r .func));
         frame = outside;
         numbers = lb .numbers;
         values = lb .values;
@@ -111,10 +111,10 @@ module _ (w : Width) (t : List ℕ) (n c l : ℕ) (x y : List ℕ) (long : lengt
       (both-yes _ _ (aimed-passes same t (skeletonOf x c) y l z c (rowAt table) hc few₈ like r g (outside-table r g) (read r g))
       (both-yes _ _ (goto-passes same t (skeletonOf x c) y l frames z c (rowAt table) h known n r g (read r g) v)
       (both-yes _ _ (calls-pass same t (skeletonOf x c) y l frames z c (rowAt table) h known n r g (read r g) v
-        (λ e. (callee-some w t n c l x y long oh r g e, λ d. call-not _ _ d e)) (row-few w t n c l x y long oh r g))
+      (λ e. (callee-some w t n c l x y long oh r g e, λ d. call-not _ _ d e)) (row-few w t n c l x y long oh r g))
       (both-yes _ _ (shape-passes same t (skeletonOf x c) y l frames z c (rowAt table) h known n r g (read r g) v (row-listed w t n c l x y long oh r g) (row-shaped w t n c l x y long oh r g))
       (both-yes _ _ (operands-pass same t (skeletonOf x c) y l frames z c (rowAt table) h known n r g (read r g) v
-        (λ j a b. let o = row-operands w t n c l x y long oh r g j a b in (o .0, omega (arith, o .1))))
+      (λ j a b. let o = row-operands w t n c l x y long oh r g j a b in (o .0, omega (arith, o .1))))
       (both-yes _ _ (address-passes same t (skeletonOf x c) y l frames z c (rowAt table) h known n r g (read r g) v (λ e. address-marked w t n c l x y long oh r g e .1))
       (both-yes _ _ (set-passes same t (skeletonOf x c) y l frames z c (rowAt table) h known n r g (read r g) v)
       (both-yes _ _ (framed-passes same t (skeletonOf x c) y l z c (rowAt table) hc few₈ like r g (outside-table r g) (read r g))
