@@ -12,6 +12,7 @@ use lib.ListN.{getD}
 use borrow.Author.Tests.{eq-eqb, ne-eqb}
 use Rattle.prelude.specs.Choice.{ifLt, ifEq, ifTrue}
 use Rattle.prelude.proofs.Choice.{either, either-eq, either-true, ifEq-yes, ifEq-no, true-false}
+use Rattle.tables.proofs.Each.{both-true}
 use Rattle.tables.specs.Tests.{both, given, all}
 use Rattle.tables.specs.Statement.{Row, rowAt, isTest}
 use Rattle.tables.specs.Nesting.{hasTarget, targetOf}
@@ -24,7 +25,7 @@ use Rattle.framing.specs.Framing.{wordsOf}
 use Rattle.rows.specs.Rows.{aOf, bOf, calleeOf, rowWith, rowOf}
 use Rattle.resolved.proofs.Views.{Alike, lets-same, target-same, block-same, let-same, size-same, locals-same}
 use Rattle.resolved.proofs.Frames.{word-function, word-block, word-end, word-let, word-target, locals-low}
-use Rattle.resolved.proofs.Statements.{both-yes, given-yes, given-true}
+use Rattle.resolved.proofs.Statements.{given-yes, given-true}
 
 test-high : (v : ℕ) → isTest v ≡ true → 14 ≤ v
 unfolding isTest
@@ -74,27 +75,27 @@ module _ (same : ℕ → ℕ → Bool) (t k y : List ℕ) (l : ℕ) (z : List �
   pub framed-passes : framed f c r ≡ true
   unfolding framed all
   framed-passes =
-      both-yes _ _
+      both-true _ _
       (given-yes (f r .kind) 5 _ (λ e.
       let g : rowAt k r .kind ≡ 5 = sym kind-is ∙ e in
       eq-eqb (f r .a) (letWord f c r)
       (a-is (λ d. absurd (omega (arith, g))) (λ d. absurd (omega (arith, g))) ∙ word-let (rowAt k) c hc few r l₀ g ∙ sym (let-same f (rowAt k) al c r))))
-      (both-yes _ _
+      (both-true _ _
       (given-yes (f r .kind) 3 _ (λ e.
       let g : rowAt k r .kind ≡ 3 = sym kind-is ∙ e in
-      both-yes _ _
+      both-true _ _
       (eq-eqb (f r .a) (blockWord f c r)
       (a-is (λ d. absurd (omega (arith, g))) (λ d. absurd (omega (arith, g))) ∙ word-block (rowAt k) c hc few r l₀ g ∙ sym (block-same f (rowAt k) al c r)))
-      (both-yes _ _
+      (both-true _ _
       (eq-eqb (f r .b) (letsBefore f r c) (b-is g ∙ sym (lets-same f (rowAt k) al r c)))
       (eq-eqb (f r .callee) (localsAt f r) (callee-is g ∙ sym (locals-same f (rowAt k) al r outside))))))
-      (both-yes _ _
+      (both-true _ _
       (given-yes (f r .kind) 4 _ (λ e.
       let g : rowAt k r .kind ≡ 4 = sym kind-is ∙ e in
       eq-eqb (f r .a) (blockWord f c (f r .scope))
       (a-is (λ d. absurd (omega (arith, g))) (λ d. absurd (omega (arith, g))) ∙ word-end (rowAt k) c hc few r l₀ g
       ∙ ap (blockWord (rowAt k) c) (sym (al .scopes r)) ∙ sym (block-same f (rowAt k) al c (f r .scope)))))
-      (both-yes _ _
+      (both-true _ _
       (given-yes (f r .kind) 1 _ (λ e.
       let g : rowAt k r .kind ≡ 1 = sym kind-is ∙ e in
       eq-eqb (f r .a) (frameSize f c r)

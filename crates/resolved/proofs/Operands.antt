@@ -14,6 +14,7 @@ use Rattle.prelude.specs.Choice.{pick, ifLt, ifEq, ifTrue}
 use Rattle.prelude.specs.Fault.{none}
 use Rattle.prelude.proofs.Choice.{either-eq, either-true, ifEq-yes, ifEq-no, true-false}
 use Rattle.lines.specs.Tokens.{keyAt, kindAt, valueAt}
+use Rattle.tables.proofs.Each.{both-true}
 use Rattle.tables.specs.Tests.{both, oneOf, given, all, allOf, someBelow}
 use Rattle.tables.specs.Statement.{Row, rowAt}
 use Rattle.tables.specs.Nesting.{encloses}
@@ -31,10 +32,6 @@ use Rattle.naming.specs.Naming.{dataFault, valueFault, setFault, functionFault,
 use Rattle.rows.specs.Rows.{labelNumber, wordOfLet, wordOfParameter, localWord, labelTarget, plainOperand, atOperand, constantOperand, tokenOperand, addressConstant, addressOperand, operandsFrom}
 use Rattle.resolved.proofs.Views.{Alike, seen-same}
 use Rattle.resolved.proofs.Meanings.{IsLet, IsParameter, From, meaning-from, data-kind, function-good, place-good, no-key}
-
-both-yes : (a b : Bool) → a ≡ true → b ≡ true → both a b ≡ true
-both-yes true b p g = g
-both-yes false b p g = true-false (sym p)
 
 or-left : (a b : Bool) → a ≡ true → oneOf a b ≡ true
 or-left true b p = refl
@@ -82,7 +79,7 @@ module _ (same : ℕ → ℕ → Bool) (t k y : List ℕ) (l : ℕ) (w z : List 
   -- a let's word is in scope
   seen-by : (s m : ℕ) → (rowAt k m .kind ≡ 5) × (encloses (rowAt k) frameDepth (rowAt k m .scope) s ≡ true) → letSeen (rowAt k) s m ≡ true
   unfolding letSeen
-  seen-by s m n = both-yes (eqb (rowAt k m .kind) 5) (encloses (rowAt k) frameDepth (rowAt k m .scope) s) (eq-eqb _ _ (n .0)) (n .1)
+  seen-by s m n = both-true (eqb (rowAt k m .kind) 5) (encloses (rowAt k) frameDepth (rowAt k m .scope) s) (eq-eqb _ _ (n .0)) (n .1)
 
   seen-is : (r m : ℕ) → (rowAt k m .kind ≡ 5) × (encloses (rowAt k) frameDepth (rowAt k m .scope) (rowAt k r .scope) ≡ true) → letSeen f (f r .scope) m ≡ true
   seen-is r m n =
@@ -95,7 +92,7 @@ module _ (same : ℕ → ℕ → Bool) (t k y : List ℕ) (l : ℕ) (w z : List 
       let a = x .before in
       or-right (isParameter (f (f r .func) .b) (getD w m 0)) (someBelow (λ i. both (letSeen f (f r .scope) i) (eqb (f i .a) (getD w m 0))) r)
       (some-at (λ i. both (letSeen f (f r .scope) i) (eqb (f i .a) (getD w m 0))) r m a
-      (both-yes (letSeen f (f r .scope) m) (eqb (f m .a) (getD w m 0)) (seen-is r m n) (eq-eqb (f m .a) (getD w m 0) (q .lets m (omega (arith, a)) (n .0)))))
+      (both-true (letSeen f (f r .scope) m) (eqb (f m .a) (getD w m 0)) (seen-is r m n) (eq-eqb (f m .a) (getD w m 0) (q .lets m (omega (arith, a)) (n .0)))))
 
   -- a parameter's word is in scope
   parameter-scope : (r i j : ℕ) → r < c → IsParameter same k y l r i j → inScope f r (wordOfParameter j) ≡ true
@@ -106,7 +103,7 @@ module _ (same : ℕ → ℕ → Bool) (t k y : List ℕ) (l : ℕ) (w z : List 
       let e : (3 + j) % 4294967296 ≡ 3 + j = mod-eq-of-lt (omega (arith, a, p .1)) in
       let b : f (f r .func) .b ≡ rowAt k (rowAt k r .func) .b = ap (λ (i : ℕ). f i .b) (q .alike .funcs r) ∙ q .alike .counts (rowAt k r .func) (λ d. q .frame r l₀ (sym (q .alike .kinds (rowAt k r .func)) ∙ d)) in
       or-left (both (leb 3 ((3 + j) % 4294967296)) (ltb ((3 + j) % 4294967296 - 3) (f (f r .func) .b))) (someBelow (seenAt f (f r .scope) ((3 + j) % 4294967296)) r)
-      (both-yes (leb 3 ((3 + j) % 4294967296)) (ltb ((3 + j) % 4294967296 - 3) (f (f r .func) .b))
+      (both-true (leb 3 ((3 + j) % 4294967296)) (ltb ((3 + j) % 4294967296 - 3) (f (f r .func) .b))
       (le-leb 3 ((3 + j) % 4294967296) (omega (arith, e)))
       (lt-ltb ((3 + j) % 4294967296 - 3) (f (f r .func) .b) (omega (arith, e, a, b))))
 
@@ -114,7 +111,7 @@ module _ (same : ℕ → ℕ → Bool) (t k y : List ℕ) (l : ℕ) (w z : List 
   unfolding labelled
   label-named p j g e =
       some-at (λ i. both (p (h i .kind)) (eqb (h i .number) (labelNumber z j))) l j g
-      (both-yes (p (h j .kind)) (eqb (h j .number) (labelNumber z j)) e (eq-eqb (h j .number) (labelNumber z j) (q .numbers j g)))
+      (both-true (p (h j .kind)) (eqb (h j .number) (labelNumber z j)) e (eq-eqb (h j .number) (labelNumber z j) (q .numbers j g)))
 
   module _ (n r i : ℕ) (l₀ : r < c) where
     pub plain-good : (m : Meaning) → From same k y l r i m → none ≤ valueFault t n y i m → operandGood f h l r (plainOperand w z m) ≡ true

@@ -14,6 +14,7 @@ use Rattle.prelude.specs.Choice.{pick, ifLt, ifEq, ifTrue}
 use Rattle.prelude.specs.Fault.{none}
 use Rattle.prelude.proofs.Choice.{either-eq, either-true, ifEq-yes, ifEq-no, true-false}
 use Rattle.lines.specs.Tokens.{kindAt, valueAt}
+use Rattle.tables.proofs.Each.{both-true}
 use Rattle.tables.specs.Tests.{both, oneOf, given, all, allOf, someBelow}
 use Rattle.tables.specs.Statement.{Row, rowAt, isCall, hasExpression, usedBy}
 use Rattle.tables.specs.Frames.{inScope}
@@ -32,10 +33,6 @@ use Rattle.acceptance.specs.Faults.{operandFault, operandFaults, calleeFaults, 
 use Rattle.rows.specs.Rows.{labelTarget, localWord, plainOperand, atOperand, constantOperand, tokenOperand, addressConstant, addressOperand, operandsFrom, aOf, calleeOf, addressOf, rowWith, rowOf}
 use Rattle.resolved.proofs.Meanings.{From, meaning-from}
 use Rattle.resolved.proofs.Operands.{Known, plain-good, at-good, plain-listed, set-scope, callee-good, goto-good}
-
-pub both-yes : (a b : Bool) → a ≡ true → b ≡ true → both a b ≡ true
-both-yes true b p g = g
-both-yes false b p g = true-false (sym p)
 
 -- q where the test holds
 pub given-yes : (a : ℕ) (v : ℕ) (b : Bool) → (a ≡ v → b ≡ true) → given (eqb a v) b ≡ true
@@ -105,7 +102,7 @@ module _ (same : ℕ → ℕ → Bool) (t k y : List ℕ) (l : ℕ) (w z : List 
   operands-good zero total i a x o = refl
   operands-good (suc left) zero i a x o = let z : ⊥ = omega arith in absurd z
   operands-good (suc left) (suc total) i a x o =
-      both-yes _ _ (operand-good i (clean-left (operandFault same t n k y l r i) _ x) (o i (omega arith) (omega arith)))
+      both-true _ _ (operand-good i (clean-left (operandFault same t n k y l r i) _ x) (o i (omega arith) (omega arith)))
       (operands-good left total (i + 1) (omega arith) (clean-right (operandFault same t n k y l r i) _ x) (λ j u v. o j (omega arith) (omega arith)))
 
   abbrev kind : ℕ
@@ -186,7 +183,7 @@ module _ (same : ℕ → ℕ → Bool) (t k y : List ℕ) (l : ℕ) (w z : List 
         either-eq (λ (v : Operand). both (addressListed v) (operandGood f h l r v) ≡ true) (kindAt t (first + 1)) 5 _ _
         (λ e.
         let c₀ : none ≤ valueFault t n y (first + 1) (meaningOf same k y l r (first + 1)) = subst Clean (ifEq-no _ _ (λ d. absurd (omega arith)) ∙ ifEq-yes _ _ e) u .0 in
-        both-yes _ _ (plain-listed same t k y l w z c f h q n r (first + 1) l₀ (meaningOf same k y l r (first + 1)) c₀)
+        both-true _ _ (plain-listed same t k y l w z c f h q n r (first + 1) l₀ (meaningOf same k y l r (first + 1)) c₀)
         (plain-good same t k y l w z c f h q n r (first + 1) l₀ (meaningOf same k y l r (first + 1)) (meaning-from same k y l r (first + 1)) c₀))
         (λ d. constant-address (kindAt t (first + 1)) (valueAt t (first + 1)) (⊎-elim (λ a. absurd (d a)) (λ a. a) o))
 
@@ -217,10 +214,10 @@ module _ (same : ℕ → ℕ → Bool) (t k y : List ℕ) (l : ℕ) (w z : List 
         let a : f r .a ≡ labelTarget z (meaningOf same k y l r (first + 1)) = a-is ∙ ifEq-no _ _ (λ d. absurd (omega arith)) ∙ ifEq-yes _ _ g in
         let b : f r .a ≡ labelStatement y (m .0) = a ∙ m .3 in
         let o : labelStatement y (m .0) < c = q .spots (m .0) (m .1) (m .2) in
-        both-yes _ _ (lt-ltb (f r .a) c (omega (arith, b, o)))
-        (both-yes _ _ (eq-eqb (f (f r .a) .func) (f r .func) (q .alike .funcs (f r .a) ∙ ap (λ (i : ℕ). rowAt k i .func) b ∙ m .4 ∙ sym (q .alike .funcs r)))
-        (both-yes _ _ (eq-eqb (f (f r .a) .scope) (f r .scope) (q .alike .scopes (f r .a) ∙ ap (λ (i : ℕ). rowAt k i .scope) b ∙ m .5 ∙ sym (q .alike .scopes r)))
-        (both-yes _ _ (ap (labelled h l (λ v. eqb v 5)) a ∙ m .6) refl))))
+        both-true _ _ (lt-ltb (f r .a) c (omega (arith, b, o)))
+        (both-true _ _ (eq-eqb (f (f r .a) .func) (f r .func) (q .alike .funcs (f r .a) ∙ ap (λ (i : ℕ). rowAt k i .func) b ∙ m .4 ∙ sym (q .alike .funcs r)))
+        (both-true _ _ (eq-eqb (f (f r .a) .scope) (f r .scope) (q .alike .scopes (f r .a) ∙ ap (λ (i : ℕ). rowAt k i .scope) b ∙ m .5 ∙ sym (q .alike .scopes r)))
+        (both-true _ _ (ap (labelled h l (λ v. eqb v 5)) a ∙ m .6) refl))))
 
     -- "`call` and `tail-call` take a function label with its parameter count."
     pub calls-pass : (isCall kind (p .expr) ≡ true → (p .callee ≡ 0 → ⊥) × (kind ≡ 3 → ⊥)) → next - p .first ≤ 8 → calls f c h l r ≡ true
@@ -235,18 +232,18 @@ module _ (same : ℕ → ℕ → Bool) (t k y : List ℕ) (l : ℕ) (w z : List 
         let o = q .callees (m .0) (m .1) (m .2) in
         let v : f (f r .callee) .kind ≡ 1 = q .alike .kinds (f r .callee) ∙ ap (λ (i : ℕ). rowAt k i .kind) b ∙ o .1 in
         let u : f (f r .callee) .b ≡ f r .count = q .alike .counts (f r .callee) (λ d. absurd (omega (arith, v))) ∙ ap (λ (i : ℕ). rowAt k i .b) b ∙ m .4 ∙ sym count-is in
-        both-yes _ _ (lt-ltb (f r .callee) c (omega (arith, b, o .0)))
-        (both-yes _ _ (eq-eqb (f (f r .callee) .kind) 1 v)
-        (both-yes _ _ (eq-eqb (f (f r .callee) .b) (f r .count) u)
-        (both-yes _ _ (le-leb (f r .count) 8 (omega (arith, few, count-is)))
-        (both-yes _ _ (ap (labelled h l isFunctionLabel) a ∙ m .5) refl)))))
+        both-true _ _ (lt-ltb (f r .callee) c (omega (arith, b, o .0)))
+        (both-true _ _ (eq-eqb (f (f r .callee) .kind) 1 v)
+        (both-true _ _ (eq-eqb (f (f r .callee) .b) (f r .count) u)
+        (both-true _ _ (le-leb (f r .count) 8 (omega (arith, few, count-is)))
+        (both-true _ _ (ap (labelled h l isFunctionLabel) a ∙ m .5) refl)))))
 
     -- as many operands as the expression or statement takes
     pub shape-passes : (hasExpression kind ≡ true → expressionListed kind (p .expr) ≡ true) → (hasOperands kind ≡ true → usedBy kind (p .expr) (next - p .first) ≡ next - p .first)
         → shaped f r ≡ true
     unfolding shaped
     shape-passes a b =
-        both-yes _ _
+        both-true _ _
         (given-true (hasExpression (f r .kind)) _ (λ e. ap₂ expressionListed kind-is expr-is ∙ a (ap hasExpression (sym kind-is) ∙ e)))
         (given-true (hasOperands (f r .kind)) _ (λ e.
         eq-eqb (f r .count) (usedBy (f r .kind) (f r .expr) (f r .count))

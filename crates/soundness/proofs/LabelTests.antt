@@ -22,6 +22,7 @@ use Rattle.lines.specs.Tokens.{tokenWord, kindAt, valueAt}
 use Rattle.lexer.specs.Token.{Token}
 use Rattle.lexer.specs.Rows.{tokenTable}
 use Rattle.lexer.specs.Lex.{accepted, lexOf}
+use Rattle.tables.proofs.Each.{both-true}
 use Rattle.tables.specs.Tests.{both, all}
 use Rattle.tables.specs.Statement.{Row, rowAt}
 use Rattle.tables.specs.Nesting.{followsJump}
@@ -42,7 +43,6 @@ use Rattle.labelled.proofs.LabelRows.{LabelRow, label-rows}
 use Rattle.labelled.proofs.Addresses.{address-within}
 use Rattle.labelled.proofs.Tokens.{LabelToken, label-token}
 use Rattle.resolved.proofs.Views.{Alike}
-use Rattle.resolved.proofs.Statements.{both-yes}
 use Rattle.soundness.proofs.Labels.{kind-of, number-of, number-same, statement-of, word-of, final-data, final-function, final-place}
 
 -- ---- the name over 64 zeros
@@ -144,9 +144,9 @@ module _ (w : Width) (s : List ℕ) (ts : List Token) (lx : lexOf w s ≡ accept
   good e g =
       let v = token e g in
       let q = size-word e g in
-      both-yes _ _ (le-leb 1 (h e .size) (omega (arith, q, v .some)))
-      (both-yes _ _ (le-leb (h e .size) 64 (omega (arith, q, v .short)))
-      (both-yes _ _ (eq-eqb (numberOf (h e .name)) 0 (ap numberOf (name-read e g) ∙ v .free (row e g .free))) refl))
+      both-true _ _ (le-leb 1 (h e .size) (omega (arith, q, v .some)))
+      (both-true _ _ (le-leb (h e .size) 64 (omega (arith, q, v .short)))
+      (both-true _ _ (eq-eqb (numberOf (h e .name)) 0 (ap numberOf (name-read e g) ∙ v .free (row e g .free))) refl))
 
   kind-here : (e : ℕ) → e < l → h e .kind ≡ finalKind (labelKind y e) (flagAt flags e)
   kind-here e g = kind-of w s (tokenTable ts) y flags l i j labels-room e g
@@ -176,7 +176,7 @@ module _ (w : Width) (s : List ℕ) (ts : List Token) (lx : lexOf w s ≡ accept
       let a : h e .number ≡ labelStatement y e = number-here e g p in
       let k : h e .kind ≡ finalKind 3 (flagAt flags e) = kind-here e g ∙ ap (λ (o : ℕ). finalKind o (flagAt flags e)) q in
       ifTrue-no _ _ (ap isData k ∙ function-data (flagAt flags e))
-      ∙ both-yes _ _ (lt-ltb (h e .number) c (let b = v .below p in omega (arith, a, b)))
+      ∙ both-true _ _ (lt-ltb (h e .number) c (let b = v .below p in omega (arith, a, b)))
       (ifTrue-yes _ _ (ap isFunctionLabel k ∙ final-function (flagAt flags e))
       ∙ eq-eqb (f (h e .number) .kind) 1 (al .kinds (h e .number) ∙ ap (λ (o : ℕ). rowAt (skeletonOf x c) o .kind) a ∙ v .function q))
 
@@ -188,11 +188,11 @@ module _ (w : Width) (s : List ℕ) (ts : List Token) (lx : lexOf w s ≡ accept
       let a : h e .number ≡ labelStatement y e = number-here e g p in
       let k : h e .kind ≡ 5 = kind-here e g ∙ ap (λ (o : ℕ). finalKind o (flagAt flags e)) q ∙ final-place (flagAt flags e) in
       ifTrue-no _ _ (ap isData k ∙ place-data)
-      ∙ both-yes _ _ (lt-ltb (h e .number) c (let b = v .below p in omega (arith, a, b)))
+      ∙ both-true _ _ (lt-ltb (h e .number) c (let b = v .below p in omega (arith, a, b)))
       (ifTrue-no _ _ (ap isFunctionLabel k ∙ place-function)
-      ∙ both-yes _ _ (eq-eqb (h e .kind) 5 k)
-      (both-yes _ _ (not-eqb (f (h e .number) .kind) 1 (λ o. v .place q (ap (λ (u : ℕ). rowAt (skeletonOf x c) u .kind) (sym a) ∙ sym (al .kinds (h e .number)) ∙ o)))
-      (both-yes _ _ (ap not (jumps-same f (rowAt (skeletonOf x c)) al (h e .number) ∙ ap (followsJump (rowAt (skeletonOf x c))) a ∙ v .first p)) refl)))
+      ∙ both-true _ _ (eq-eqb (h e .kind) 5 k)
+      (both-true _ _ (not-eqb (f (h e .number) .kind) 1 (λ o. v .place q (ap (λ (u : ℕ). rowAt (skeletonOf x c) u .kind) (sym a) ∙ sym (al .kinds (h e .number)) ∙ o)))
+      (both-true _ _ (ap not (jumps-same f (rowAt (skeletonOf x c)) al (h e .number) ∙ ap (followsJump (rowAt (skeletonOf x c))) a ∙ v .first p)) refl)))
 
   names-pass : (e : ℕ) → e < l → names f c d (h e) ≡ true
   names-pass e g = ⊎-elim (λ q. names-data e g q) (λ o. ⊎-elim (λ q. names-function e g q) (λ q. names-place e g q) o) (row e g .kinds)
@@ -200,7 +200,7 @@ module _ (w : Width) (s : List ℕ) (ts : List Token) (lx : lexOf w s ≡ accept
   -- the three tests
   pub label-passes : ((e : ℕ) → e < l → nameNew h e ≡ true) → (e : ℕ) → e < l → all (labelTests f c d h e) ≡ true
   unfolding labelTests all
-  label-passes new e g = both-yes _ _ (names-pass e g) (both-yes _ _ (good e g) (both-yes _ _ (new e g) refl))
+  label-passes new e g = both-true _ _ (names-pass e g) (both-true _ _ (good e g) (both-true _ _ (new e g) refl))
 
   pub label-tokens : (e : ℕ) → e < l → kindAt (tokenTable ts) (labelToken y e) ≡ 2
   label-tokens e g = row e g .token

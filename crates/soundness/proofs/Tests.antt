@@ -13,6 +13,7 @@ use Rattle.prelude.specs.Lists.{zeros}
 use Rattle.prelude.proofs.Choice.{ifEq-yes, ifEq-no, true-false}
 use Rattle.limits.specs.declared.Width.{Width}
 use Rattle.lines.specs.Tokens.{kindAt}
+use Rattle.tables.proofs.Each.{both-true}
 use Rattle.tables.specs.Tests.{both, all, allBelow}
 use Rattle.tables.specs.Statement.{Row, rowAt, isCall, hasExpression}
 use Rattle.tables.specs.Nesting.{stands}
@@ -30,7 +31,7 @@ use Rattle.acceptance.specs.Faults.{allNameFaults}
 use Rattle.lined.proofs.Rows.{kindOf, partsAt, row-shaped, row-listed, row-few, row-operands, address-marked, callee-some, function-parameters}
 use Rattle.resolved.proofs.Views.{Alike, stands-same, shallow-same, few-same}
 use Rattle.resolved.proofs.Operands.{Known}
-use Rattle.resolved.proofs.Statements.{both-yes, statement-clean, operands-pass, address-passes, set-passes, goto-passes, calls-pass, shape-passes}
+use Rattle.resolved.proofs.Statements.{statement-clean, operands-pass, address-passes, set-passes, goto-passes, calls-pass, shape-passes}
 use Rattle.resolved.proofs.Framing.{aimed-passes, framed-passes}
 use Rattle.soundness.proofs.Rows.{few-statements, stand, in-function, few-parameters, back, alike}
 
@@ -106,17 +107,17 @@ module _ (w : Width) (t : List ℕ) (n c l : ℕ) (x y : List ℕ) (long : lengt
       let few₈ = few-parameters w t n c l x y long oh in
       let hc = few-statements w t n c l x y long oh in
       let v = statement-clean same t n (skeletonOf x c) y l c r clean g in
-      both-yes _ _ (stands-same (rowAt table) (rowAt (skeletonOf x c)) like r ∙ stand w t n c l x y long oh r g)
-      (both-yes _ _ (shallow-same (rowAt table) (rowAt (skeletonOf x c)) like r ∙ deep r g)
-      (both-yes _ _ (aimed-passes same t (skeletonOf x c) y l z c (rowAt table) hc few₈ like r g (outside-table r g) (read r g))
-      (both-yes _ _ (goto-passes same t (skeletonOf x c) y l frames z c (rowAt table) h known n r g (read r g) v)
-      (both-yes _ _ (calls-pass same t (skeletonOf x c) y l frames z c (rowAt table) h known n r g (read r g) v
+      both-true _ _ (stands-same (rowAt table) (rowAt (skeletonOf x c)) like r ∙ stand w t n c l x y long oh r g)
+      (both-true _ _ (shallow-same (rowAt table) (rowAt (skeletonOf x c)) like r ∙ deep r g)
+      (both-true _ _ (aimed-passes same t (skeletonOf x c) y l z c (rowAt table) hc few₈ like r g (outside-table r g) (read r g))
+      (both-true _ _ (goto-passes same t (skeletonOf x c) y l frames z c (rowAt table) h known n r g (read r g) v)
+      (both-true _ _ (calls-pass same t (skeletonOf x c) y l frames z c (rowAt table) h known n r g (read r g) v
       (λ e. (callee-some w t n c l x y long oh r g e, λ d. call-not _ _ d e)) (row-few w t n c l x y long oh r g))
-      (both-yes _ _ (shape-passes same t (skeletonOf x c) y l frames z c (rowAt table) h known n r g (read r g) v (row-listed w t n c l x y long oh r g) (row-shaped w t n c l x y long oh r g))
-      (both-yes _ _ (operands-pass same t (skeletonOf x c) y l frames z c (rowAt table) h known n r g (read r g) v
+      (both-true _ _ (shape-passes same t (skeletonOf x c) y l frames z c (rowAt table) h known n r g (read r g) v (row-listed w t n c l x y long oh r g) (row-shaped w t n c l x y long oh r g))
+      (both-true _ _ (operands-pass same t (skeletonOf x c) y l frames z c (rowAt table) h known n r g (read r g) v
       (λ j a b. let o = row-operands w t n c l x y long oh r g j a b in (o .0, omega (arith, o .1))))
-      (both-yes _ _ (address-passes same t (skeletonOf x c) y l frames z c (rowAt table) h known n r g (read r g) v (λ e. address-marked w t n c l x y long oh r g e .1))
-      (both-yes _ _ (set-passes same t (skeletonOf x c) y l frames z c (rowAt table) h known n r g (read r g) v)
-      (both-yes _ _ (framed-passes same t (skeletonOf x c) y l z c (rowAt table) hc few₈ like r g (outside-table r g) (read r g))
-      (both-yes _ _ (few-same (rowAt table) (rowAt (skeletonOf x c)) like r (outside-table r g) (λ e. like .counts r (λ d. absurd (omega arith))) ∙ few r g)
+      (both-true _ _ (address-passes same t (skeletonOf x c) y l frames z c (rowAt table) h known n r g (read r g) v (λ e. address-marked w t n c l x y long oh r g e .1))
+      (both-true _ _ (set-passes same t (skeletonOf x c) y l frames z c (rowAt table) h known n r g (read r g) v)
+      (both-true _ _ (framed-passes same t (skeletonOf x c) y l z c (rowAt table) hc few₈ like r g (outside-table r g) (read r g))
+      (both-true _ _ (few-same (rowAt table) (rowAt (skeletonOf x c)) like r (outside-table r g) (λ e. like .counts r (λ d. absurd (omega arith))) ∙ few r g)
       refl))))))))))

@@ -10,6 +10,7 @@ use lib.ListN.{length, getD, length-replicate}
 use borrow.Author.Tests.{le-leb}
 use Rattle.prelude.specs.Lists.{zeros}
 use Rattle.limits.specs.declared.Width.{Width}
+use Rattle.tables.proofs.Each.{both-true}
 use Rattle.tables.specs.Tests.{both, all, allBelow}
 use Rattle.tables.specs.Statement.{Row, rowAt}
 use Rattle.tables.specs.Nesting.{allClosed}
@@ -29,7 +30,6 @@ use Rattle.acceptance.specs.Faults.{allNameFaults}
 use Rattle.nested.proofs.Nested.{rows-closed, rows-shallow, rows-few}
 use Rattle.resolved.proofs.Views.{closed-same}
 use Rattle.resolved.proofs.Readback.{table-long}
-use Rattle.resolved.proofs.Statements.{both-yes}
 use Rattle.unused.proofs.Zeros.{below-all}
 use Rattle.soundness.proofs.Rows.{few-statements, alike}
 use Rattle.soundness.proofs.Tests.{Labels, row-passes}
@@ -81,19 +81,19 @@ module _ (w : Width) (t : List ℕ) (n c l : ℕ) (x y : List ℕ) (long : lengt
   unfolding countsGood all
   counts =
       let a = accepted-counts w t n c l long accepted in
-      both-yes _ _ (le-leb c 1024 (a .0))
-      (both-yes _ _ (le-leb l 256 (a .1))
-      (both-yes _ _ (le-leb d 32768 small)
-      (both-yes _ _ (le-leb (c * 27) (length (statementTable same t (skeletonOf x c) y l (wordsOf (rowAt (skeletonOf x c)) c) (labelTable w t y flags l (zeros i)) c (zeros m))) (omega (arith, size-rows)))
-      (both-yes _ _ (le-leb (l * 4) (length (labelTable w t y flags l (zeros i))) (omega (arith, size-labels)))
-      (both-yes _ _ (le-leb (l * 64) (length (nameTable s t y l (zeros j))) (omega (arith, size-names)))
+      both-true _ _ (le-leb c 1024 (a .0))
+      (both-true _ _ (le-leb l 256 (a .1))
+      (both-true _ _ (le-leb d 32768 small)
+      (both-true _ _ (le-leb (c * 27) (length (statementTable same t (skeletonOf x c) y l (wordsOf (rowAt (skeletonOf x c)) c) (labelTable w t y flags l (zeros i)) c (zeros m))) (omega (arith, size-rows)))
+      (both-true _ _ (le-leb (l * 4) (length (labelTable w t y flags l (zeros i))) (omega (arith, size-labels)))
+      (both-true _ _ (le-leb (l * 64) (length (nameTable s t y l (zeros j))) (omega (arith, size-names)))
       refl)))))
 
   -- every rule of well-formed tables
   pub outline-wellformed : WellFormed left
   unfolding wellFormed all
   outline-wellformed =
-      both-yes _ _ counts
-      (both-yes _ _ (closed-same _ (rowAt (skeletonOf x c)) (alike w t n c l x y long oh same (labelTable w t y flags l (zeros i)) m rows-room) c ∙ closed)
-      (both-yes _ _ (below-all _ c (λ r g. row-passes w t n c l x y long oh same (labelTable w t y flags l (zeros i)) m rows-room (labelAt (labelTable w t y flags l (zeros i)) (nameTable s t y l (zeros j))) lb clean deep few r g))
-      (both-yes _ _ (below-all _ l good) refl)))
+      both-true _ _ counts
+      (both-true _ _ (closed-same _ (rowAt (skeletonOf x c)) (alike w t n c l x y long oh same (labelTable w t y flags l (zeros i)) m rows-room) c ∙ closed)
+      (both-true _ _ (below-all _ c (λ r g. row-passes w t n c l x y long oh same (labelTable w t y flags l (zeros i)) m rows-room (labelAt (labelTable w t y flags l (zeros i)) (nameTable s t y l (zeros j))) lb clean deep few r g))
+      (both-true _ _ (below-all _ l good) refl)))
