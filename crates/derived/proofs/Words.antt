@@ -6,7 +6,7 @@ use mathlib.Core.List.{List, [], _∷_}
 use Prim.Native.Nat.{ℕ, zero, suc, _+_, _-_, _<_, _≤_}
 use native.Mathlib.Decide.{ℕ-discrete}
 use native.Mathlib.Omega.{arith}
-use borrow.Author.Tests.{eqb-true, eq-eqb, leb-true, leb-false, ltb-true}
+use borrow.Author.Tests.{eqb-true, eq-eqb, leb-true, leb-false, ltb-true, lt-ltb}
 use lib.Dec.{eqb, ltb, leb}
 use Rattle.prelude.specs.Choice.{ifLt, ifEq, ifTrue}
 use Rattle.prelude.proofs.Choice.{true-false, ifEq-yes, ifEq-no, ifLt-no}
@@ -168,3 +168,181 @@ module _ (f : ℕ → Row) (c : ℕ) (ok : (n : ℕ) → n < c → stands f n �
 
         behind : firstLet f c 17 e + countBelow (isIn f 5 e) c < firstLet f c 17 (f i .scope) → ⊥
         behind z = omega (arith, d, fb)
+
+-- ---- well-formed tables
+
+or-cases : {P : Type 0} (p q : Bool) → (p ≡ true → P) → (q ≡ true → P) → oneOf p q ≡ true → P
+or-cases true q a b e = a refl
+or-cases false q a b e = b e
+
+both-then : (p q : Bool) → p ≡ true → both p q ≡ false → q ≡ false
+both-then true q e d = d
+both-then false q e d = true-false (sym e)
+
+own-block : (r : Row) → r .kind ≡ 3 → ownWord r ≡ r .a + r .b
+unfolding ownWord
+own-block r e = ifEq-yes (r .a + r .b) (r .a) e
+
+own-other : (r : Row) → (r .kind ≡ 3 → ⊥) → ownWord r ≡ r .a
+unfolding ownWord
+own-other r q = ifEq-no (r .a + r .b) (r .a) q
+
+has-word : (k : ℕ) → 3 ≤ k → k < 7 → hasWord k ≡ true
+unfolding hasWord
+has-word k g h = ifLt-no false (ltb k 7) g ∙ lt-ltb k 7 h
+
+module _ (t : Tables) (w : WellFormed t) where
+  flat : (s : ℕ) → s < t .count → depthOf (rows t) 17 s ≤ 16
+  unfolding shallow depthOf
+  flat s h =
+      elim (ℕ-discrete (rows t s .kind) 3) [
+        | yes q ↦ leb-true _ _ (given-then (eqb (rows t s .kind) 3) (leb (depthOf (rows t) frameDepth s) blockDepth) (shallow-at t w s h) (eq-eqb _ _ q))
+        | no q ↦ none (ifEq-no (suc (depthOf (rows t) 16 (rows t s .scope))) 0 q)
+      ]
+    where
+      none : depthOf (rows t) 17 s ≡ 0 → depthOf (rows t) 17 s ≤ 16
+      none e = omega arith
+
+  module _ (n : ℕ) (h : n < t .count) where
+    frame-at : (rows t n .kind ≡ 1 → ⊥) → At (rows t) (t .count) (ok t w) n (rows t n .scope)
+    frame-at q = scopes (rows t) (t .count) (ok t w) (t .count) (omega arith) n h q
+
+    -- the first let of its frame lies behind the parameters of its function
+    frame-low : (rows t n .kind ≡ 1 → ⊥) → 3 + rows t (rows t n .func) .b ≤ firstLet (rows t) (t .count) 17 (rows t n .scope)
+    frame-low q =
+        let x : At (rows t) (t .count) (ok t w) n (rows t n .scope) = frame-at q in
+        let s : rows t n .scope < t .count = omega (arith, x .low) in
+        omega (arith, ap (λ (y : ℕ). rows t y .b) (x .same), first-low (rows t) (t .count) (ok t w) 16 (rows t n .scope) s (x .frame) (flat (rows t n .scope) s))
+
+    -- the last word that a row names is in the frame
+    pub own-low : 3 ≤ rows t n .kind → rows t n .kind < 7 → ownWord (rows t n) < rows t (rows t n .func) .a
+    unfolding wordFault
+    own-low g l =
+        omega (arith, size-here t w n h,
+          leb-false (sizeAt (rows t) (t .count) n) (ownWord (rows t n))
+          (both-then (hasWord (rows t n .kind)) (leb (sizeAt (rows t) (t .count) n) (ownWord (rows t n))) (has-word (rows t n .kind) g l) (word-sound t w n h)))
+
+    -- ---- lets
+
+    pub let-is : rows t n .kind ≡ 5 → rows t n .a ≡ letWord (rows t) (t .count) n
+    unfolding framed frame-tests
+    let-is e = eqb-true _ _ (given-then (eqb (rows t n .kind) 5) (eqb (rows t n .a) (letWord (rows t) (t .count) n)) (all-at (frame-tests t w n h) 0 (framed-at t w n h) (omega arith)) (eq-eqb _ _ e))
+
+    pub let-low : rows t n .kind ≡ 5 → 3 + rows t (rows t n .func) .b ≤ rows t n .a
+    unfolding letWord
+    let-low e = omega (arith, let-is e, frame-low (λ (d : rows t n .kind ≡ 1). omega arith))
+
+    pub let-within : rows t n .kind ≡ 5 → rows t n .a < rows t (rows t n .func) .a
+    let-within e = omega (arith, let-size t w n h e, size-here t w n h)
+
+    -- ---- blocks
+
+    block-tests : Bool
+    block-tests = both (eqb (rows t n .b) (letsBefore (rows t) n (t .count))) (eqb (rows t n .callee) (localsAt (rows t) n))
+
+    block-good : rows t n .kind ≡ 3 → both (eqb (rows t n .a) (blockWord (rows t) (t .count) n)) block-tests ≡ true
+    unfolding framed frame-tests block-tests
+    block-good e =
+        given-then (eqb (rows t n .kind) 3) (both (eqb (rows t n .a) (blockWord (rows t) (t .count) n)) block-tests)
+        (all-at (frame-tests t w n h) 1 (framed-at t w n h) (omega arith)) (eq-eqb _ _ e)
+
+    pub block-is : rows t n .kind ≡ 3 → rows t n .a ≡ blockWord (rows t) (t .count) n
+    block-is e = eqb-true _ _ (both-left (eqb (rows t n .a) (blockWord (rows t) (t .count) n)) block-tests (block-good e))
+
+    pub block-low : rows t n .kind ≡ 3 → 3 + rows t (rows t n .func) .b ≤ rows t n .a
+    unfolding blockWord
+    block-low e = omega (arith, block-is e, frame-low (λ (d : rows t n .kind ≡ 1). omega arith))
+
+    -- a block's word and those of its lets are in the frame
+    pub block-within : rows t n .kind ≡ 3 → rows t n .a + rows t n .b < rows t (rows t n .func) .a
+    block-within e = omega (arith, own-low (omega arith) (omega arith), own-block (rows t n) e)
+
+  -- ---- `end block`
+
+  pub record EndBlock (n : ℕ) : Type 0 where
+    pub before : rows t n .scope < n
+    pub is-block : rows t (rows t n .scope) .kind ≡ 3
+    pub word : rows t n .a ≡ rows t (rows t n .scope) .a
+
+  pub end-facts : (n : ℕ) → n < t .count → rows t n .kind ≡ 4 → EndBlock n
+  unfolding framed frame-tests
+  end-facts n h e =
+      let k : rows t (rows t n .scope) .kind ≡ 3 = end-block (rows t) (t .count) (ok t w) n h e in
+      let l : rows t n .scope < n = frame-at n h (λ (d : rows t n .kind ≡ 1). omega arith) .low in
+      record {
+        before = l;
+        is-block = k;
+        word =
+            eqb-true _ _
+            (given-then (eqb (rows t n .kind) 4) (eqb (rows t n .a) (blockWord (rows t) (t .count) (rows t n .scope))) (all-at (frame-tests t w n h) 2 (framed-at t w n h) (omega arith)) (eq-eqb _ _ e))
+            ∙ sym (block-is (rows t n .scope) (omega arith) k);
+      }
+
+  pub end-low : (n : ℕ) → n < t .count → rows t n .kind ≡ 4 → 3 + rows t (rows t n .func) .b ≤ rows t n .a
+  end-low n h e =
+      omega (arith, end-facts n h e .word, ap (λ (x : ℕ). rows t x .b) (frame-at n h (λ (d : rows t n .kind ≡ 1). omega arith) .same),
+        block-low (rows t n .scope) (omega (arith, end-facts n h e .before)) (end-facts n h e .is-block))
+
+  pub end-within : (n : ℕ) → n < t .count → rows t n .kind ≡ 4 → rows t n .a < rows t (rows t n .func) .a
+  end-within n h e = omega (arith, own-low n h (omega arith) (omega arith), own-other (rows t n) (λ (d : rows t n .kind ≡ 3). omega arith))
+
+  -- ---- destinations
+
+  -- v is no word of the frame's head, and not that of a block open at row n
+  pub record Apart (n v : ℕ) : Type 0 where
+    pub low : 3 ≤ v
+    pub apart : (e : ℕ) → e < t .count → rows t e .kind ≡ 3 → encloses (rows t) frameDepth e (rows t n .scope) ≡ true → v ≡ rows t e .a → ⊥
+
+  module _ (n : ℕ) (h : n < t .count) (q : rows t n .kind ≡ 1 → ⊥) where
+    scope-low : rows t n .scope < t .count
+    scope-low = omega (arith, frame-at n h q .low)
+
+    -- the let at row i, whose frame is around row n
+    let-apart : (i : ℕ) → i < t .count → rows t i .kind ≡ 5 → encloses (rows t) frameDepth (rows t i .scope) (rows t n .scope) ≡ true → Apart n (rows t i .a)
+    let-apart i l k x =
+        record {
+          low = omega (arith, let-low i l k);
+          apart = λ e g b y d. words-apart (rows t) (t .count) (ok t w) flat i e (rows t n .scope) 17 17 l g scope-low k b x y (sym (let-is i l k) ∙ d ∙ block-is e g b);
+        }
+
+    parameter-apart : (v : ℕ) → isParameter (rows t (rows t n .func) .b) v ≡ true → Apart n v
+    unfolding isParameter
+    parameter-apart v p =
+        let a : 3 ≤ v = leb-true frameHead v (both-left (leb frameHead v) (ltb (v - frameHead) (rows t (rows t n .func) .b)) p) in
+        let b : v - 3 < rows t (rows t n .func) .b = ltb-true (v - frameHead) (rows t (rows t n .func) .b) (both-right (leb frameHead v) (ltb (v - frameHead) (rows t (rows t n .func) .b)) p) in
+        record { low = a; apart = λ e g k y d. far a b e g k y d }
+      where
+        far : 3 ≤ v → v - 3 < rows t (rows t n .func) .b → (e : ℕ) → e < t .count → rows t e .kind ≡ 3 → encloses (rows t) 17 e (rows t n .scope) ≡ true → v ≡ rows t e .a → ⊥
+        far a b e g k y d =
+            omega (arith, block-low e g k, ap (λ (x : ℕ). rows t x .b) (around-func (rows t) (t .count) (ok t w) 17 e (rows t n .scope) scope-low y ∙ frame-at n h q .same))
+
+    -- a word in scope
+    pub scope-apart : (v : ℕ) → inScope (rows t) n v ≡ true → Apart n v
+    unfolding inScope seenAt letSeen
+    scope-apart v e =
+        or-cases (isParameter (rows t (rows t n .func) .b) v) (someBelow (λ i. both (both (eqb (rows t i .kind) 5) (encloses (rows t) 17 (rows t i .scope) (rows t n .scope))) (eqb (rows t i .a) v)) n)
+        (parameter-apart v)
+        (λ d. seen (some-found (λ i. both (both (eqb (rows t i .kind) 5) (encloses (rows t) 17 (rows t i .scope) (rows t n .scope))) (eqb (rows t i .a) v)) n d))
+        e
+      where
+        seen : Found (λ i. both (both (eqb (rows t i .kind) 5) (encloses (rows t) 17 (rows t i .scope) (rows t n .scope))) (eqb (rows t i .a) v)) n → Apart n v
+        seen x =
+            let a : rows t (x .i) .a ≡ v = eqb-true _ _ (both-right (both (eqb (rows t (x .i) .kind) 5) (encloses (rows t) 17 (rows t (x .i) .scope) (rows t n .scope))) (eqb (rows t (x .i) .a) v) (x .passes)) in
+            let b : both (eqb (rows t (x .i) .kind) 5) (encloses (rows t) 17 (rows t (x .i) .scope) (rows t n .scope)) ≡ true = both-left (both (eqb (rows t (x .i) .kind) 5) (encloses (rows t) 17 (rows t (x .i) .scope) (rows t n .scope))) (eqb (rows t (x .i) .a) v) (x .passes) in
+            subst (Apart n) a
+            (let-apart (x .i) (omega (arith, x .below)) (eqb-true _ _ (both-left (eqb (rows t (x .i) .kind) 5) (encloses (rows t) 17 (rows t (x .i) .scope) (rows t n .scope)) b))
+            (both-right (eqb (rows t (x .i) .kind) 5) (encloses (rows t) 17 (rows t (x .i) .scope) (rows t n .scope)) b))
+
+  -- the destination of a `let`
+  pub let-destination : (n : ℕ) → n < t .count → rows t n .kind ≡ 5 → Apart n (rows t n .a)
+  let-destination n h e = let-apart n h (λ (d : rows t n .kind ≡ 1). omega arith) n h e (around-self (rows t) (t .count) (ok t w) 17 (rows t n .scope))
+
+  -- that of a `set`
+  pub set-destination : (n : ℕ) → n < t .count → rows t n .kind ≡ 6 → Apart n (rows t n .a)
+  unfolding setsLocal
+  set-destination n h e =
+      scope-apart n h (λ (d : rows t n .kind ≡ 1). omega arith) (rows t n .a)
+      (given-then (eqb (rows t n .kind) 6) (inScope (rows t) n (rows t n .a)) (sets-at t w n h) (eq-eqb (rows t n .kind) 6 e))
+
+  pub set-within : (n : ℕ) → n < t .count → rows t n .kind ≡ 6 → rows t n .a < rows t (rows t n .func) .a
+  set-within n h e = omega (arith, own-low n h (omega arith) (omega arith), own-other (rows t n) (λ (d : rows t n .kind ≡ 3). omega arith))
