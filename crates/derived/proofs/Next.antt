@@ -3,7 +3,7 @@
 use mathlib.Core.Path.{_≡_, refl, sym, _∙_, ap, subst}
 use mathlib.Core.Bool.{Bool, true, false, not}
 use mathlib.Core.List.{List, [], _∷_}
-use Prim.Native.Nat.{ℕ, zero, suc, _+_, _-_, _<_, _≤_}
+use Prim.Native.Nat.{ℕ, zero, suc, _-_, _<_, _≤_}
 use native.Mathlib.Nat.{not-suc-le-zero}
 use native.Mathlib.Decide.{ℕ-discrete}
 use native.Mathlib.Omega.{arith}
@@ -11,7 +11,7 @@ use borrow.Author.Tests.{eqb-true, eq-eqb, ne-eqb, leb-true, le-leb, ltb-true}
 use lib.Dec.{eqb, ltb, leb}
 use lib.ListN.{getD}
 use Rattle.prelude.specs.Choice.{ifLt, ifEq, ifTrue}
-use Rattle.prelude.proofs.Choice.{either-true, either-eq, true-false, ifEq-yes, ifEq-no, ifTrue-yes, ifTrue-no}
+use Rattle.prelude.proofs.Choice.{either-true, either-eq, ifEq-yes, ifEq-no, ifTrue-yes, ifTrue-no}
 use Rattle.kinds.specs.Nesting.{statementIn, standsIn, enters, leaves, groundOf, isFrame}
 use Rattle.tables.specs.Tests.{both, given, all, allBelow}
 use Rattle.tables.specs.Statement.{Row}
@@ -19,7 +19,8 @@ use Rattle.tables.specs.Label.{Tables, rows}
 use Rattle.tables.specs.Nesting.{behind, openBefore, scopeIn, upIn, isListed, stands}
 use Rattle.tables.specs.WellFormed.{WellFormed}
 use Rattle.tables.proofs.Each.{both-left, both-right, both-true, given-then, all-at, below-at}
-use Rattle.tables.proofs.Nested.{not-true, true-not, not-eq, here, ground-low, ground-high, ground-some, open-some, small, kind-not, func-open, Held, held, next-row, next-func}
+use Rattle.tables.proofs.Nested.{not-true, true-not, not-eq, here, ground-low, ground-high, ground-some, open-some, small, kind-not, func-open, next-row, next-func}
+use Rattle.tables.proofs.Words.{At, scopes, func-own}
 use Rattle.tables.proofs.Sound.{ok, shut, row-held}
 
 -- ---- kinds, by one computed test over all of them
@@ -291,35 +292,85 @@ module _ (f : ℕ → Row) (c : ℕ) (ok : (n : ℕ) → n < c → stands f n �
 
 -- ---- well-formed tables
 
--- the frame behind row n, where one is
+-- the frame behind row n: "A `block` line belongs to the frame outside, its `end block` to the block."
 unfoldable pub scopeBehind : (ℕ → Row) → ℕ → ℕ
 scopeBehind f n = ifTrue (isFrame (f n .kind)) n (ifEq (f n .kind) 4 (f (f n .scope) .scope) (f n .scope))
 
+scope-behind-own : (f : ℕ → Row) (n : ℕ) → isFrame (f n .kind) ≡ true → scopeBehind f n ≡ n
+unfolding scopeBehind
+scope-behind-own f n e = ifTrue-yes n (ifEq (f n .kind) 4 (f (f n .scope) .scope) (f n .scope)) e
+
+scope-behind-end : (f : ℕ → Row) (n : ℕ) → f n .kind ≡ 4 → scopeBehind f n ≡ f (f n .scope) .scope
+unfolding scopeBehind
+scope-behind-end f n e =
+    ifTrue-no n (ifEq (f n .kind) 4 (f (f n .scope) .scope) (f n .scope)) (not-frame (f n .kind) (λ d. omega arith) (λ d. omega arith))
+    ∙ ifEq-yes (f (f n .scope) .scope) (f n .scope) e
+
+scope-behind-other : (f : ℕ → Row) (n : ℕ) → isFrame (f n .kind) ≡ false → (f n .kind ≡ 4 → ⊥) → scopeBehind f n ≡ f n .scope
+unfolding scopeBehind
+scope-behind-other f n e q =
+    ifTrue-no n (ifEq (f n .kind) 4 (f (f n .scope) .scope) (f n .scope)) e ∙ ifEq-no (f (f n .scope) .scope) (f n .scope) q
+
 module _ (t : Tables) (w : WellFormed t) (n : ℕ) (h : n < t .count) where
-  -- the function of a row
-  pub func-line : Held (rows t) (t .count) (ok t w) n
-  func-line = row-held t w n h
+  -- the function of row n
+  pub record FuncLine : Type 0 where
+    pub before : rows t n .func ≤ n
+    pub within : rows t n .func < t .count
+    pub is-function : rows t (rows t n .func) .kind ≡ 1
 
-  pub func-low : rows t n .func < t .count
-  func-low = omega (arith, row-held t w n h .before)
+  pub func-line : FuncLine
+  func-line = record { before = row-held t w n h .before; within = omega (arith, row-held t w n h .before); is-function = row-held t w n h .is-function }
 
-  pub next-in : (p : rows t n .kind ≡ 2 → ⊥) → Next (rows t) (t .count) (ok t w) (shut t w) n h p
-  next-in p = next (rows t) (t .count) (ok t w) (shut t w) n h p
+  -- a function is its own function and frame
+  pub func-self : rows t n .kind ≡ 1 → rows t n .func ≡ n
+  func-self e = func-own (rows t) (t .count) (ok t w) n h e
 
-  pub scope-next : (rows t n .kind ≡ 2 → ⊥) → rows t (suc n) .scope ≡ scopeBehind (rows t) n
-  unfolding scopeBehind isFrame
-  scope-next p =
-      elim (ℕ-discrete (rows t n .kind) 1) [
-        | yes e ↦ scope-function (rows t) (t .count) (ok t w) (shut t w) n h p e
-            ∙ sym (ifTrue-yes n (ifEq (rows t n .kind) 4 (rows t (rows t n .scope) .scope) (rows t n .scope)) (ifEq-yes true (ifEq (rows t n .kind) 3 true false) e))
-        | no q ↦ elim (ℕ-discrete (rows t n .kind) 3) [
-          | yes e ↦ scope-block (rows t) (t .count) (ok t w) (shut t w) n h p e
-              ∙ sym (ifTrue-yes n (ifEq (rows t n .kind) 4 (rows t (rows t n .scope) .scope) (rows t n .scope)) (ifEq-no true (ifEq (rows t n .kind) 3 true false) q ∙ ifEq-yes true false e))
-          | no r ↦ elim (ℕ-discrete (rows t n .kind) 4) [
-            | yes e ↦ scope-end (rows t) (t .count) (ok t w) (shut t w) n h p e
-                ∙ sym (ifTrue-no n (ifEq (rows t n .kind) 4 (rows t (rows t n .scope) .scope) (rows t n .scope)) (not-frame (rows t n .kind) q r) ∙ ifEq-yes (rows t (rows t n .scope) .scope) (rows t n .scope) e)
-            | no s ↦ scope-other (rows t) (t .count) (ok t w) (shut t w) n h p q r s
-                ∙ sym (ifTrue-no n (ifEq (rows t n .kind) 4 (rows t (rows t n .scope) .scope) (rows t n .scope)) (not-frame (rows t n .kind) q r) ∙ ifEq-no (rows t (rows t n .scope) .scope) (rows t n .scope) s)
+  pub scope-self : rows t n .kind ≡ 1 → rows t n .scope ≡ n
+  unfolding scopeIn
+  scope-self e =
+      here (rows t) (t .count) (ok t w) n h .scope-is
+      ∙ ifEq-yes n (ifTrue (isFrame (rows t (openBefore (rows t) n - 1) .kind)) (openBefore (rows t) n - 1) (rows t (openBefore (rows t) n - 1) .scope)) e
+
+  -- the frame of any other row: a function or block before it, in its function
+  pub scope-frame : (rows t n .kind ≡ 1 → ⊥) → At (rows t) (t .count) (ok t w) n (rows t n .scope)
+  scope-frame q = scopes (rows t) (t .count) (ok t w) (t .count) (omega arith) n h q
+
+  -- the row behind a row that is no `end function`
+  pub record NextIn : Type 0 where
+    pub within : suc n < t .count
+    pub same : rows t (suc n) .func ≡ rows t n .func
+    pub no-function : rows t (suc n) .kind ≡ 1 → ⊥
+
+  module _ (p : rows t n .kind ≡ 2 → ⊥) where
+    pub next-in : NextIn
+    next-in =
+        let x : Next (rows t) (t .count) (ok t w) (shut t w) n h p = next (rows t) (t .count) (ok t w) (shut t w) n h p in
+        record { within = x .within; same = x .same; no-function = x .no-function }
+
+    pub scope-next : rows t (suc n) .scope ≡ scopeBehind (rows t) n
+    unfolding isFrame
+    scope-next =
+        elim (ℕ-discrete (rows t n .kind) 1) [
+          | yes e ↦ scope-function (rows t) (t .count) (ok t w) (shut t w) n h p e ∙ sym (scope-behind-own (rows t) n (ifEq-yes true (ifEq (rows t n .kind) 3 true false) e))
+          | no q ↦ elim (ℕ-discrete (rows t n .kind) 3) [
+            | yes e ↦ scope-block (rows t) (t .count) (ok t w) (shut t w) n h p e
+                ∙ sym (scope-behind-own (rows t) n (ifEq-no true (ifEq (rows t n .kind) 3 true false) q ∙ ifEq-yes true false e))
+            | no r ↦ elim (ℕ-discrete (rows t n .kind) 4) [
+              | yes e ↦ scope-end (rows t) (t .count) (ok t w) (shut t w) n h p e ∙ sym (scope-behind-end (rows t) n e)
+              | no s ↦ scope-other (rows t) (t .count) (ok t w) (shut t w) n h p q r s ∙ sym (scope-behind-other (rows t) n (not-frame (rows t n .kind) q r) s)
+            ]
           ]
         ]
-      ]
+
+    -- the same, kind by kind
+    pub next-function : rows t n .kind ≡ 1 → rows t (suc n) .scope ≡ n
+    next-function e = scope-function (rows t) (t .count) (ok t w) (shut t w) n h p e
+
+    pub next-block : rows t n .kind ≡ 3 → rows t (suc n) .scope ≡ n
+    next-block e = scope-block (rows t) (t .count) (ok t w) (shut t w) n h p e
+
+    pub next-end-block : rows t n .kind ≡ 4 → rows t (suc n) .scope ≡ rows t (rows t n .scope) .scope
+    next-end-block e = scope-end (rows t) (t .count) (ok t w) (shut t w) n h p e
+
+    pub next-other : (rows t n .kind ≡ 1 → ⊥) → (rows t n .kind ≡ 3 → ⊥) → (rows t n .kind ≡ 4 → ⊥) → rows t (suc n) .scope ≡ rows t n .scope
+    next-other q r s = scope-other (rows t) (t .count) (ok t w) (shut t w) n h p q r s

@@ -1,19 +1,18 @@
 -- What a row of well-formed tables names: its callee, its operands, its words; and the limits.
 -- Assumes nothing.
-use mathlib.Core.Path.{_≡_, refl, sym, _∙_, ap, subst}
+use mathlib.Core.Path.{_≡_, refl, sym, _∙_, ap}
 use mathlib.Core.Bool.{Bool, true, false, not}
 use mathlib.Core.List.{List, [], _∷_}
-use Prim.Native.Nat.{ℕ, zero, suc, _+_, _*_, _-_, _<_, _≤_, max}
-use native.Mathlib.Decide.{ℕ-discrete}
+use Prim.Native.Nat.{ℕ, zero, suc, _+_, _*_, _<_, _≤_}
 use native.Mathlib.Omega.{arith}
 use borrow.Author.Tests.{eqb-true, eq-eqb, leb-true, leb-false, ltb-true, ltb-false}
 use lib.Dec.{eqb, ltb, leb}
 use lib.ListN.{length, getD}
-use Rattle.prelude.specs.Choice.{pick, ifLt, ifEq, ifTrue}
-use Rattle.prelude.proofs.Choice.{true-false, either-true, ifTrue-yes, ifEq-yes, ifEq-no}
+use Rattle.prelude.specs.Choice.{pick, ifTrue}
+use Rattle.prelude.proofs.Choice.{true-false, either-true, ifTrue-yes}
 use Rattle.limits.specs.Limits as limits
 use Rattle.limits.specs.Limits.{nameBytes, dataBytes, parameters, locals}
-use Rattle.tables.specs.Layout.{statementRow, labelRow, frameHead}
+use Rattle.tables.specs.Layout.{statementRow, labelRow}
 use Rattle.tables.specs.Tests.{both, oneOf, given, all, someOf, countBelow, greatestBelow}
 use Rattle.tables.specs.Statement.{Row, isCall}
 use Rattle.tables.specs.Label.{Tables, rows, labelsOf, isFunctionLabel}
@@ -21,8 +20,8 @@ use Rattle.tables.specs.Frames.{isIn, letsBefore, blockNeed, needOf, frameSize,
 use Rattle.tables.specs.Faults.{sizeAt, operandFault, operandsFault, addressFault, addressListed, rowFault}
 use Rattle.tables.specs.WellFormed.{labelled, calls, fewLocals, countsGood, WellFormed}
 use Rattle.tables.specs.declared.Operand.{Operand}
-use Rattle.tables.specs.declared.Operand.the-variants.{Constant, Local, Address, AtConstant, AtLocal, AtAddress, Unlisted}
-use Rattle.tables.proofs.Each.{both-left, both-right, given-then, all-at, counts-good, calls-at, few-at}
+use Rattle.tables.specs.declared.Operand.the-variants.{Constant, Local, Address, AtLocal, AtAddress, Unlisted}
+use Rattle.tables.proofs.Each.{both-left, given-then, all-at, counts-good, calls-at, few-at}
 use Rattle.tables.proofs.Sound.{function-sound, row-held, size-is}
 use Rattle.tables.proofs.Whole.{operands-sound, address-sound, row-sound}
 
@@ -83,9 +82,12 @@ need-most : (f : ℕ → Row) (c d s : ℕ) → c ≤ 1024 → needOf f c d s �
 unfolding needOf letsBefore blockNeed
 need-most f c zero s h = omega arith
 need-most f c (suc d) s h =
-    omega (arith, count-most (isIn f 5 s) c,
+    omega (
+      arith,
+      count-most (isIn f 5 s) c,
       greatest-most (λ i. ifTrue (isIn f 3 s i) (suc (needOf f c d i)) 0) c (suc (d * 1025))
-      (λ i. either-true (λ (x : ℕ). x ≤ suc (d * 1025)) (isIn f 3 s i) (suc (needOf f c d i)) 0 (λ e. omega (arith, need-most f c d i h)) (λ e. omega arith)))
+          (λ i. either-true (λ (x : ℕ). x ≤ suc (d * 1025)) (isIn f 3 s i) (suc (needOf f c d i)) 0 (λ e. omega (arith, need-most f c d i h)) (λ e. omega arith)),
+    )
 
 abbrev counts : Tables → List Bool
 counts t =
@@ -124,7 +126,7 @@ module _ (t : Tables) (w : WellFormed t) where
       (both-left (given (eqb (rows t s .kind) 1) (leb (rows t s .b) parameters)) (given (eqb (rows t s .kind) 5) (ltb (localsAt (rows t) s) locals)) (few-at t w s h))
       (eq-eqb _ _ e))
 
-  -- the frame size of a function is 3 + its parameters at least, and its row number and size are no marks
+  -- the frame size of a function is 3 + its parameters at least, and below 65,535
   pub record Size (s : ℕ) : Type 0 where
     pub head : 3 + rows t s .b ≤ rows t s .a
     pub no-mark : rows t s .a < 65535

@@ -1,24 +1,23 @@
 -- Where a row goes: to a row of its own function and frame.
 -- Assumes nothing.
-use mathlib.Core.Path.{_≡_, refl, sym, _∙_, ap, subst}
+use mathlib.Core.Path.{_≡_, refl, sym, _∙_, ap}
 use mathlib.Core.Bool.{Bool, true, false}
 use mathlib.Core.List.{List, [], _∷_}
 use Prim.Native.Nat.{ℕ, zero, suc, _+_, _-_, _<_, _≤_}
-use native.Mathlib.Decide.{ℕ-discrete}
 use native.Mathlib.Omega.{arith}
 use borrow.Author.Tests.{eqb-true, eq-eqb, leb-true, ltb-true}
 use lib.Dec.{eqb, ltb, leb}
-use Rattle.prelude.specs.Choice.{pick, ifLt, ifEq, ifTrue}
-use Rattle.prelude.proofs.Choice.{true-false, either, either-eq, either-true, ifTrue-yes, ifTrue-no, ifEq-yes, ifEq-no}
-use Rattle.tables.specs.Tests.{both, given, all, firstFrom}
+use Rattle.prelude.specs.Choice.{pick, ifEq}
+use Rattle.prelude.proofs.Choice.{true-false, either, either-eq, either-true}
+use Rattle.tables.specs.Tests.{both, all, firstFrom}
 use Rattle.tables.specs.Statement.{Row, isTest}
 use Rattle.tables.specs.Label.{Tables, rows, labelsOf}
 use Rattle.tables.specs.Nesting.{openBefore, stands, isArm, isEndIf, nextArm, endIfOf, pastArm, targetOf, hasTarget}
 use Rattle.tables.specs.WellFormed.{aimed, labelled, jumps, WellFormed}
 use Rattle.tables.proofs.Each.{both-left, both-right, given-then, all-at, aimed-at, jumps-at}
-use Rattle.tables.proofs.Targets.{Aimed, target-aimed}
-use Rattle.tables.proofs.Sound.{ok, shut, target-good, goto-good}
-use Rattle.derived.proofs.Next.{frameIn, Around, around, Next, next, scope-other}
+use Rattle.tables.proofs.Targets.{Aimed}
+use Rattle.tables.proofs.Sound.{ok, shut, target-good}
+use Rattle.derived.proofs.Next.{frameIn, around, scope-other}
 
 -- a search finds what passes, or ends behind the last number
 first-or : {P : Type 0} (p : ℕ → Bool) (left i : ℕ) → (p (firstFrom p left i) ≡ true → P) → (firstFrom p left i ≡ i + left → P) → P

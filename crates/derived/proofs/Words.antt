@@ -2,18 +2,17 @@
 -- Assumes nothing.
 use mathlib.Core.Path.{_≡_, refl, sym, _∙_, ap, subst}
 use mathlib.Core.Bool.{Bool, true, false}
-use mathlib.Core.List.{List, [], _∷_}
 use Prim.Native.Nat.{ℕ, zero, suc, _+_, _-_, _<_, _≤_}
 use native.Mathlib.Decide.{ℕ-discrete}
 use native.Mathlib.Omega.{arith}
 use borrow.Author.Tests.{eqb-true, eq-eqb, leb-true, leb-false, ltb-true, lt-ltb}
 use lib.Dec.{eqb, ltb, leb}
-use Rattle.prelude.specs.Choice.{ifLt, ifEq, ifTrue}
+use Rattle.prelude.specs.Choice.{ifEq}
 use Rattle.prelude.proofs.Choice.{true-false, ifEq-yes, ifEq-no, ifLt-no}
 use Rattle.kinds.specs.Nesting.{isFrame}
 use Rattle.limits.specs.Limits.{blockDepth}
 use Rattle.tables.specs.Layout.{frameHead}
-use Rattle.tables.specs.Tests.{both, oneOf, given, someBelow, countBelow}
+use Rattle.tables.specs.Tests.{both, oneOf, someBelow, countBelow}
 use Rattle.tables.specs.Statement.{Row}
 use Rattle.tables.specs.Label.{Tables, rows}
 use Rattle.tables.specs.Nesting.{stands, depthOf, encloses}
@@ -70,8 +69,12 @@ module _ (f : ℕ → Row) (c : ℕ) (ok : (n : ℕ) → n < c → stands f n �
   first-low (suc k) s h e g =
       elim (ℕ-discrete (f s .kind) 3) [
         | no q ↦ low-function (suc k) s h e q
-        | yes q ↦ omega (arith, first-block (suc k) s q, ap (λ (x : ℕ). f x .b) (out s h q .same),
-          first-low k (f s .scope) (omega (arith, out s h q .low)) (out s h q .frame) (omega (arith, depth-block (suc k) s q)))
+        | yes q ↦ omega (
+          arith,
+          first-block (suc k) s q,
+          ap (λ (x : ℕ). f x .b) (out s h q .same),
+          first-low k (f s .scope) (omega (arith, out s h q .low)) (out s h q .frame) (omega (arith, depth-block (suc k) s q)),
+        )
       ]
 
   -- behind the word of its block
@@ -192,9 +195,10 @@ unfolding hasWord
 has-word k g h = ifLt-no false (ltb k 7) g ∙ lt-ltb k 7 h
 
 module _ (t : Tables) (w : WellFormed t) where
-  flat : (s : ℕ) → s < t .count → depthOf (rows t) 17 s ≤ 16
+  -- blocks are at most 16 deep
+  pub frame-shallow : (s : ℕ) → s < t .count → depthOf (rows t) 17 s ≤ 16
   unfolding shallow depthOf
-  flat s h =
+  frame-shallow s h =
       elim (ℕ-discrete (rows t s .kind) 3) [
         | yes q ↦ leb-true _ _ (given-then (eqb (rows t s .kind) 3) (leb (depthOf (rows t) frameDepth s) blockDepth) (shallow-at t w s h) (eq-eqb _ _ q))
         | no q ↦ none (ifEq-no (suc (depthOf (rows t) 16 (rows t s .scope))) 0 q)
@@ -212,15 +216,18 @@ module _ (t : Tables) (w : WellFormed t) where
     frame-low q =
         let x : At (rows t) (t .count) (ok t w) n (rows t n .scope) = frame-at q in
         let s : rows t n .scope < t .count = omega (arith, x .low) in
-        omega (arith, ap (λ (y : ℕ). rows t y .b) (x .same), first-low (rows t) (t .count) (ok t w) 16 (rows t n .scope) s (x .frame) (flat (rows t n .scope) s))
+        omega (arith, ap (λ (y : ℕ). rows t y .b) (x .same), first-low (rows t) (t .count) (ok t w) 16 (rows t n .scope) s (x .frame) (frame-shallow (rows t n .scope) s))
 
     -- the last word that a row names is in the frame
     pub own-low : 3 ≤ rows t n .kind → rows t n .kind < 7 → ownWord (rows t n) < rows t (rows t n .func) .a
     unfolding wordFault
     own-low g l =
-        omega (arith, size-here t w n h,
+        omega (
+          arith,
+          size-here t w n h,
           leb-false (sizeAt (rows t) (t .count) n) (ownWord (rows t n))
-          (both-then (hasWord (rows t n .kind)) (leb (sizeAt (rows t) (t .count) n) (ownWord (rows t n))) (has-word (rows t n .kind) g l) (word-sound t w n h)))
+              (both-then (hasWord (rows t n .kind)) (leb (sizeAt (rows t) (t .count) n) (ownWord (rows t n))) (has-word (rows t n .kind) g l) (word-sound t w n h)),
+        )
 
     -- ---- lets
 
@@ -280,8 +287,12 @@ module _ (t : Tables) (w : WellFormed t) where
 
   pub end-low : (n : ℕ) → n < t .count → rows t n .kind ≡ 4 → 3 + rows t (rows t n .func) .b ≤ rows t n .a
   end-low n h e =
-      omega (arith, end-facts n h e .word, ap (λ (x : ℕ). rows t x .b) (frame-at n h (λ (d : rows t n .kind ≡ 1). omega arith) .same),
-        block-low (rows t n .scope) (omega (arith, end-facts n h e .before)) (end-facts n h e .is-block))
+      omega (
+        arith,
+        end-facts n h e .word,
+        ap (λ (x : ℕ). rows t x .b) (frame-at n h (λ (d : rows t n .kind ≡ 1). omega arith) .same),
+        block-low (rows t n .scope) (omega (arith, end-facts n h e .before)) (end-facts n h e .is-block),
+      )
 
   pub end-within : (n : ℕ) → n < t .count → rows t n .kind ≡ 4 → rows t n .a < rows t (rows t n .func) .a
   end-within n h e = omega (arith, own-low n h (omega arith) (omega arith), own-other (rows t n) (λ (d : rows t n .kind ≡ 3). omega arith))
@@ -302,7 +313,7 @@ module _ (t : Tables) (w : WellFormed t) where
     let-apart i l k x =
         record {
           low = omega (arith, let-low i l k);
-          apart = λ e g b y d. words-apart (rows t) (t .count) (ok t w) flat i e (rows t n .scope) 17 17 l g scope-low k b x y (sym (let-is i l k) ∙ d ∙ block-is e g b);
+          apart = λ e g b y d. words-apart (rows t) (t .count) (ok t w) frame-shallow i e (rows t n .scope) 17 17 l g scope-low k b x y (sym (let-is i l k) ∙ d ∙ block-is e g b);
         }
 
     parameter-apart : (v : ℕ) → isParameter (rows t (rows t n .func) .b) v ≡ true → Apart n v
@@ -343,6 +354,11 @@ module _ (t : Tables) (w : WellFormed t) where
   set-destination n h e =
       scope-apart n h (λ (d : rows t n .kind ≡ 1). omega arith) (rows t n .a)
       (given-then (eqb (rows t n .kind) 6) (inScope (rows t) n (rows t n .a)) (sets-at t w n h) (eq-eqb (rows t n .kind) 6 e))
+
+  -- the destination of a row that has one
+  pub destination-apart : (n : ℕ) → n < t .count → 5 ≤ rows t n .kind → rows t n .kind ≤ 6 → Apart n (rows t n .a)
+  destination-apart n h a b =
+      elim (ℕ-discrete (rows t n .kind) 5) [ yes e ↦ let-destination n h e | no e ↦ set-destination n h (omega arith) ]
 
   pub set-within : (n : ℕ) → n < t .count → rows t n .kind ≡ 6 → rows t n .a < rows t (rows t n .func) .a
   set-within n h e = omega (arith, own-low n h (omega arith) (omega arith), own-other (rows t n) (λ (d : rows t n .kind ≡ 3). omega arith))
