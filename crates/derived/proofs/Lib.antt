@@ -1,0 +1,4 @@
+pub mod Next
+pub mod Rows
+pub mod Words
+pub mod Targets

@@ -1,0 +1,1 @@
+// No code: theorems on well-formed tables.
