@@ -28,3 +28,7 @@ case1-page =
 -- `accepted 0 0 0`
 abbrev pub empty-page : List ℕ
 empty-page = 97 ∷ 99 ∷ 99 ∷ 101 ∷ 112 ∷ 116 ∷ 101 ∷ 100 ∷ 32 ∷ 48 ∷ 32 ∷ 48 ∷ 32 ∷ 48 ∷ 10 ∷ []
+
+-- `section data`, `x: byte 7`: seven tokens, one label, one byte
+abbrev pub one-byte : List ℕ
+one-byte = (115 ∷ 101 ∷ 99 ∷ 116 ∷ 105 ∷ 111 ∷ 110 ∷ 32 ∷ 100 ∷ 97 ∷ 116 ∷ 97 ∷ 10 ∷ []) ++ (120 ∷ 58 ∷ 32 ∷ 98 ∷ 121 ∷ 116 ∷ 101 ∷ 32 ∷ 55 ∷ 10 ∷ [])
