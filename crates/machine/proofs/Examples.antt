@@ -1,436 +1,602 @@
 -- Small programs: what the definitions make of them.
+-- Assumes nothing.
 use mathlib.Core.Path.{_≡_, refl}
-use Prim.Native.Nat.{ℕ}
-use mathlib.Core.List.{List, [], _∷_}
-use lib.ListN.{replicate}
+use Prim.Native.Nat.{ℕ, zero, suc}
+use mathlib.Core.List.{List, [], _∷_, _++_}
+use lib.ListN.{length, replicate}
 use Rattle.limits.specs.declared.Width.the-variants.{Bits32}
 use Rattle.limits.specs.declared.State.the-variants.{Running, Finished, Stopped}
 use Rattle.tables.specs.Label.{Tables}
-use Rattle.machine.specs.declared.Broken.the-variants.{No}
-use Rattle.machine.specs.declared.Started.the-variants.{Begun, Refused}
-use Rattle.prelude.specs.Bytes as m1
-use Rattle.prelude.specs.Choice as m2
-use Rattle.prelude.specs.Fault as m3
-use Rattle.prelude.specs.Lists as m4
-use Rattle.prelude.specs.Walk as m5
-use Rattle.limits.specs.Fresh as m6
-use Rattle.vocabulary.specs.Words as m7
-use Rattle.word.specs.Bytes as m8
-use Rattle.word.specs.Word as m9
-use Rattle.tables.specs.Faults as m10
-use Rattle.tables.specs.Label as m11
-use Rattle.tables.specs.Layout as m12
-use Rattle.tables.specs.Nesting as m13
-use Rattle.tables.specs.Statement as m14
-use Rattle.tables.specs.Tests as m15
-use Rattle.kinds.specs.Nesting as m16
-use Rattle.machine.specs.Access as m17
-use Rattle.machine.specs.Broken as m18
-use Rattle.machine.specs.Expressions as m19
-use Rattle.machine.specs.Frames as m20
-use Rattle.machine.specs.Operands as m21
-use Rattle.machine.specs.Start as m22
-use Rattle.machine.specs.Step as m23
+use Rattle.machine.specs.declared.Broken.the-variants.{No, At, Somewhere}
+use Rattle.machine.specs.declared.Broken.{Broken}
+use Rattle.machine.specs.declared.Started.{Started}
+use Rattle.limits.specs.declared.State.{State}
+use Rattle.machine.specs.declared.Started.the-variants.{Begun, Refused, Unsound}
+use Rattle.prelude.specs.Choice as m1
+use Rattle.prelude.specs.Lists as m2
+use Rattle.limits.specs.Fresh as m3
+use Rattle.vocabulary.specs.Words as m4
+use Rattle.word.specs.Bytes as m5
+use Rattle.word.specs.Word as m6
+use Rattle.tables.specs.Faults as m7
+use Rattle.tables.specs.Label as m8
+use Rattle.tables.specs.Nesting as m9
+use Rattle.tables.specs.Statement as m10
+use Rattle.tables.specs.Tests as m11
+use Rattle.machine.specs.Access as m12
+use Rattle.machine.specs.Broken as m13
+use Rattle.machine.specs.Expressions as m14
+use Rattle.machine.specs.Frames as m15
+use Rattle.machine.specs.Operands as m16
+use Rattle.machine.specs.Start as m17
+use Rattle.machine.specs.Step as m18
 use Rattle.limits.specs.Fresh.{freshOf}
-use Rattle.machine.specs.Step.{runOf}
+use Rattle.machine.specs.Step.{World, After, runOf}
 use Rattle.machine.specs.Start.{startOf, startLeaves}
 
-abbrev t-case2 : Tables
-t-case2 = record { statements = 1 ∷ 0 ∷ 0 ∷ 0 ∷ 6 ∷ 1 ∷ 0 ∷ 0 ∷ 0 ∷ 0 ∷ 0 ∷ 0 ∷ 0 ∷ 0 ∷ 0 ∷ 0 ∷ 0 ∷ 0 ∷ 0 ∷ 0 ∷ 0 ∷ 0 ∷ 0 ∷ 0 ∷ 0 ∷ 0 ∷ 0 ∷ 3 ∷ 0 ∷ 0 ∷ 1 ∷ 4 ∷ 1 ∷ 0 ∷ 1 ∷ 0 ∷ 0 ∷ 0 ∷ 0 ∷ 0 ∷ 0 ∷ 0 ∷ 0 ∷ 0 ∷ 0 ∷ 0 ∷ 0 ∷ 0 ∷ 0 ∷ 0 ∷ 0 ∷ 0 ∷ 0 ∷ 0 ∷ 5 ∷ 0 ∷ 1 ∷ 2 ∷ 5 ∷ 0 ∷ 33 ∷ 0 ∷ 2 ∷ 0 ∷ 0 ∷ 2 ∷ 3 ∷ 6 ∷ 0 ∷ 0 ∷ 0 ∷ 0 ∷ 0 ∷ 0 ∷ 0 ∷ 0 ∷ 0 ∷ 0 ∷ 0 ∷ 0 ∷ 0 ∷ 13 ∷ 0 ∷ 1 ∷ 2 ∷ 0 ∷ 0 ∷ 1 ∷ 0 ∷ 1 ∷ 0 ∷ 0 ∷ 2 ∷ 5 ∷ 0 ∷ 0 ∷ 0 ∷ 0 ∷ 0 ∷ 0 ∷ 0 ∷ 0 ∷ 0 ∷ 0 ∷ 0 ∷ 0 ∷ 0 ∷ 0 ∷ 4 ∷ 0 ∷ 1 ∷ 1 ∷ 4 ∷ 0 ∷ 0 ∷ 0 ∷ 0 ∷ 0 ∷ 0 ∷ 0 ∷ 0 ∷ 0 ∷ 0 ∷ 0 ∷ 0 ∷ 0 ∷ 0 ∷ 0 ∷ 0 ∷ 0 ∷ 0 ∷ 0 ∷ 0 ∷ 0 ∷ 0 ∷ 2 ∷ 0 ∷ 0 ∷ 0 ∷ 0 ∷ 0 ∷ 0 ∷ 0 ∷ 0 ∷ 0 ∷ 0 ∷ 0 ∷ 0 ∷ 0 ∷ 0 ∷ 0 ∷ 0 ∷ 0 ∷ 0 ∷ 0 ∷ 0 ∷ 0 ∷ 0 ∷ 0 ∷ 0 ∷ 0 ∷ 0 ∷ []; count = 6; labels = 1 ∷ 0 ∷ 0 ∷ 5 ∷ 4 ∷ 0 ∷ 0 ∷ 3 ∷ []; labelCount = 2; names = 115 ∷ 116 ∷ 111 ∷ 99 ∷ 107 ∷ 0 ∷ 0 ∷ 0 ∷ 0 ∷ 0 ∷ 0 ∷ 0 ∷ 0 ∷ 0 ∷ 0 ∷ 0 ∷ 0 ∷ 0 ∷ 0 ∷ 0 ∷ 0 ∷ 0 ∷ 0 ∷ 0 ∷ 0 ∷ 0 ∷ 0 ∷ 0 ∷ 0 ∷ 0 ∷ 0 ∷ 0 ∷ 0 ∷ 0 ∷ 0 ∷ 0 ∷ 0 ∷ 0 ∷ 0 ∷ 0 ∷ 0 ∷ 0 ∷ 0 ∷ 0 ∷ 0 ∷ 0 ∷ 0 ∷ 0 ∷ 0 ∷ 0 ∷ 0 ∷ 0 ∷ 0 ∷ 0 ∷ 0 ∷ 0 ∷ 0 ∷ 0 ∷ 0 ∷ 0 ∷ 0 ∷ 0 ∷ 0 ∷ 0 ∷ 116 ∷ 111 ∷ 112 ∷ 0 ∷ 0 ∷ 0 ∷ 0 ∷ 0 ∷ 0 ∷ 0 ∷ 0 ∷ 0 ∷ 0 ∷ 0 ∷ 0 ∷ 0 ∷ 0 ∷ 0 ∷ 0 ∷ 0 ∷ 0 ∷ 0 ∷ 0 ∷ 0 ∷ 0 ∷ 0 ∷ 0 ∷ 0 ∷ 0 ∷ 0 ∷ 0 ∷ 0 ∷ 0 ∷ 0 ∷ 0 ∷ 0 ∷ 0 ∷ 0 ∷ 0 ∷ 0 ∷ 0 ∷ 0 ∷ 0 ∷ 0 ∷ 0 ∷ 0 ∷ 0 ∷ 0 ∷ 0 ∷ 0 ∷ 0 ∷ 0 ∷ 0 ∷ 0 ∷ 0 ∷ 0 ∷ 0 ∷ 0 ∷ 0 ∷ 0 ∷ 0 ∷ 0 ∷ 0 ∷ 0 ∷ []; dataLength = 4 }
-
-case2 : runOf Bits32 t-case2 3 (startLeaves Bits32 t-case2 (12 ∷ 0 ∷ 0 ∷ 0 ∷ []) (116 ∷ 111 ∷ 112 ∷ []) (30 ∷ []) (record { machine = freshOf 7 7 7; stack = replicate 6 9; memory = replicate 4 8 })) .world .machine .state ≡ Finished 42
-unfolding m1.byteAt m2.ifLt m2.ifEq m2.ifTrue m3.key m3.leastOf m4.sameList m4.clearedFrom m4.overlay m5.walk m6.freshOf m7.words m7.firstOf m7.isNamed m7.isNumber m7.entryNamed m7.entryOf m7.numberOf m7.leastOperands m7.mostOperands m8.wordBytes m9.addOf m9.subOf m9.mulOf m9.divOf m9.modOf m9.shlOf m9.bsrOf m9.asrOf m9.rolOf m9.rorOf m9.andOf m9.orOf m9.xorOf m9.notOf m9.ltOf m9.gtOf m9.geOf m9.leOf m9.eqOf m9.neOf m10.expressionListed m10.inFunction m10.sizeAt m10.operandFault m10.addressListed m10.kindFault m10.targetFault m10.calleeFault m10.sizeFault m10.ownWord m10.hasWord m10.wordFault m10.operandsFault m10.addressFault m10.rowFault m10.labelFault m10.countFault m10.tablesFault m11.labelAt m11.isData m11.isFunctionLabel m12.sizesOf m13.behind m13.openBefore m13.groundIn m13.funcIn m13.scopeIn m13.upIn m13.isListed m13.mayStand m13.followsJump m13.stands m13.allClosed m13.isArm m13.isEndIf m13.nextArm m13.endIfOf m13.pastArm m13.targetOf m13.hasTarget m13.depthOf m13.encloses m14.operandOf m14.operandKind m14.operandNumber m14.hasExpression m14.isTest m14.isOperator m14.isCall m14.expressionUses m14.usedBy m14.operandAt m14.slots m14.rowFrom m14.rowAt m14.slotWords m14.encode m15.all m15.some m15.allOf m15.someOf m15.allBelow m15.someBelow m15.countBelow m15.greatestBelow m15.firstFrom m16.statementIn m16.standsIn m16.rowsOf m16.enters m16.leaves m16.groundOf m16.isFrame m16.kindOfWord m17.byteAddress m17.wordAddress m17.byteGood m17.wordGood m17.wordFrom m17.loadOf m17.storeFrom m18.lower m18.lowest m18.orElse m18.nextBad m18.frameEnds m18.rowsUsed m18.recordGood m18.stepBroken m18.numbersBelow m18.startBroken m19.roundUp m19.reserved m19.answered m19.fetched m19.byteOf m19.applied m19.evalOf m19.holds m20.mark m20.frameWords m20.isFirst m20.isReturnCall m20.isReturn m20.isCalling m20.calledFrom m20.headGood m20.passesOn m20.leavesGood m20.rowsLeft m20.landingOf m21.isAt m21.numberIn m21.fetchOf m21.readOf m21.withWord m21.onRead m21.readAll m22.exportsAs m22.exportOf m22.startAnswer m22.startWorld m22.startBy m22.begunBy m22.startOf m22.startLeaves m23.goingOn m23.movedTo m23.ended m23.stopped m23.goesTo m23.keeps m23.stores m23.blockOf m23.endBlockOf m23.testOf m23.workedOf m23.assigned m23.assignedAt m23.setAtOf m23.setByteBy m23.setWordBy m23.argumentsOf m23.callBy m23.callOf m23.tailCallBy m23.handedTo m23.handedBy m23.returned m23.returnOf m23.effectOf m23.idle m23.effected m23.gated m23.inState m23.stepOf m23.counting m23.runOf
-case2 = refl
-
-case2-n : runOf Bits32 t-case2 3 (startLeaves Bits32 t-case2 (12 ∷ 0 ∷ 0 ∷ 0 ∷ []) (116 ∷ 111 ∷ 112 ∷ []) (30 ∷ []) (record { machine = freshOf 7 7 7; stack = replicate 6 9; memory = replicate 4 8 })) .count ≡ 3
-unfolding m1.byteAt m2.ifLt m2.ifEq m2.ifTrue m3.key m3.leastOf m4.sameList m4.clearedFrom m4.overlay m5.walk m6.freshOf m7.words m7.firstOf m7.isNamed m7.isNumber m7.entryNamed m7.entryOf m7.numberOf m7.leastOperands m7.mostOperands m8.wordBytes m9.addOf m9.subOf m9.mulOf m9.divOf m9.modOf m9.shlOf m9.bsrOf m9.asrOf m9.rolOf m9.rorOf m9.andOf m9.orOf m9.xorOf m9.notOf m9.ltOf m9.gtOf m9.geOf m9.leOf m9.eqOf m9.neOf m10.expressionListed m10.inFunction m10.sizeAt m10.operandFault m10.addressListed m10.kindFault m10.targetFault m10.calleeFault m10.sizeFault m10.ownWord m10.hasWord m10.wordFault m10.operandsFault m10.addressFault m10.rowFault m10.labelFault m10.countFault m10.tablesFault m11.labelAt m11.isData m11.isFunctionLabel m12.sizesOf m13.behind m13.openBefore m13.groundIn m13.funcIn m13.scopeIn m13.upIn m13.isListed m13.mayStand m13.followsJump m13.stands m13.allClosed m13.isArm m13.isEndIf m13.nextArm m13.endIfOf m13.pastArm m13.targetOf m13.hasTarget m13.depthOf m13.encloses m14.operandOf m14.operandKind m14.operandNumber m14.hasExpression m14.isTest m14.isOperator m14.isCall m14.expressionUses m14.usedBy m14.operandAt m14.slots m14.rowFrom m14.rowAt m14.slotWords m14.encode m15.all m15.some m15.allOf m15.someOf m15.allBelow m15.someBelow m15.countBelow m15.greatestBelow m15.firstFrom m16.statementIn m16.standsIn m16.rowsOf m16.enters m16.leaves m16.groundOf m16.isFrame m16.kindOfWord m17.byteAddress m17.wordAddress m17.byteGood m17.wordGood m17.wordFrom m17.loadOf m17.storeFrom m18.lower m18.lowest m18.orElse m18.nextBad m18.frameEnds m18.rowsUsed m18.recordGood m18.stepBroken m18.numbersBelow m18.startBroken m19.roundUp m19.reserved m19.answered m19.fetched m19.byteOf m19.applied m19.evalOf m19.holds m20.mark m20.frameWords m20.isFirst m20.isReturnCall m20.isReturn m20.isCalling m20.calledFrom m20.headGood m20.passesOn m20.leavesGood m20.rowsLeft m20.landingOf m21.isAt m21.numberIn m21.fetchOf m21.readOf m21.withWord m21.onRead m21.readAll m22.exportsAs m22.exportOf m22.startAnswer m22.startWorld m22.startBy m22.begunBy m22.startOf m22.startLeaves m23.goingOn m23.movedTo m23.ended m23.stopped m23.goesTo m23.keeps m23.stores m23.blockOf m23.endBlockOf m23.testOf m23.workedOf m23.assigned m23.assignedAt m23.setAtOf m23.setByteBy m23.setWordBy m23.argumentsOf m23.callBy m23.callOf m23.tailCallBy m23.handedTo m23.handedBy m23.returned m23.returnOf m23.effectOf m23.idle m23.effected m23.gated m23.inState m23.stepOf m23.counting m23.runOf
-case2-n = refl
-
-case2-u : runOf Bits32 t-case2 3 (startLeaves Bits32 t-case2 (12 ∷ 0 ∷ 0 ∷ 0 ∷ []) (116 ∷ 111 ∷ 112 ∷ []) (30 ∷ []) (record { machine = freshOf 7 7 7; stack = replicate 6 9; memory = replicate 4 8 })) .world .machine .used ≡ 0
-unfolding m1.byteAt m2.ifLt m2.ifEq m2.ifTrue m3.key m3.leastOf m4.sameList m4.clearedFrom m4.overlay m5.walk m6.freshOf m7.words m7.firstOf m7.isNamed m7.isNumber m7.entryNamed m7.entryOf m7.numberOf m7.leastOperands m7.mostOperands m8.wordBytes m9.addOf m9.subOf m9.mulOf m9.divOf m9.modOf m9.shlOf m9.bsrOf m9.asrOf m9.rolOf m9.rorOf m9.andOf m9.orOf m9.xorOf m9.notOf m9.ltOf m9.gtOf m9.geOf m9.leOf m9.eqOf m9.neOf m10.expressionListed m10.inFunction m10.sizeAt m10.operandFault m10.addressListed m10.kindFault m10.targetFault m10.calleeFault m10.sizeFault m10.ownWord m10.hasWord m10.wordFault m10.operandsFault m10.addressFault m10.rowFault m10.labelFault m10.countFault m10.tablesFault m11.labelAt m11.isData m11.isFunctionLabel m12.sizesOf m13.behind m13.openBefore m13.groundIn m13.funcIn m13.scopeIn m13.upIn m13.isListed m13.mayStand m13.followsJump m13.stands m13.allClosed m13.isArm m13.isEndIf m13.nextArm m13.endIfOf m13.pastArm m13.targetOf m13.hasTarget m13.depthOf m13.encloses m14.operandOf m14.operandKind m14.operandNumber m14.hasExpression m14.isTest m14.isOperator m14.isCall m14.expressionUses m14.usedBy m14.operandAt m14.slots m14.rowFrom m14.rowAt m14.slotWords m14.encode m15.all m15.some m15.allOf m15.someOf m15.allBelow m15.someBelow m15.countBelow m15.greatestBelow m15.firstFrom m16.statementIn m16.standsIn m16.rowsOf m16.enters m16.leaves m16.groundOf m16.isFrame m16.kindOfWord m17.byteAddress m17.wordAddress m17.byteGood m17.wordGood m17.wordFrom m17.loadOf m17.storeFrom m18.lower m18.lowest m18.orElse m18.nextBad m18.frameEnds m18.rowsUsed m18.recordGood m18.stepBroken m18.numbersBelow m18.startBroken m19.roundUp m19.reserved m19.answered m19.fetched m19.byteOf m19.applied m19.evalOf m19.holds m20.mark m20.frameWords m20.isFirst m20.isReturnCall m20.isReturn m20.isCalling m20.calledFrom m20.headGood m20.passesOn m20.leavesGood m20.rowsLeft m20.landingOf m21.isAt m21.numberIn m21.fetchOf m21.readOf m21.withWord m21.onRead m21.readAll m22.exportsAs m22.exportOf m22.startAnswer m22.startWorld m22.startBy m22.begunBy m22.startOf m22.startLeaves m23.goingOn m23.movedTo m23.ended m23.stopped m23.goesTo m23.keeps m23.stores m23.blockOf m23.endBlockOf m23.testOf m23.workedOf m23.assigned m23.assignedAt m23.setAtOf m23.setByteBy m23.setWordBy m23.argumentsOf m23.callBy m23.callOf m23.tailCallBy m23.handedTo m23.handedBy m23.returned m23.returnOf m23.effectOf m23.idle m23.effected m23.gated m23.inState m23.stepOf m23.counting m23.runOf
-case2-u = refl
-
-abbrev t-case2-23 : Tables
-t-case2-23 = record { statements = 1 ∷ 0 ∷ 0 ∷ 0 ∷ 6 ∷ 1 ∷ 0 ∷ 0 ∷ 0 ∷ 0 ∷ 0 ∷ 0 ∷ 0 ∷ 0 ∷ 0 ∷ 0 ∷ 0 ∷ 0 ∷ 0 ∷ 0 ∷ 0 ∷ 0 ∷ 0 ∷ 0 ∷ 0 ∷ 0 ∷ 0 ∷ 3 ∷ 0 ∷ 0 ∷ 1 ∷ 4 ∷ 1 ∷ 0 ∷ 1 ∷ 0 ∷ 0 ∷ 0 ∷ 0 ∷ 0 ∷ 0 ∷ 0 ∷ 0 ∷ 0 ∷ 0 ∷ 0 ∷ 0 ∷ 0 ∷ 0 ∷ 0 ∷ 0 ∷ 0 ∷ 0 ∷ 0 ∷ 5 ∷ 0 ∷ 1 ∷ 2 ∷ 5 ∷ 0 ∷ 33 ∷ 0 ∷ 2 ∷ 0 ∷ 0 ∷ 2 ∷ 3 ∷ 6 ∷ 0 ∷ 0 ∷ 0 ∷ 0 ∷ 0 ∷ 0 ∷ 0 ∷ 0 ∷ 0 ∷ 0 ∷ 0 ∷ 0 ∷ 0 ∷ 13 ∷ 0 ∷ 1 ∷ 2 ∷ 0 ∷ 0 ∷ 1 ∷ 0 ∷ 1 ∷ 0 ∷ 0 ∷ 2 ∷ 5 ∷ 0 ∷ 0 ∷ 0 ∷ 0 ∷ 0 ∷ 0 ∷ 0 ∷ 0 ∷ 0 ∷ 0 ∷ 0 ∷ 0 ∷ 0 ∷ 0 ∷ 4 ∷ 0 ∷ 1 ∷ 1 ∷ 4 ∷ 0 ∷ 0 ∷ 0 ∷ 0 ∷ 0 ∷ 0 ∷ 0 ∷ 0 ∷ 0 ∷ 0 ∷ 0 ∷ 0 ∷ 0 ∷ 0 ∷ 0 ∷ 0 ∷ 0 ∷ 0 ∷ 0 ∷ 0 ∷ 0 ∷ 0 ∷ 2 ∷ 0 ∷ 0 ∷ 0 ∷ 0 ∷ 0 ∷ 0 ∷ 0 ∷ 0 ∷ 0 ∷ 0 ∷ 0 ∷ 0 ∷ 0 ∷ 0 ∷ 0 ∷ 0 ∷ 0 ∷ 0 ∷ 0 ∷ 0 ∷ 0 ∷ 0 ∷ 0 ∷ 0 ∷ 0 ∷ 0 ∷ []; count = 6; labels = 1 ∷ 0 ∷ 0 ∷ 5 ∷ 4 ∷ 0 ∷ 0 ∷ 3 ∷ []; labelCount = 2; names = 115 ∷ 116 ∷ 111 ∷ 99 ∷ 107 ∷ 0 ∷ 0 ∷ 0 ∷ 0 ∷ 0 ∷ 0 ∷ 0 ∷ 0 ∷ 0 ∷ 0 ∷ 0 ∷ 0 ∷ 0 ∷ 0 ∷ 0 ∷ 0 ∷ 0 ∷ 0 ∷ 0 ∷ 0 ∷ 0 ∷ 0 ∷ 0 ∷ 0 ∷ 0 ∷ 0 ∷ 0 ∷ 0 ∷ 0 ∷ 0 ∷ 0 ∷ 0 ∷ 0 ∷ 0 ∷ 0 ∷ 0 ∷ 0 ∷ 0 ∷ 0 ∷ 0 ∷ 0 ∷ 0 ∷ 0 ∷ 0 ∷ 0 ∷ 0 ∷ 0 ∷ 0 ∷ 0 ∷ 0 ∷ 0 ∷ 0 ∷ 0 ∷ 0 ∷ 0 ∷ 0 ∷ 0 ∷ 0 ∷ 0 ∷ 116 ∷ 111 ∷ 112 ∷ 0 ∷ 0 ∷ 0 ∷ 0 ∷ 0 ∷ 0 ∷ 0 ∷ 0 ∷ 0 ∷ 0 ∷ 0 ∷ 0 ∷ 0 ∷ 0 ∷ 0 ∷ 0 ∷ 0 ∷ 0 ∷ 0 ∷ 0 ∷ 0 ∷ 0 ∷ 0 ∷ 0 ∷ 0 ∷ 0 ∷ 0 ∷ 0 ∷ 0 ∷ 0 ∷ 0 ∷ 0 ∷ 0 ∷ 0 ∷ 0 ∷ 0 ∷ 0 ∷ 0 ∷ 0 ∷ 0 ∷ 0 ∷ 0 ∷ 0 ∷ 0 ∷ 0 ∷ 0 ∷ 0 ∷ 0 ∷ 0 ∷ 0 ∷ 0 ∷ 0 ∷ 0 ∷ 0 ∷ 0 ∷ 0 ∷ 0 ∷ 0 ∷ 0 ∷ 0 ∷ 0 ∷ []; dataLength = 4 }
-
-case2-23 : startOf Bits32 t-case2-23 (12 ∷ 0 ∷ 0 ∷ 0 ∷ []) (116 ∷ 111 ∷ 112 ∷ []) (30 ∷ []) (record { machine = freshOf 7 7 7; stack = replicate 5 9; memory = replicate 4 8 }) ≡ Refused 23
-unfolding m1.byteAt m2.ifLt m2.ifEq m2.ifTrue m3.key m3.leastOf m4.sameList m4.clearedFrom m4.overlay m5.walk m6.freshOf m7.words m7.firstOf m7.isNamed m7.isNumber m7.entryNamed m7.entryOf m7.numberOf m7.leastOperands m7.mostOperands m8.wordBytes m9.addOf m9.subOf m9.mulOf m9.divOf m9.modOf m9.shlOf m9.bsrOf m9.asrOf m9.rolOf m9.rorOf m9.andOf m9.orOf m9.xorOf m9.notOf m9.ltOf m9.gtOf m9.geOf m9.leOf m9.eqOf m9.neOf m10.expressionListed m10.inFunction m10.sizeAt m10.operandFault m10.addressListed m10.kindFault m10.targetFault m10.calleeFault m10.sizeFault m10.ownWord m10.hasWord m10.wordFault m10.operandsFault m10.addressFault m10.rowFault m10.labelFault m10.countFault m10.tablesFault m11.labelAt m11.isData m11.isFunctionLabel m12.sizesOf m13.behind m13.openBefore m13.groundIn m13.funcIn m13.scopeIn m13.upIn m13.isListed m13.mayStand m13.followsJump m13.stands m13.allClosed m13.isArm m13.isEndIf m13.nextArm m13.endIfOf m13.pastArm m13.targetOf m13.hasTarget m13.depthOf m13.encloses m14.operandOf m14.operandKind m14.operandNumber m14.hasExpression m14.isTest m14.isOperator m14.isCall m14.expressionUses m14.usedBy m14.operandAt m14.slots m14.rowFrom m14.rowAt m14.slotWords m14.encode m15.all m15.some m15.allOf m15.someOf m15.allBelow m15.someBelow m15.countBelow m15.greatestBelow m15.firstFrom m16.statementIn m16.standsIn m16.rowsOf m16.enters m16.leaves m16.groundOf m16.isFrame m16.kindOfWord m17.byteAddress m17.wordAddress m17.byteGood m17.wordGood m17.wordFrom m17.loadOf m17.storeFrom m18.lower m18.lowest m18.orElse m18.nextBad m18.frameEnds m18.rowsUsed m18.recordGood m18.stepBroken m18.numbersBelow m18.startBroken m19.roundUp m19.reserved m19.answered m19.fetched m19.byteOf m19.applied m19.evalOf m19.holds m20.mark m20.frameWords m20.isFirst m20.isReturnCall m20.isReturn m20.isCalling m20.calledFrom m20.headGood m20.passesOn m20.leavesGood m20.rowsLeft m20.landingOf m21.isAt m21.numberIn m21.fetchOf m21.readOf m21.withWord m21.onRead m21.readAll m22.exportsAs m22.exportOf m22.startAnswer m22.startWorld m22.startBy m22.begunBy m22.startOf m22.startLeaves m23.goingOn m23.movedTo m23.ended m23.stopped m23.goesTo m23.keeps m23.stores m23.blockOf m23.endBlockOf m23.testOf m23.workedOf m23.assigned m23.assignedAt m23.setAtOf m23.setByteBy m23.setWordBy m23.argumentsOf m23.callBy m23.callOf m23.tailCallBy m23.handedTo m23.handedBy m23.returned m23.returnOf m23.effectOf m23.idle m23.effected m23.gated m23.inState m23.stepOf m23.counting m23.runOf
-case2-23 = refl
-
-abbrev t-case2-budget2 : Tables
-t-case2-budget2 = record { statements = 1 ∷ 0 ∷ 0 ∷ 0 ∷ 6 ∷ 1 ∷ 0 ∷ 0 ∷ 0 ∷ 0 ∷ 0 ∷ 0 ∷ 0 ∷ 0 ∷ 0 ∷ 0 ∷ 0 ∷ 0 ∷ 0 ∷ 0 ∷ 0 ∷ 0 ∷ 0 ∷ 0 ∷ 0 ∷ 0 ∷ 0 ∷ 3 ∷ 0 ∷ 0 ∷ 1 ∷ 4 ∷ 1 ∷ 0 ∷ 1 ∷ 0 ∷ 0 ∷ 0 ∷ 0 ∷ 0 ∷ 0 ∷ 0 ∷ 0 ∷ 0 ∷ 0 ∷ 0 ∷ 0 ∷ 0 ∷ 0 ∷ 0 ∷ 0 ∷ 0 ∷ 0 ∷ 0 ∷ 5 ∷ 0 ∷ 1 ∷ 2 ∷ 5 ∷ 0 ∷ 33 ∷ 0 ∷ 2 ∷ 0 ∷ 0 ∷ 2 ∷ 3 ∷ 6 ∷ 0 ∷ 0 ∷ 0 ∷ 0 ∷ 0 ∷ 0 ∷ 0 ∷ 0 ∷ 0 ∷ 0 ∷ 0 ∷ 0 ∷ 0 ∷ 13 ∷ 0 ∷ 1 ∷ 2 ∷ 0 ∷ 0 ∷ 1 ∷ 0 ∷ 1 ∷ 0 ∷ 0 ∷ 2 ∷ 5 ∷ 0 ∷ 0 ∷ 0 ∷ 0 ∷ 0 ∷ 0 ∷ 0 ∷ 0 ∷ 0 ∷ 0 ∷ 0 ∷ 0 ∷ 0 ∷ 0 ∷ 4 ∷ 0 ∷ 1 ∷ 1 ∷ 4 ∷ 0 ∷ 0 ∷ 0 ∷ 0 ∷ 0 ∷ 0 ∷ 0 ∷ 0 ∷ 0 ∷ 0 ∷ 0 ∷ 0 ∷ 0 ∷ 0 ∷ 0 ∷ 0 ∷ 0 ∷ 0 ∷ 0 ∷ 0 ∷ 0 ∷ 0 ∷ 2 ∷ 0 ∷ 0 ∷ 0 ∷ 0 ∷ 0 ∷ 0 ∷ 0 ∷ 0 ∷ 0 ∷ 0 ∷ 0 ∷ 0 ∷ 0 ∷ 0 ∷ 0 ∷ 0 ∷ 0 ∷ 0 ∷ 0 ∷ 0 ∷ 0 ∷ 0 ∷ 0 ∷ 0 ∷ 0 ∷ 0 ∷ []; count = 6; labels = 1 ∷ 0 ∷ 0 ∷ 5 ∷ 4 ∷ 0 ∷ 0 ∷ 3 ∷ []; labelCount = 2; names = 115 ∷ 116 ∷ 111 ∷ 99 ∷ 107 ∷ 0 ∷ 0 ∷ 0 ∷ 0 ∷ 0 ∷ 0 ∷ 0 ∷ 0 ∷ 0 ∷ 0 ∷ 0 ∷ 0 ∷ 0 ∷ 0 ∷ 0 ∷ 0 ∷ 0 ∷ 0 ∷ 0 ∷ 0 ∷ 0 ∷ 0 ∷ 0 ∷ 0 ∷ 0 ∷ 0 ∷ 0 ∷ 0 ∷ 0 ∷ 0 ∷ 0 ∷ 0 ∷ 0 ∷ 0 ∷ 0 ∷ 0 ∷ 0 ∷ 0 ∷ 0 ∷ 0 ∷ 0 ∷ 0 ∷ 0 ∷ 0 ∷ 0 ∷ 0 ∷ 0 ∷ 0 ∷ 0 ∷ 0 ∷ 0 ∷ 0 ∷ 0 ∷ 0 ∷ 0 ∷ 0 ∷ 0 ∷ 0 ∷ 0 ∷ 116 ∷ 111 ∷ 112 ∷ 0 ∷ 0 ∷ 0 ∷ 0 ∷ 0 ∷ 0 ∷ 0 ∷ 0 ∷ 0 ∷ 0 ∷ 0 ∷ 0 ∷ 0 ∷ 0 ∷ 0 ∷ 0 ∷ 0 ∷ 0 ∷ 0 ∷ 0 ∷ 0 ∷ 0 ∷ 0 ∷ 0 ∷ 0 ∷ 0 ∷ 0 ∷ 0 ∷ 0 ∷ 0 ∷ 0 ∷ 0 ∷ 0 ∷ 0 ∷ 0 ∷ 0 ∷ 0 ∷ 0 ∷ 0 ∷ 0 ∷ 0 ∷ 0 ∷ 0 ∷ 0 ∷ 0 ∷ 0 ∷ 0 ∷ 0 ∷ 0 ∷ 0 ∷ 0 ∷ 0 ∷ 0 ∷ 0 ∷ 0 ∷ 0 ∷ 0 ∷ 0 ∷ 0 ∷ 0 ∷ 0 ∷ []; dataLength = 4 }
-
-case2-budget2 : runOf Bits32 t-case2-budget2 2 (startLeaves Bits32 t-case2-budget2 (12 ∷ 0 ∷ 0 ∷ 0 ∷ []) (116 ∷ 111 ∷ 112 ∷ []) (30 ∷ []) (record { machine = freshOf 7 7 7; stack = replicate 6 9; memory = replicate 4 8 })) .world .machine .state ≡ Running
-unfolding m1.byteAt m2.ifLt m2.ifEq m2.ifTrue m3.key m3.leastOf m4.sameList m4.clearedFrom m4.overlay m5.walk m6.freshOf m7.words m7.firstOf m7.isNamed m7.isNumber m7.entryNamed m7.entryOf m7.numberOf m7.leastOperands m7.mostOperands m8.wordBytes m9.addOf m9.subOf m9.mulOf m9.divOf m9.modOf m9.shlOf m9.bsrOf m9.asrOf m9.rolOf m9.rorOf m9.andOf m9.orOf m9.xorOf m9.notOf m9.ltOf m9.gtOf m9.geOf m9.leOf m9.eqOf m9.neOf m10.expressionListed m10.inFunction m10.sizeAt m10.operandFault m10.addressListed m10.kindFault m10.targetFault m10.calleeFault m10.sizeFault m10.ownWord m10.hasWord m10.wordFault m10.operandsFault m10.addressFault m10.rowFault m10.labelFault m10.countFault m10.tablesFault m11.labelAt m11.isData m11.isFunctionLabel m12.sizesOf m13.behind m13.openBefore m13.groundIn m13.funcIn m13.scopeIn m13.upIn m13.isListed m13.mayStand m13.followsJump m13.stands m13.allClosed m13.isArm m13.isEndIf m13.nextArm m13.endIfOf m13.pastArm m13.targetOf m13.hasTarget m13.depthOf m13.encloses m14.operandOf m14.operandKind m14.operandNumber m14.hasExpression m14.isTest m14.isOperator m14.isCall m14.expressionUses m14.usedBy m14.operandAt m14.slots m14.rowFrom m14.rowAt m14.slotWords m14.encode m15.all m15.some m15.allOf m15.someOf m15.allBelow m15.someBelow m15.countBelow m15.greatestBelow m15.firstFrom m16.statementIn m16.standsIn m16.rowsOf m16.enters m16.leaves m16.groundOf m16.isFrame m16.kindOfWord m17.byteAddress m17.wordAddress m17.byteGood m17.wordGood m17.wordFrom m17.loadOf m17.storeFrom m18.lower m18.lowest m18.orElse m18.nextBad m18.frameEnds m18.rowsUsed m18.recordGood m18.stepBroken m18.numbersBelow m18.startBroken m19.roundUp m19.reserved m19.answered m19.fetched m19.byteOf m19.applied m19.evalOf m19.holds m20.mark m20.frameWords m20.isFirst m20.isReturnCall m20.isReturn m20.isCalling m20.calledFrom m20.headGood m20.passesOn m20.leavesGood m20.rowsLeft m20.landingOf m21.isAt m21.numberIn m21.fetchOf m21.readOf m21.withWord m21.onRead m21.readAll m22.exportsAs m22.exportOf m22.startAnswer m22.startWorld m22.startBy m22.begunBy m22.startOf m22.startLeaves m23.goingOn m23.movedTo m23.ended m23.stopped m23.goesTo m23.keeps m23.stores m23.blockOf m23.endBlockOf m23.testOf m23.workedOf m23.assigned m23.assignedAt m23.setAtOf m23.setByteBy m23.setWordBy m23.argumentsOf m23.callBy m23.callOf m23.tailCallBy m23.handedTo m23.handedBy m23.returned m23.returnOf m23.effectOf m23.idle m23.effected m23.gated m23.inState m23.stepOf m23.counting m23.runOf
-case2-budget2 = refl
-
-case2-budget2-n : runOf Bits32 t-case2-budget2 2 (startLeaves Bits32 t-case2-budget2 (12 ∷ 0 ∷ 0 ∷ 0 ∷ []) (116 ∷ 111 ∷ 112 ∷ []) (30 ∷ []) (record { machine = freshOf 7 7 7; stack = replicate 6 9; memory = replicate 4 8 })) .count ≡ 2
-unfolding m1.byteAt m2.ifLt m2.ifEq m2.ifTrue m3.key m3.leastOf m4.sameList m4.clearedFrom m4.overlay m5.walk m6.freshOf m7.words m7.firstOf m7.isNamed m7.isNumber m7.entryNamed m7.entryOf m7.numberOf m7.leastOperands m7.mostOperands m8.wordBytes m9.addOf m9.subOf m9.mulOf m9.divOf m9.modOf m9.shlOf m9.bsrOf m9.asrOf m9.rolOf m9.rorOf m9.andOf m9.orOf m9.xorOf m9.notOf m9.ltOf m9.gtOf m9.geOf m9.leOf m9.eqOf m9.neOf m10.expressionListed m10.inFunction m10.sizeAt m10.operandFault m10.addressListed m10.kindFault m10.targetFault m10.calleeFault m10.sizeFault m10.ownWord m10.hasWord m10.wordFault m10.operandsFault m10.addressFault m10.rowFault m10.labelFault m10.countFault m10.tablesFault m11.labelAt m11.isData m11.isFunctionLabel m12.sizesOf m13.behind m13.openBefore m13.groundIn m13.funcIn m13.scopeIn m13.upIn m13.isListed m13.mayStand m13.followsJump m13.stands m13.allClosed m13.isArm m13.isEndIf m13.nextArm m13.endIfOf m13.pastArm m13.targetOf m13.hasTarget m13.depthOf m13.encloses m14.operandOf m14.operandKind m14.operandNumber m14.hasExpression m14.isTest m14.isOperator m14.isCall m14.expressionUses m14.usedBy m14.operandAt m14.slots m14.rowFrom m14.rowAt m14.slotWords m14.encode m15.all m15.some m15.allOf m15.someOf m15.allBelow m15.someBelow m15.countBelow m15.greatestBelow m15.firstFrom m16.statementIn m16.standsIn m16.rowsOf m16.enters m16.leaves m16.groundOf m16.isFrame m16.kindOfWord m17.byteAddress m17.wordAddress m17.byteGood m17.wordGood m17.wordFrom m17.loadOf m17.storeFrom m18.lower m18.lowest m18.orElse m18.nextBad m18.frameEnds m18.rowsUsed m18.recordGood m18.stepBroken m18.numbersBelow m18.startBroken m19.roundUp m19.reserved m19.answered m19.fetched m19.byteOf m19.applied m19.evalOf m19.holds m20.mark m20.frameWords m20.isFirst m20.isReturnCall m20.isReturn m20.isCalling m20.calledFrom m20.headGood m20.passesOn m20.leavesGood m20.rowsLeft m20.landingOf m21.isAt m21.numberIn m21.fetchOf m21.readOf m21.withWord m21.onRead m21.readAll m22.exportsAs m22.exportOf m22.startAnswer m22.startWorld m22.startBy m22.begunBy m22.startOf m22.startLeaves m23.goingOn m23.movedTo m23.ended m23.stopped m23.goesTo m23.keeps m23.stores m23.blockOf m23.endBlockOf m23.testOf m23.workedOf m23.assigned m23.assignedAt m23.setAtOf m23.setByteBy m23.setWordBy m23.argumentsOf m23.callBy m23.callOf m23.tailCallBy m23.handedTo m23.handedBy m23.returned m23.returnOf m23.effectOf m23.idle m23.effected m23.gated m23.inState m23.stepOf m23.counting m23.runOf
-case2-budget2-n = refl
-
-abbrev t-v1a : Tables
-t-v1a = record { statements = 1 ∷ 0 ∷ 0 ∷ 0 ∷ 3 ∷ 0 ∷ 0 ∷ 0 ∷ 0 ∷ 0 ∷ 0 ∷ 0 ∷ 0 ∷ 0 ∷ 0 ∷ 0 ∷ 0 ∷ 0 ∷ 0 ∷ 0 ∷ 0 ∷ 0 ∷ 0 ∷ 0 ∷ 0 ∷ 0 ∷ 0 ∷ 7 ∷ 0 ∷ 0 ∷ 1 ∷ 0 ∷ 0 ∷ 39 ∷ 0 ∷ 2 ∷ 1 ∷ 3 ∷ 1 ∷ 1 ∷ 1 ∷ 0 ∷ 0 ∷ 0 ∷ 0 ∷ 0 ∷ 0 ∷ 0 ∷ 0 ∷ 0 ∷ 0 ∷ 0 ∷ 0 ∷ 0 ∷ 2 ∷ 0 ∷ 0 ∷ 0 ∷ 0 ∷ 0 ∷ 0 ∷ 0 ∷ 0 ∷ 0 ∷ 0 ∷ 0 ∷ 0 ∷ 0 ∷ 0 ∷ 0 ∷ 0 ∷ 0 ∷ 0 ∷ 0 ∷ 0 ∷ 0 ∷ 0 ∷ 0 ∷ 0 ∷ 0 ∷ 0 ∷ []; count = 3; labels = 4 ∷ 0 ∷ 0 ∷ 1 ∷ []; labelCount = 1; names = 102 ∷ 0 ∷ 0 ∷ 0 ∷ 0 ∷ 0 ∷ 0 ∷ 0 ∷ 0 ∷ 0 ∷ 0 ∷ 0 ∷ 0 ∷ 0 ∷ 0 ∷ 0 ∷ 0 ∷ 0 ∷ 0 ∷ 0 ∷ 0 ∷ 0 ∷ 0 ∷ 0 ∷ 0 ∷ 0 ∷ 0 ∷ 0 ∷ 0 ∷ 0 ∷ 0 ∷ 0 ∷ 0 ∷ 0 ∷ 0 ∷ 0 ∷ 0 ∷ 0 ∷ 0 ∷ 0 ∷ 0 ∷ 0 ∷ 0 ∷ 0 ∷ 0 ∷ 0 ∷ 0 ∷ 0 ∷ 0 ∷ 0 ∷ 0 ∷ 0 ∷ 0 ∷ 0 ∷ 0 ∷ 0 ∷ 0 ∷ 0 ∷ 0 ∷ 0 ∷ 0 ∷ 0 ∷ 0 ∷ 0 ∷ []; dataLength = 0 }
-
-v1a : runOf Bits32 t-v1a 9 (startLeaves Bits32 t-v1a ([]) (102 ∷ []) ([]) (record { machine = freshOf 7 7 7; stack = replicate 3 9; memory = replicate 4 8 })) .world .machine .state ≡ Stopped 32 1
-unfolding m1.byteAt m2.ifLt m2.ifEq m2.ifTrue m3.key m3.leastOf m4.sameList m4.clearedFrom m4.overlay m5.walk m6.freshOf m7.words m7.firstOf m7.isNamed m7.isNumber m7.entryNamed m7.entryOf m7.numberOf m7.leastOperands m7.mostOperands m8.wordBytes m9.addOf m9.subOf m9.mulOf m9.divOf m9.modOf m9.shlOf m9.bsrOf m9.asrOf m9.rolOf m9.rorOf m9.andOf m9.orOf m9.xorOf m9.notOf m9.ltOf m9.gtOf m9.geOf m9.leOf m9.eqOf m9.neOf m10.expressionListed m10.inFunction m10.sizeAt m10.operandFault m10.addressListed m10.kindFault m10.targetFault m10.calleeFault m10.sizeFault m10.ownWord m10.hasWord m10.wordFault m10.operandsFault m10.addressFault m10.rowFault m10.labelFault m10.countFault m10.tablesFault m11.labelAt m11.isData m11.isFunctionLabel m12.sizesOf m13.behind m13.openBefore m13.groundIn m13.funcIn m13.scopeIn m13.upIn m13.isListed m13.mayStand m13.followsJump m13.stands m13.allClosed m13.isArm m13.isEndIf m13.nextArm m13.endIfOf m13.pastArm m13.targetOf m13.hasTarget m13.depthOf m13.encloses m14.operandOf m14.operandKind m14.operandNumber m14.hasExpression m14.isTest m14.isOperator m14.isCall m14.expressionUses m14.usedBy m14.operandAt m14.slots m14.rowFrom m14.rowAt m14.slotWords m14.encode m15.all m15.some m15.allOf m15.someOf m15.allBelow m15.someBelow m15.countBelow m15.greatestBelow m15.firstFrom m16.statementIn m16.standsIn m16.rowsOf m16.enters m16.leaves m16.groundOf m16.isFrame m16.kindOfWord m17.byteAddress m17.wordAddress m17.byteGood m17.wordGood m17.wordFrom m17.loadOf m17.storeFrom m18.lower m18.lowest m18.orElse m18.nextBad m18.frameEnds m18.rowsUsed m18.recordGood m18.stepBroken m18.numbersBelow m18.startBroken m19.roundUp m19.reserved m19.answered m19.fetched m19.byteOf m19.applied m19.evalOf m19.holds m20.mark m20.frameWords m20.isFirst m20.isReturnCall m20.isReturn m20.isCalling m20.calledFrom m20.headGood m20.passesOn m20.leavesGood m20.rowsLeft m20.landingOf m21.isAt m21.numberIn m21.fetchOf m21.readOf m21.withWord m21.onRead m21.readAll m22.exportsAs m22.exportOf m22.startAnswer m22.startWorld m22.startBy m22.begunBy m22.startOf m22.startLeaves m23.goingOn m23.movedTo m23.ended m23.stopped m23.goesTo m23.keeps m23.stores m23.blockOf m23.endBlockOf m23.testOf m23.workedOf m23.assigned m23.assignedAt m23.setAtOf m23.setByteBy m23.setWordBy m23.argumentsOf m23.callBy m23.callOf m23.tailCallBy m23.handedTo m23.handedBy m23.returned m23.returnOf m23.effectOf m23.idle m23.effected m23.gated m23.inState m23.stepOf m23.counting m23.runOf
-v1a = refl
-
-v1a-n : runOf Bits32 t-v1a 9 (startLeaves Bits32 t-v1a ([]) (102 ∷ []) ([]) (record { machine = freshOf 7 7 7; stack = replicate 3 9; memory = replicate 4 8 })) .count ≡ 0
-unfolding m1.byteAt m2.ifLt m2.ifEq m2.ifTrue m3.key m3.leastOf m4.sameList m4.clearedFrom m4.overlay m5.walk m6.freshOf m7.words m7.firstOf m7.isNamed m7.isNumber m7.entryNamed m7.entryOf m7.numberOf m7.leastOperands m7.mostOperands m8.wordBytes m9.addOf m9.subOf m9.mulOf m9.divOf m9.modOf m9.shlOf m9.bsrOf m9.asrOf m9.rolOf m9.rorOf m9.andOf m9.orOf m9.xorOf m9.notOf m9.ltOf m9.gtOf m9.geOf m9.leOf m9.eqOf m9.neOf m10.expressionListed m10.inFunction m10.sizeAt m10.operandFault m10.addressListed m10.kindFault m10.targetFault m10.calleeFault m10.sizeFault m10.ownWord m10.hasWord m10.wordFault m10.operandsFault m10.addressFault m10.rowFault m10.labelFault m10.countFault m10.tablesFault m11.labelAt m11.isData m11.isFunctionLabel m12.sizesOf m13.behind m13.openBefore m13.groundIn m13.funcIn m13.scopeIn m13.upIn m13.isListed m13.mayStand m13.followsJump m13.stands m13.allClosed m13.isArm m13.isEndIf m13.nextArm m13.endIfOf m13.pastArm m13.targetOf m13.hasTarget m13.depthOf m13.encloses m14.operandOf m14.operandKind m14.operandNumber m14.hasExpression m14.isTest m14.isOperator m14.isCall m14.expressionUses m14.usedBy m14.operandAt m14.slots m14.rowFrom m14.rowAt m14.slotWords m14.encode m15.all m15.some m15.allOf m15.someOf m15.allBelow m15.someBelow m15.countBelow m15.greatestBelow m15.firstFrom m16.statementIn m16.standsIn m16.rowsOf m16.enters m16.leaves m16.groundOf m16.isFrame m16.kindOfWord m17.byteAddress m17.wordAddress m17.byteGood m17.wordGood m17.wordFrom m17.loadOf m17.storeFrom m18.lower m18.lowest m18.orElse m18.nextBad m18.frameEnds m18.rowsUsed m18.recordGood m18.stepBroken m18.numbersBelow m18.startBroken m19.roundUp m19.reserved m19.answered m19.fetched m19.byteOf m19.applied m19.evalOf m19.holds m20.mark m20.frameWords m20.isFirst m20.isReturnCall m20.isReturn m20.isCalling m20.calledFrom m20.headGood m20.passesOn m20.leavesGood m20.rowsLeft m20.landingOf m21.isAt m21.numberIn m21.fetchOf m21.readOf m21.withWord m21.onRead m21.readAll m22.exportsAs m22.exportOf m22.startAnswer m22.startWorld m22.startBy m22.begunBy m22.startOf m22.startLeaves m23.goingOn m23.movedTo m23.ended m23.stopped m23.goesTo m23.keeps m23.stores m23.blockOf m23.endBlockOf m23.testOf m23.workedOf m23.assigned m23.assignedAt m23.setAtOf m23.setByteBy m23.setWordBy m23.argumentsOf m23.callBy m23.callOf m23.tailCallBy m23.handedTo m23.handedBy m23.returned m23.returnOf m23.effectOf m23.idle m23.effected m23.gated m23.inState m23.stepOf m23.counting m23.runOf
-v1a-n = refl
-
-v1a-b : runOf Bits32 t-v1a 9 (startLeaves Bits32 t-v1a ([]) (102 ∷ []) ([]) (record { machine = freshOf 7 7 7; stack = replicate 3 9; memory = replicate 4 8 })) .broken ≡ No
-unfolding m1.byteAt m2.ifLt m2.ifEq m2.ifTrue m3.key m3.leastOf m4.sameList m4.clearedFrom m4.overlay m5.walk m6.freshOf m7.words m7.firstOf m7.isNamed m7.isNumber m7.entryNamed m7.entryOf m7.numberOf m7.leastOperands m7.mostOperands m8.wordBytes m9.addOf m9.subOf m9.mulOf m9.divOf m9.modOf m9.shlOf m9.bsrOf m9.asrOf m9.rolOf m9.rorOf m9.andOf m9.orOf m9.xorOf m9.notOf m9.ltOf m9.gtOf m9.geOf m9.leOf m9.eqOf m9.neOf m10.expressionListed m10.inFunction m10.sizeAt m10.operandFault m10.addressListed m10.kindFault m10.targetFault m10.calleeFault m10.sizeFault m10.ownWord m10.hasWord m10.wordFault m10.operandsFault m10.addressFault m10.rowFault m10.labelFault m10.countFault m10.tablesFault m11.labelAt m11.isData m11.isFunctionLabel m12.sizesOf m13.behind m13.openBefore m13.groundIn m13.funcIn m13.scopeIn m13.upIn m13.isListed m13.mayStand m13.followsJump m13.stands m13.allClosed m13.isArm m13.isEndIf m13.nextArm m13.endIfOf m13.pastArm m13.targetOf m13.hasTarget m13.depthOf m13.encloses m14.operandOf m14.operandKind m14.operandNumber m14.hasExpression m14.isTest m14.isOperator m14.isCall m14.expressionUses m14.usedBy m14.operandAt m14.slots m14.rowFrom m14.rowAt m14.slotWords m14.encode m15.all m15.some m15.allOf m15.someOf m15.allBelow m15.someBelow m15.countBelow m15.greatestBelow m15.firstFrom m16.statementIn m16.standsIn m16.rowsOf m16.enters m16.leaves m16.groundOf m16.isFrame m16.kindOfWord m17.byteAddress m17.wordAddress m17.byteGood m17.wordGood m17.wordFrom m17.loadOf m17.storeFrom m18.lower m18.lowest m18.orElse m18.nextBad m18.frameEnds m18.rowsUsed m18.recordGood m18.stepBroken m18.numbersBelow m18.startBroken m19.roundUp m19.reserved m19.answered m19.fetched m19.byteOf m19.applied m19.evalOf m19.holds m20.mark m20.frameWords m20.isFirst m20.isReturnCall m20.isReturn m20.isCalling m20.calledFrom m20.headGood m20.passesOn m20.leavesGood m20.rowsLeft m20.landingOf m21.isAt m21.numberIn m21.fetchOf m21.readOf m21.withWord m21.onRead m21.readAll m22.exportsAs m22.exportOf m22.startAnswer m22.startWorld m22.startBy m22.begunBy m22.startOf m22.startLeaves m23.goingOn m23.movedTo m23.ended m23.stopped m23.goesTo m23.keeps m23.stores m23.blockOf m23.endBlockOf m23.testOf m23.workedOf m23.assigned m23.assignedAt m23.setAtOf m23.setByteBy m23.setWordBy m23.argumentsOf m23.callBy m23.callOf m23.tailCallBy m23.handedTo m23.handedBy m23.returned m23.returnOf m23.effectOf m23.idle m23.effected m23.gated m23.inState m23.stepOf m23.counting m23.runOf
-v1a-b = refl
-
-abbrev t-v1b : Tables
-t-v1b = record { statements = 1 ∷ 0 ∷ 0 ∷ 0 ∷ 4 ∷ 0 ∷ 0 ∷ 0 ∷ 0 ∷ 0 ∷ 0 ∷ 0 ∷ 0 ∷ 0 ∷ 0 ∷ 0 ∷ 0 ∷ 0 ∷ 0 ∷ 0 ∷ 0 ∷ 0 ∷ 0 ∷ 0 ∷ 0 ∷ 0 ∷ 0 ∷ 5 ∷ 0 ∷ 0 ∷ 1 ∷ 3 ∷ 0 ∷ 39 ∷ 0 ∷ 2 ∷ 0 ∷ 0 ∷ 4 ∷ 3 ∷ 1 ∷ 0 ∷ 0 ∷ 0 ∷ 0 ∷ 0 ∷ 0 ∷ 0 ∷ 0 ∷ 0 ∷ 0 ∷ 0 ∷ 0 ∷ 0 ∷ 2 ∷ 0 ∷ 0 ∷ 0 ∷ 0 ∷ 0 ∷ 0 ∷ 0 ∷ 0 ∷ 0 ∷ 0 ∷ 0 ∷ 0 ∷ 0 ∷ 0 ∷ 0 ∷ 0 ∷ 0 ∷ 0 ∷ 0 ∷ 0 ∷ 0 ∷ 0 ∷ 0 ∷ 0 ∷ 0 ∷ 0 ∷ []; count = 3; labels = 4 ∷ 0 ∷ 0 ∷ 1 ∷ []; labelCount = 1; names = 102 ∷ 0 ∷ 0 ∷ 0 ∷ 0 ∷ 0 ∷ 0 ∷ 0 ∷ 0 ∷ 0 ∷ 0 ∷ 0 ∷ 0 ∷ 0 ∷ 0 ∷ 0 ∷ 0 ∷ 0 ∷ 0 ∷ 0 ∷ 0 ∷ 0 ∷ 0 ∷ 0 ∷ 0 ∷ 0 ∷ 0 ∷ 0 ∷ 0 ∷ 0 ∷ 0 ∷ 0 ∷ 0 ∷ 0 ∷ 0 ∷ 0 ∷ 0 ∷ 0 ∷ 0 ∷ 0 ∷ 0 ∷ 0 ∷ 0 ∷ 0 ∷ 0 ∷ 0 ∷ 0 ∷ 0 ∷ 0 ∷ 0 ∷ 0 ∷ 0 ∷ 0 ∷ 0 ∷ 0 ∷ 0 ∷ 0 ∷ 0 ∷ 0 ∷ 0 ∷ 0 ∷ 0 ∷ 0 ∷ 0 ∷ []; dataLength = 0 }
-
-v1b : runOf Bits32 t-v1b 9 (startLeaves Bits32 t-v1b ([]) (102 ∷ []) ([]) (record { machine = freshOf 7 7 7; stack = replicate 4 9; memory = replicate 8 8 })) .world .machine .state ≡ Stopped 32 1
-unfolding m1.byteAt m2.ifLt m2.ifEq m2.ifTrue m3.key m3.leastOf m4.sameList m4.clearedFrom m4.overlay m5.walk m6.freshOf m7.words m7.firstOf m7.isNamed m7.isNumber m7.entryNamed m7.entryOf m7.numberOf m7.leastOperands m7.mostOperands m8.wordBytes m9.addOf m9.subOf m9.mulOf m9.divOf m9.modOf m9.shlOf m9.bsrOf m9.asrOf m9.rolOf m9.rorOf m9.andOf m9.orOf m9.xorOf m9.notOf m9.ltOf m9.gtOf m9.geOf m9.leOf m9.eqOf m9.neOf m10.expressionListed m10.inFunction m10.sizeAt m10.operandFault m10.addressListed m10.kindFault m10.targetFault m10.calleeFault m10.sizeFault m10.ownWord m10.hasWord m10.wordFault m10.operandsFault m10.addressFault m10.rowFault m10.labelFault m10.countFault m10.tablesFault m11.labelAt m11.isData m11.isFunctionLabel m12.sizesOf m13.behind m13.openBefore m13.groundIn m13.funcIn m13.scopeIn m13.upIn m13.isListed m13.mayStand m13.followsJump m13.stands m13.allClosed m13.isArm m13.isEndIf m13.nextArm m13.endIfOf m13.pastArm m13.targetOf m13.hasTarget m13.depthOf m13.encloses m14.operandOf m14.operandKind m14.operandNumber m14.hasExpression m14.isTest m14.isOperator m14.isCall m14.expressionUses m14.usedBy m14.operandAt m14.slots m14.rowFrom m14.rowAt m14.slotWords m14.encode m15.all m15.some m15.allOf m15.someOf m15.allBelow m15.someBelow m15.countBelow m15.greatestBelow m15.firstFrom m16.statementIn m16.standsIn m16.rowsOf m16.enters m16.leaves m16.groundOf m16.isFrame m16.kindOfWord m17.byteAddress m17.wordAddress m17.byteGood m17.wordGood m17.wordFrom m17.loadOf m17.storeFrom m18.lower m18.lowest m18.orElse m18.nextBad m18.frameEnds m18.rowsUsed m18.recordGood m18.stepBroken m18.numbersBelow m18.startBroken m19.roundUp m19.reserved m19.answered m19.fetched m19.byteOf m19.applied m19.evalOf m19.holds m20.mark m20.frameWords m20.isFirst m20.isReturnCall m20.isReturn m20.isCalling m20.calledFrom m20.headGood m20.passesOn m20.leavesGood m20.rowsLeft m20.landingOf m21.isAt m21.numberIn m21.fetchOf m21.readOf m21.withWord m21.onRead m21.readAll m22.exportsAs m22.exportOf m22.startAnswer m22.startWorld m22.startBy m22.begunBy m22.startOf m22.startLeaves m23.goingOn m23.movedTo m23.ended m23.stopped m23.goesTo m23.keeps m23.stores m23.blockOf m23.endBlockOf m23.testOf m23.workedOf m23.assigned m23.assignedAt m23.setAtOf m23.setByteBy m23.setWordBy m23.argumentsOf m23.callBy m23.callOf m23.tailCallBy m23.handedTo m23.handedBy m23.returned m23.returnOf m23.effectOf m23.idle m23.effected m23.gated m23.inState m23.stepOf m23.counting m23.runOf
-v1b = refl
-
-v1b-n : runOf Bits32 t-v1b 9 (startLeaves Bits32 t-v1b ([]) (102 ∷ []) ([]) (record { machine = freshOf 7 7 7; stack = replicate 4 9; memory = replicate 8 8 })) .count ≡ 0
-unfolding m1.byteAt m2.ifLt m2.ifEq m2.ifTrue m3.key m3.leastOf m4.sameList m4.clearedFrom m4.overlay m5.walk m6.freshOf m7.words m7.firstOf m7.isNamed m7.isNumber m7.entryNamed m7.entryOf m7.numberOf m7.leastOperands m7.mostOperands m8.wordBytes m9.addOf m9.subOf m9.mulOf m9.divOf m9.modOf m9.shlOf m9.bsrOf m9.asrOf m9.rolOf m9.rorOf m9.andOf m9.orOf m9.xorOf m9.notOf m9.ltOf m9.gtOf m9.geOf m9.leOf m9.eqOf m9.neOf m10.expressionListed m10.inFunction m10.sizeAt m10.operandFault m10.addressListed m10.kindFault m10.targetFault m10.calleeFault m10.sizeFault m10.ownWord m10.hasWord m10.wordFault m10.operandsFault m10.addressFault m10.rowFault m10.labelFault m10.countFault m10.tablesFault m11.labelAt m11.isData m11.isFunctionLabel m12.sizesOf m13.behind m13.openBefore m13.groundIn m13.funcIn m13.scopeIn m13.upIn m13.isListed m13.mayStand m13.followsJump m13.stands m13.allClosed m13.isArm m13.isEndIf m13.nextArm m13.endIfOf m13.pastArm m13.targetOf m13.hasTarget m13.depthOf m13.encloses m14.operandOf m14.operandKind m14.operandNumber m14.hasExpression m14.isTest m14.isOperator m14.isCall m14.expressionUses m14.usedBy m14.operandAt m14.slots m14.rowFrom m14.rowAt m14.slotWords m14.encode m15.all m15.some m15.allOf m15.someOf m15.allBelow m15.someBelow m15.countBelow m15.greatestBelow m15.firstFrom m16.statementIn m16.standsIn m16.rowsOf m16.enters m16.leaves m16.groundOf m16.isFrame m16.kindOfWord m17.byteAddress m17.wordAddress m17.byteGood m17.wordGood m17.wordFrom m17.loadOf m17.storeFrom m18.lower m18.lowest m18.orElse m18.nextBad m18.frameEnds m18.rowsUsed m18.recordGood m18.stepBroken m18.numbersBelow m18.startBroken m19.roundUp m19.reserved m19.answered m19.fetched m19.byteOf m19.applied m19.evalOf m19.holds m20.mark m20.frameWords m20.isFirst m20.isReturnCall m20.isReturn m20.isCalling m20.calledFrom m20.headGood m20.passesOn m20.leavesGood m20.rowsLeft m20.landingOf m21.isAt m21.numberIn m21.fetchOf m21.readOf m21.withWord m21.onRead m21.readAll m22.exportsAs m22.exportOf m22.startAnswer m22.startWorld m22.startBy m22.begunBy m22.startOf m22.startLeaves m23.goingOn m23.movedTo m23.ended m23.stopped m23.goesTo m23.keeps m23.stores m23.blockOf m23.endBlockOf m23.testOf m23.workedOf m23.assigned m23.assignedAt m23.setAtOf m23.setByteBy m23.setWordBy m23.argumentsOf m23.callBy m23.callOf m23.tailCallBy m23.handedTo m23.handedBy m23.returned m23.returnOf m23.effectOf m23.idle m23.effected m23.gated m23.inState m23.stepOf m23.counting m23.runOf
-v1b-n = refl
-
-v1b-b : runOf Bits32 t-v1b 9 (startLeaves Bits32 t-v1b ([]) (102 ∷ []) ([]) (record { machine = freshOf 7 7 7; stack = replicate 4 9; memory = replicate 8 8 })) .broken ≡ No
-unfolding m1.byteAt m2.ifLt m2.ifEq m2.ifTrue m3.key m3.leastOf m4.sameList m4.clearedFrom m4.overlay m5.walk m6.freshOf m7.words m7.firstOf m7.isNamed m7.isNumber m7.entryNamed m7.entryOf m7.numberOf m7.leastOperands m7.mostOperands m8.wordBytes m9.addOf m9.subOf m9.mulOf m9.divOf m9.modOf m9.shlOf m9.bsrOf m9.asrOf m9.rolOf m9.rorOf m9.andOf m9.orOf m9.xorOf m9.notOf m9.ltOf m9.gtOf m9.geOf m9.leOf m9.eqOf m9.neOf m10.expressionListed m10.inFunction m10.sizeAt m10.operandFault m10.addressListed m10.kindFault m10.targetFault m10.calleeFault m10.sizeFault m10.ownWord m10.hasWord m10.wordFault m10.operandsFault m10.addressFault m10.rowFault m10.labelFault m10.countFault m10.tablesFault m11.labelAt m11.isData m11.isFunctionLabel m12.sizesOf m13.behind m13.openBefore m13.groundIn m13.funcIn m13.scopeIn m13.upIn m13.isListed m13.mayStand m13.followsJump m13.stands m13.allClosed m13.isArm m13.isEndIf m13.nextArm m13.endIfOf m13.pastArm m13.targetOf m13.hasTarget m13.depthOf m13.encloses m14.operandOf m14.operandKind m14.operandNumber m14.hasExpression m14.isTest m14.isOperator m14.isCall m14.expressionUses m14.usedBy m14.operandAt m14.slots m14.rowFrom m14.rowAt m14.slotWords m14.encode m15.all m15.some m15.allOf m15.someOf m15.allBelow m15.someBelow m15.countBelow m15.greatestBelow m15.firstFrom m16.statementIn m16.standsIn m16.rowsOf m16.enters m16.leaves m16.groundOf m16.isFrame m16.kindOfWord m17.byteAddress m17.wordAddress m17.byteGood m17.wordGood m17.wordFrom m17.loadOf m17.storeFrom m18.lower m18.lowest m18.orElse m18.nextBad m18.frameEnds m18.rowsUsed m18.recordGood m18.stepBroken m18.numbersBelow m18.startBroken m19.roundUp m19.reserved m19.answered m19.fetched m19.byteOf m19.applied m19.evalOf m19.holds m20.mark m20.frameWords m20.isFirst m20.isReturnCall m20.isReturn m20.isCalling m20.calledFrom m20.headGood m20.passesOn m20.leavesGood m20.rowsLeft m20.landingOf m21.isAt m21.numberIn m21.fetchOf m21.readOf m21.withWord m21.onRead m21.readAll m22.exportsAs m22.exportOf m22.startAnswer m22.startWorld m22.startBy m22.begunBy m22.startOf m22.startLeaves m23.goingOn m23.movedTo m23.ended m23.stopped m23.goesTo m23.keeps m23.stores m23.blockOf m23.endBlockOf m23.testOf m23.workedOf m23.assigned m23.assignedAt m23.setAtOf m23.setByteBy m23.setWordBy m23.argumentsOf m23.callBy m23.callOf m23.tailCallBy m23.handedTo m23.handedBy m23.returned m23.returnOf m23.effectOf m23.idle m23.effected m23.gated m23.inState m23.stepOf m23.counting m23.runOf
-v1b-b = refl
-
-abbrev t-v1c : Tables
-t-v1c = record { statements = 1 ∷ 0 ∷ 0 ∷ 0 ∷ 4 ∷ 0 ∷ 0 ∷ 0 ∷ 0 ∷ 0 ∷ 0 ∷ 0 ∷ 0 ∷ 0 ∷ 0 ∷ 0 ∷ 0 ∷ 0 ∷ 0 ∷ 0 ∷ 0 ∷ 0 ∷ 0 ∷ 0 ∷ 0 ∷ 0 ∷ 0 ∷ 5 ∷ 0 ∷ 0 ∷ 1 ∷ 3 ∷ 0 ∷ 39 ∷ 0 ∷ 2 ∷ 0 ∷ 0 ∷ 1 ∷ 1 ∷ 1 ∷ 0 ∷ 0 ∷ 0 ∷ 0 ∷ 0 ∷ 0 ∷ 0 ∷ 0 ∷ 0 ∷ 0 ∷ 0 ∷ 0 ∷ 0 ∷ 2 ∷ 0 ∷ 0 ∷ 0 ∷ 0 ∷ 0 ∷ 0 ∷ 0 ∷ 0 ∷ 0 ∷ 0 ∷ 0 ∷ 0 ∷ 0 ∷ 0 ∷ 0 ∷ 0 ∷ 0 ∷ 0 ∷ 0 ∷ 0 ∷ 0 ∷ 0 ∷ 0 ∷ 0 ∷ 0 ∷ 0 ∷ []; count = 3; labels = 4 ∷ 0 ∷ 0 ∷ 1 ∷ []; labelCount = 1; names = 102 ∷ 0 ∷ 0 ∷ 0 ∷ 0 ∷ 0 ∷ 0 ∷ 0 ∷ 0 ∷ 0 ∷ 0 ∷ 0 ∷ 0 ∷ 0 ∷ 0 ∷ 0 ∷ 0 ∷ 0 ∷ 0 ∷ 0 ∷ 0 ∷ 0 ∷ 0 ∷ 0 ∷ 0 ∷ 0 ∷ 0 ∷ 0 ∷ 0 ∷ 0 ∷ 0 ∷ 0 ∷ 0 ∷ 0 ∷ 0 ∷ 0 ∷ 0 ∷ 0 ∷ 0 ∷ 0 ∷ 0 ∷ 0 ∷ 0 ∷ 0 ∷ 0 ∷ 0 ∷ 0 ∷ 0 ∷ 0 ∷ 0 ∷ 0 ∷ 0 ∷ 0 ∷ 0 ∷ 0 ∷ 0 ∷ 0 ∷ 0 ∷ 0 ∷ 0 ∷ 0 ∷ 0 ∷ 0 ∷ 0 ∷ []; dataLength = 0 }
-
-v1c : runOf Bits32 t-v1c 9 (startLeaves Bits32 t-v1c ([]) (102 ∷ []) ([]) (record { machine = freshOf 7 7 7; stack = replicate 4 9; memory = replicate 8 8 })) .world .machine .state ≡ Stopped 30 1
-unfolding m1.byteAt m2.ifLt m2.ifEq m2.ifTrue m3.key m3.leastOf m4.sameList m4.clearedFrom m4.overlay m5.walk m6.freshOf m7.words m7.firstOf m7.isNamed m7.isNumber m7.entryNamed m7.entryOf m7.numberOf m7.leastOperands m7.mostOperands m8.wordBytes m9.addOf m9.subOf m9.mulOf m9.divOf m9.modOf m9.shlOf m9.bsrOf m9.asrOf m9.rolOf m9.rorOf m9.andOf m9.orOf m9.xorOf m9.notOf m9.ltOf m9.gtOf m9.geOf m9.leOf m9.eqOf m9.neOf m10.expressionListed m10.inFunction m10.sizeAt m10.operandFault m10.addressListed m10.kindFault m10.targetFault m10.calleeFault m10.sizeFault m10.ownWord m10.hasWord m10.wordFault m10.operandsFault m10.addressFault m10.rowFault m10.labelFault m10.countFault m10.tablesFault m11.labelAt m11.isData m11.isFunctionLabel m12.sizesOf m13.behind m13.openBefore m13.groundIn m13.funcIn m13.scopeIn m13.upIn m13.isListed m13.mayStand m13.followsJump m13.stands m13.allClosed m13.isArm m13.isEndIf m13.nextArm m13.endIfOf m13.pastArm m13.targetOf m13.hasTarget m13.depthOf m13.encloses m14.operandOf m14.operandKind m14.operandNumber m14.hasExpression m14.isTest m14.isOperator m14.isCall m14.expressionUses m14.usedBy m14.operandAt m14.slots m14.rowFrom m14.rowAt m14.slotWords m14.encode m15.all m15.some m15.allOf m15.someOf m15.allBelow m15.someBelow m15.countBelow m15.greatestBelow m15.firstFrom m16.statementIn m16.standsIn m16.rowsOf m16.enters m16.leaves m16.groundOf m16.isFrame m16.kindOfWord m17.byteAddress m17.wordAddress m17.byteGood m17.wordGood m17.wordFrom m17.loadOf m17.storeFrom m18.lower m18.lowest m18.orElse m18.nextBad m18.frameEnds m18.rowsUsed m18.recordGood m18.stepBroken m18.numbersBelow m18.startBroken m19.roundUp m19.reserved m19.answered m19.fetched m19.byteOf m19.applied m19.evalOf m19.holds m20.mark m20.frameWords m20.isFirst m20.isReturnCall m20.isReturn m20.isCalling m20.calledFrom m20.headGood m20.passesOn m20.leavesGood m20.rowsLeft m20.landingOf m21.isAt m21.numberIn m21.fetchOf m21.readOf m21.withWord m21.onRead m21.readAll m22.exportsAs m22.exportOf m22.startAnswer m22.startWorld m22.startBy m22.begunBy m22.startOf m22.startLeaves m23.goingOn m23.movedTo m23.ended m23.stopped m23.goesTo m23.keeps m23.stores m23.blockOf m23.endBlockOf m23.testOf m23.workedOf m23.assigned m23.assignedAt m23.setAtOf m23.setByteBy m23.setWordBy m23.argumentsOf m23.callBy m23.callOf m23.tailCallBy m23.handedTo m23.handedBy m23.returned m23.returnOf m23.effectOf m23.idle m23.effected m23.gated m23.inState m23.stepOf m23.counting m23.runOf
-v1c = refl
-
-v1c-n : runOf Bits32 t-v1c 9 (startLeaves Bits32 t-v1c ([]) (102 ∷ []) ([]) (record { machine = freshOf 7 7 7; stack = replicate 4 9; memory = replicate 8 8 })) .count ≡ 0
-unfolding m1.byteAt m2.ifLt m2.ifEq m2.ifTrue m3.key m3.leastOf m4.sameList m4.clearedFrom m4.overlay m5.walk m6.freshOf m7.words m7.firstOf m7.isNamed m7.isNumber m7.entryNamed m7.entryOf m7.numberOf m7.leastOperands m7.mostOperands m8.wordBytes m9.addOf m9.subOf m9.mulOf m9.divOf m9.modOf m9.shlOf m9.bsrOf m9.asrOf m9.rolOf m9.rorOf m9.andOf m9.orOf m9.xorOf m9.notOf m9.ltOf m9.gtOf m9.geOf m9.leOf m9.eqOf m9.neOf m10.expressionListed m10.inFunction m10.sizeAt m10.operandFault m10.addressListed m10.kindFault m10.targetFault m10.calleeFault m10.sizeFault m10.ownWord m10.hasWord m10.wordFault m10.operandsFault m10.addressFault m10.rowFault m10.labelFault m10.countFault m10.tablesFault m11.labelAt m11.isData m11.isFunctionLabel m12.sizesOf m13.behind m13.openBefore m13.groundIn m13.funcIn m13.scopeIn m13.upIn m13.isListed m13.mayStand m13.followsJump m13.stands m13.allClosed m13.isArm m13.isEndIf m13.nextArm m13.endIfOf m13.pastArm m13.targetOf m13.hasTarget m13.depthOf m13.encloses m14.operandOf m14.operandKind m14.operandNumber m14.hasExpression m14.isTest m14.isOperator m14.isCall m14.expressionUses m14.usedBy m14.operandAt m14.slots m14.rowFrom m14.rowAt m14.slotWords m14.encode m15.all m15.some m15.allOf m15.someOf m15.allBelow m15.someBelow m15.countBelow m15.greatestBelow m15.firstFrom m16.statementIn m16.standsIn m16.rowsOf m16.enters m16.leaves m16.groundOf m16.isFrame m16.kindOfWord m17.byteAddress m17.wordAddress m17.byteGood m17.wordGood m17.wordFrom m17.loadOf m17.storeFrom m18.lower m18.lowest m18.orElse m18.nextBad m18.frameEnds m18.rowsUsed m18.recordGood m18.stepBroken m18.numbersBelow m18.startBroken m19.roundUp m19.reserved m19.answered m19.fetched m19.byteOf m19.applied m19.evalOf m19.holds m20.mark m20.frameWords m20.isFirst m20.isReturnCall m20.isReturn m20.isCalling m20.calledFrom m20.headGood m20.passesOn m20.leavesGood m20.rowsLeft m20.landingOf m21.isAt m21.numberIn m21.fetchOf m21.readOf m21.withWord m21.onRead m21.readAll m22.exportsAs m22.exportOf m22.startAnswer m22.startWorld m22.startBy m22.begunBy m22.startOf m22.startLeaves m23.goingOn m23.movedTo m23.ended m23.stopped m23.goesTo m23.keeps m23.stores m23.blockOf m23.endBlockOf m23.testOf m23.workedOf m23.assigned m23.assignedAt m23.setAtOf m23.setByteBy m23.setWordBy m23.argumentsOf m23.callBy m23.callOf m23.tailCallBy m23.handedTo m23.handedBy m23.returned m23.returnOf m23.effectOf m23.idle m23.effected m23.gated m23.inState m23.stepOf m23.counting m23.runOf
-v1c-n = refl
-
-v1c-b : runOf Bits32 t-v1c 9 (startLeaves Bits32 t-v1c ([]) (102 ∷ []) ([]) (record { machine = freshOf 7 7 7; stack = replicate 4 9; memory = replicate 8 8 })) .broken ≡ No
-unfolding m1.byteAt m2.ifLt m2.ifEq m2.ifTrue m3.key m3.leastOf m4.sameList m4.clearedFrom m4.overlay m5.walk m6.freshOf m7.words m7.firstOf m7.isNamed m7.isNumber m7.entryNamed m7.entryOf m7.numberOf m7.leastOperands m7.mostOperands m8.wordBytes m9.addOf m9.subOf m9.mulOf m9.divOf m9.modOf m9.shlOf m9.bsrOf m9.asrOf m9.rolOf m9.rorOf m9.andOf m9.orOf m9.xorOf m9.notOf m9.ltOf m9.gtOf m9.geOf m9.leOf m9.eqOf m9.neOf m10.expressionListed m10.inFunction m10.sizeAt m10.operandFault m10.addressListed m10.kindFault m10.targetFault m10.calleeFault m10.sizeFault m10.ownWord m10.hasWord m10.wordFault m10.operandsFault m10.addressFault m10.rowFault m10.labelFault m10.countFault m10.tablesFault m11.labelAt m11.isData m11.isFunctionLabel m12.sizesOf m13.behind m13.openBefore m13.groundIn m13.funcIn m13.scopeIn m13.upIn m13.isListed m13.mayStand m13.followsJump m13.stands m13.allClosed m13.isArm m13.isEndIf m13.nextArm m13.endIfOf m13.pastArm m13.targetOf m13.hasTarget m13.depthOf m13.encloses m14.operandOf m14.operandKind m14.operandNumber m14.hasExpression m14.isTest m14.isOperator m14.isCall m14.expressionUses m14.usedBy m14.operandAt m14.slots m14.rowFrom m14.rowAt m14.slotWords m14.encode m15.all m15.some m15.allOf m15.someOf m15.allBelow m15.someBelow m15.countBelow m15.greatestBelow m15.firstFrom m16.statementIn m16.standsIn m16.rowsOf m16.enters m16.leaves m16.groundOf m16.isFrame m16.kindOfWord m17.byteAddress m17.wordAddress m17.byteGood m17.wordGood m17.wordFrom m17.loadOf m17.storeFrom m18.lower m18.lowest m18.orElse m18.nextBad m18.frameEnds m18.rowsUsed m18.recordGood m18.stepBroken m18.numbersBelow m18.startBroken m19.roundUp m19.reserved m19.answered m19.fetched m19.byteOf m19.applied m19.evalOf m19.holds m20.mark m20.frameWords m20.isFirst m20.isReturnCall m20.isReturn m20.isCalling m20.calledFrom m20.headGood m20.passesOn m20.leavesGood m20.rowsLeft m20.landingOf m21.isAt m21.numberIn m21.fetchOf m21.readOf m21.withWord m21.onRead m21.readAll m22.exportsAs m22.exportOf m22.startAnswer m22.startWorld m22.startBy m22.begunBy m22.startOf m22.startLeaves m23.goingOn m23.movedTo m23.ended m23.stopped m23.goesTo m23.keeps m23.stores m23.blockOf m23.endBlockOf m23.testOf m23.workedOf m23.assigned m23.assignedAt m23.setAtOf m23.setByteBy m23.setWordBy m23.argumentsOf m23.callBy m23.callOf m23.tailCallBy m23.handedTo m23.handedBy m23.returned m23.returnOf m23.effectOf m23.idle m23.effected m23.gated m23.inState m23.stepOf m23.counting m23.runOf
-v1c-b = refl
-
-abbrev t-v1d : Tables
-t-v1d = record { statements = 1 ∷ 0 ∷ 0 ∷ 0 ∷ 4 ∷ 0 ∷ 0 ∷ 0 ∷ 0 ∷ 0 ∷ 0 ∷ 0 ∷ 0 ∷ 0 ∷ 0 ∷ 0 ∷ 0 ∷ 0 ∷ 0 ∷ 0 ∷ 0 ∷ 0 ∷ 0 ∷ 0 ∷ 0 ∷ 0 ∷ 0 ∷ 5 ∷ 0 ∷ 0 ∷ 1 ∷ 3 ∷ 0 ∷ 48 ∷ 0 ∷ 2 ∷ 0 ∷ 0 ∷ 1 ∷ 1 ∷ 1 ∷ 4294967295 ∷ 0 ∷ 0 ∷ 0 ∷ 0 ∷ 0 ∷ 0 ∷ 0 ∷ 0 ∷ 0 ∷ 0 ∷ 0 ∷ 0 ∷ 2 ∷ 0 ∷ 0 ∷ 0 ∷ 0 ∷ 0 ∷ 0 ∷ 0 ∷ 0 ∷ 0 ∷ 0 ∷ 0 ∷ 0 ∷ 0 ∷ 0 ∷ 0 ∷ 0 ∷ 0 ∷ 0 ∷ 0 ∷ 0 ∷ 0 ∷ 0 ∷ 0 ∷ 0 ∷ 0 ∷ 0 ∷ []; count = 3; labels = 4 ∷ 0 ∷ 0 ∷ 1 ∷ []; labelCount = 1; names = 102 ∷ 0 ∷ 0 ∷ 0 ∷ 0 ∷ 0 ∷ 0 ∷ 0 ∷ 0 ∷ 0 ∷ 0 ∷ 0 ∷ 0 ∷ 0 ∷ 0 ∷ 0 ∷ 0 ∷ 0 ∷ 0 ∷ 0 ∷ 0 ∷ 0 ∷ 0 ∷ 0 ∷ 0 ∷ 0 ∷ 0 ∷ 0 ∷ 0 ∷ 0 ∷ 0 ∷ 0 ∷ 0 ∷ 0 ∷ 0 ∷ 0 ∷ 0 ∷ 0 ∷ 0 ∷ 0 ∷ 0 ∷ 0 ∷ 0 ∷ 0 ∷ 0 ∷ 0 ∷ 0 ∷ 0 ∷ 0 ∷ 0 ∷ 0 ∷ 0 ∷ 0 ∷ 0 ∷ 0 ∷ 0 ∷ 0 ∷ 0 ∷ 0 ∷ 0 ∷ 0 ∷ 0 ∷ 0 ∷ 0 ∷ []; dataLength = 0 }
-
-v1d : runOf Bits32 t-v1d 9 (startLeaves Bits32 t-v1d ([]) (102 ∷ []) ([]) (record { machine = freshOf 7 7 7; stack = replicate 4 9; memory = replicate 8 8 })) .world .machine .state ≡ Stopped 31 1
-unfolding m1.byteAt m2.ifLt m2.ifEq m2.ifTrue m3.key m3.leastOf m4.sameList m4.clearedFrom m4.overlay m5.walk m6.freshOf m7.words m7.firstOf m7.isNamed m7.isNumber m7.entryNamed m7.entryOf m7.numberOf m7.leastOperands m7.mostOperands m8.wordBytes m9.addOf m9.subOf m9.mulOf m9.divOf m9.modOf m9.shlOf m9.bsrOf m9.asrOf m9.rolOf m9.rorOf m9.andOf m9.orOf m9.xorOf m9.notOf m9.ltOf m9.gtOf m9.geOf m9.leOf m9.eqOf m9.neOf m10.expressionListed m10.inFunction m10.sizeAt m10.operandFault m10.addressListed m10.kindFault m10.targetFault m10.calleeFault m10.sizeFault m10.ownWord m10.hasWord m10.wordFault m10.operandsFault m10.addressFault m10.rowFault m10.labelFault m10.countFault m10.tablesFault m11.labelAt m11.isData m11.isFunctionLabel m12.sizesOf m13.behind m13.openBefore m13.groundIn m13.funcIn m13.scopeIn m13.upIn m13.isListed m13.mayStand m13.followsJump m13.stands m13.allClosed m13.isArm m13.isEndIf m13.nextArm m13.endIfOf m13.pastArm m13.targetOf m13.hasTarget m13.depthOf m13.encloses m14.operandOf m14.operandKind m14.operandNumber m14.hasExpression m14.isTest m14.isOperator m14.isCall m14.expressionUses m14.usedBy m14.operandAt m14.slots m14.rowFrom m14.rowAt m14.slotWords m14.encode m15.all m15.some m15.allOf m15.someOf m15.allBelow m15.someBelow m15.countBelow m15.greatestBelow m15.firstFrom m16.statementIn m16.standsIn m16.rowsOf m16.enters m16.leaves m16.groundOf m16.isFrame m16.kindOfWord m17.byteAddress m17.wordAddress m17.byteGood m17.wordGood m17.wordFrom m17.loadOf m17.storeFrom m18.lower m18.lowest m18.orElse m18.nextBad m18.frameEnds m18.rowsUsed m18.recordGood m18.stepBroken m18.numbersBelow m18.startBroken m19.roundUp m19.reserved m19.answered m19.fetched m19.byteOf m19.applied m19.evalOf m19.holds m20.mark m20.frameWords m20.isFirst m20.isReturnCall m20.isReturn m20.isCalling m20.calledFrom m20.headGood m20.passesOn m20.leavesGood m20.rowsLeft m20.landingOf m21.isAt m21.numberIn m21.fetchOf m21.readOf m21.withWord m21.onRead m21.readAll m22.exportsAs m22.exportOf m22.startAnswer m22.startWorld m22.startBy m22.begunBy m22.startOf m22.startLeaves m23.goingOn m23.movedTo m23.ended m23.stopped m23.goesTo m23.keeps m23.stores m23.blockOf m23.endBlockOf m23.testOf m23.workedOf m23.assigned m23.assignedAt m23.setAtOf m23.setByteBy m23.setWordBy m23.argumentsOf m23.callBy m23.callOf m23.tailCallBy m23.handedTo m23.handedBy m23.returned m23.returnOf m23.effectOf m23.idle m23.effected m23.gated m23.inState m23.stepOf m23.counting m23.runOf
-v1d = refl
-
-v1d-n : runOf Bits32 t-v1d 9 (startLeaves Bits32 t-v1d ([]) (102 ∷ []) ([]) (record { machine = freshOf 7 7 7; stack = replicate 4 9; memory = replicate 8 8 })) .count ≡ 0
-unfolding m1.byteAt m2.ifLt m2.ifEq m2.ifTrue m3.key m3.leastOf m4.sameList m4.clearedFrom m4.overlay m5.walk m6.freshOf m7.words m7.firstOf m7.isNamed m7.isNumber m7.entryNamed m7.entryOf m7.numberOf m7.leastOperands m7.mostOperands m8.wordBytes m9.addOf m9.subOf m9.mulOf m9.divOf m9.modOf m9.shlOf m9.bsrOf m9.asrOf m9.rolOf m9.rorOf m9.andOf m9.orOf m9.xorOf m9.notOf m9.ltOf m9.gtOf m9.geOf m9.leOf m9.eqOf m9.neOf m10.expressionListed m10.inFunction m10.sizeAt m10.operandFault m10.addressListed m10.kindFault m10.targetFault m10.calleeFault m10.sizeFault m10.ownWord m10.hasWord m10.wordFault m10.operandsFault m10.addressFault m10.rowFault m10.labelFault m10.countFault m10.tablesFault m11.labelAt m11.isData m11.isFunctionLabel m12.sizesOf m13.behind m13.openBefore m13.groundIn m13.funcIn m13.scopeIn m13.upIn m13.isListed m13.mayStand m13.followsJump m13.stands m13.allClosed m13.isArm m13.isEndIf m13.nextArm m13.endIfOf m13.pastArm m13.targetOf m13.hasTarget m13.depthOf m13.encloses m14.operandOf m14.operandKind m14.operandNumber m14.hasExpression m14.isTest m14.isOperator m14.isCall m14.expressionUses m14.usedBy m14.operandAt m14.slots m14.rowFrom m14.rowAt m14.slotWords m14.encode m15.all m15.some m15.allOf m15.someOf m15.allBelow m15.someBelow m15.countBelow m15.greatestBelow m15.firstFrom m16.statementIn m16.standsIn m16.rowsOf m16.enters m16.leaves m16.groundOf m16.isFrame m16.kindOfWord m17.byteAddress m17.wordAddress m17.byteGood m17.wordGood m17.wordFrom m17.loadOf m17.storeFrom m18.lower m18.lowest m18.orElse m18.nextBad m18.frameEnds m18.rowsUsed m18.recordGood m18.stepBroken m18.numbersBelow m18.startBroken m19.roundUp m19.reserved m19.answered m19.fetched m19.byteOf m19.applied m19.evalOf m19.holds m20.mark m20.frameWords m20.isFirst m20.isReturnCall m20.isReturn m20.isCalling m20.calledFrom m20.headGood m20.passesOn m20.leavesGood m20.rowsLeft m20.landingOf m21.isAt m21.numberIn m21.fetchOf m21.readOf m21.withWord m21.onRead m21.readAll m22.exportsAs m22.exportOf m22.startAnswer m22.startWorld m22.startBy m22.begunBy m22.startOf m22.startLeaves m23.goingOn m23.movedTo m23.ended m23.stopped m23.goesTo m23.keeps m23.stores m23.blockOf m23.endBlockOf m23.testOf m23.workedOf m23.assigned m23.assignedAt m23.setAtOf m23.setByteBy m23.setWordBy m23.argumentsOf m23.callBy m23.callOf m23.tailCallBy m23.handedTo m23.handedBy m23.returned m23.returnOf m23.effectOf m23.idle m23.effected m23.gated m23.inState m23.stepOf m23.counting m23.runOf
-v1d-n = refl
-
-v1d-b : runOf Bits32 t-v1d 9 (startLeaves Bits32 t-v1d ([]) (102 ∷ []) ([]) (record { machine = freshOf 7 7 7; stack = replicate 4 9; memory = replicate 8 8 })) .broken ≡ No
-unfolding m1.byteAt m2.ifLt m2.ifEq m2.ifTrue m3.key m3.leastOf m4.sameList m4.clearedFrom m4.overlay m5.walk m6.freshOf m7.words m7.firstOf m7.isNamed m7.isNumber m7.entryNamed m7.entryOf m7.numberOf m7.leastOperands m7.mostOperands m8.wordBytes m9.addOf m9.subOf m9.mulOf m9.divOf m9.modOf m9.shlOf m9.bsrOf m9.asrOf m9.rolOf m9.rorOf m9.andOf m9.orOf m9.xorOf m9.notOf m9.ltOf m9.gtOf m9.geOf m9.leOf m9.eqOf m9.neOf m10.expressionListed m10.inFunction m10.sizeAt m10.operandFault m10.addressListed m10.kindFault m10.targetFault m10.calleeFault m10.sizeFault m10.ownWord m10.hasWord m10.wordFault m10.operandsFault m10.addressFault m10.rowFault m10.labelFault m10.countFault m10.tablesFault m11.labelAt m11.isData m11.isFunctionLabel m12.sizesOf m13.behind m13.openBefore m13.groundIn m13.funcIn m13.scopeIn m13.upIn m13.isListed m13.mayStand m13.followsJump m13.stands m13.allClosed m13.isArm m13.isEndIf m13.nextArm m13.endIfOf m13.pastArm m13.targetOf m13.hasTarget m13.depthOf m13.encloses m14.operandOf m14.operandKind m14.operandNumber m14.hasExpression m14.isTest m14.isOperator m14.isCall m14.expressionUses m14.usedBy m14.operandAt m14.slots m14.rowFrom m14.rowAt m14.slotWords m14.encode m15.all m15.some m15.allOf m15.someOf m15.allBelow m15.someBelow m15.countBelow m15.greatestBelow m15.firstFrom m16.statementIn m16.standsIn m16.rowsOf m16.enters m16.leaves m16.groundOf m16.isFrame m16.kindOfWord m17.byteAddress m17.wordAddress m17.byteGood m17.wordGood m17.wordFrom m17.loadOf m17.storeFrom m18.lower m18.lowest m18.orElse m18.nextBad m18.frameEnds m18.rowsUsed m18.recordGood m18.stepBroken m18.numbersBelow m18.startBroken m19.roundUp m19.reserved m19.answered m19.fetched m19.byteOf m19.applied m19.evalOf m19.holds m20.mark m20.frameWords m20.isFirst m20.isReturnCall m20.isReturn m20.isCalling m20.calledFrom m20.headGood m20.passesOn m20.leavesGood m20.rowsLeft m20.landingOf m21.isAt m21.numberIn m21.fetchOf m21.readOf m21.withWord m21.onRead m21.readAll m22.exportsAs m22.exportOf m22.startAnswer m22.startWorld m22.startBy m22.begunBy m22.startOf m22.startLeaves m23.goingOn m23.movedTo m23.ended m23.stopped m23.goesTo m23.keeps m23.stores m23.blockOf m23.endBlockOf m23.testOf m23.workedOf m23.assigned m23.assignedAt m23.setAtOf m23.setByteBy m23.setWordBy m23.argumentsOf m23.callBy m23.callOf m23.tailCallBy m23.handedTo m23.handedBy m23.returned m23.returnOf m23.effectOf m23.idle m23.effected m23.gated m23.inState m23.stepOf m23.counting m23.runOf
-v1d-b = refl
-
-abbrev t-v1e : Tables
-t-v1e = record { statements = 1 ∷ 0 ∷ 0 ∷ 0 ∷ 4 ∷ 0 ∷ 0 ∷ 0 ∷ 0 ∷ 0 ∷ 0 ∷ 0 ∷ 0 ∷ 0 ∷ 0 ∷ 0 ∷ 0 ∷ 0 ∷ 0 ∷ 0 ∷ 0 ∷ 0 ∷ 0 ∷ 0 ∷ 0 ∷ 0 ∷ 0 ∷ 5 ∷ 0 ∷ 0 ∷ 1 ∷ 3 ∷ 0 ∷ 40 ∷ 0 ∷ 2 ∷ 0 ∷ 0 ∷ 1 ∷ 0 ∷ 1 ∷ 4294967295 ∷ 0 ∷ 0 ∷ 0 ∷ 0 ∷ 0 ∷ 0 ∷ 0 ∷ 0 ∷ 0 ∷ 0 ∷ 0 ∷ 0 ∷ 2 ∷ 0 ∷ 0 ∷ 0 ∷ 0 ∷ 0 ∷ 0 ∷ 0 ∷ 0 ∷ 0 ∷ 0 ∷ 0 ∷ 0 ∷ 0 ∷ 0 ∷ 0 ∷ 0 ∷ 0 ∷ 0 ∷ 0 ∷ 0 ∷ 0 ∷ 0 ∷ 0 ∷ 0 ∷ 0 ∷ 0 ∷ []; count = 3; labels = 4 ∷ 0 ∷ 0 ∷ 1 ∷ []; labelCount = 1; names = 102 ∷ 0 ∷ 0 ∷ 0 ∷ 0 ∷ 0 ∷ 0 ∷ 0 ∷ 0 ∷ 0 ∷ 0 ∷ 0 ∷ 0 ∷ 0 ∷ 0 ∷ 0 ∷ 0 ∷ 0 ∷ 0 ∷ 0 ∷ 0 ∷ 0 ∷ 0 ∷ 0 ∷ 0 ∷ 0 ∷ 0 ∷ 0 ∷ 0 ∷ 0 ∷ 0 ∷ 0 ∷ 0 ∷ 0 ∷ 0 ∷ 0 ∷ 0 ∷ 0 ∷ 0 ∷ 0 ∷ 0 ∷ 0 ∷ 0 ∷ 0 ∷ 0 ∷ 0 ∷ 0 ∷ 0 ∷ 0 ∷ 0 ∷ 0 ∷ 0 ∷ 0 ∷ 0 ∷ 0 ∷ 0 ∷ 0 ∷ 0 ∷ 0 ∷ 0 ∷ 0 ∷ 0 ∷ 0 ∷ 0 ∷ []; dataLength = 0 }
-
-v1e : runOf Bits32 t-v1e 9 (startLeaves Bits32 t-v1e ([]) (102 ∷ []) ([]) (record { machine = freshOf 7 7 7; stack = replicate 4 9; memory = replicate 8 8 })) .world .machine .state ≡ Stopped 32 1
-unfolding m1.byteAt m2.ifLt m2.ifEq m2.ifTrue m3.key m3.leastOf m4.sameList m4.clearedFrom m4.overlay m5.walk m6.freshOf m7.words m7.firstOf m7.isNamed m7.isNumber m7.entryNamed m7.entryOf m7.numberOf m7.leastOperands m7.mostOperands m8.wordBytes m9.addOf m9.subOf m9.mulOf m9.divOf m9.modOf m9.shlOf m9.bsrOf m9.asrOf m9.rolOf m9.rorOf m9.andOf m9.orOf m9.xorOf m9.notOf m9.ltOf m9.gtOf m9.geOf m9.leOf m9.eqOf m9.neOf m10.expressionListed m10.inFunction m10.sizeAt m10.operandFault m10.addressListed m10.kindFault m10.targetFault m10.calleeFault m10.sizeFault m10.ownWord m10.hasWord m10.wordFault m10.operandsFault m10.addressFault m10.rowFault m10.labelFault m10.countFault m10.tablesFault m11.labelAt m11.isData m11.isFunctionLabel m12.sizesOf m13.behind m13.openBefore m13.groundIn m13.funcIn m13.scopeIn m13.upIn m13.isListed m13.mayStand m13.followsJump m13.stands m13.allClosed m13.isArm m13.isEndIf m13.nextArm m13.endIfOf m13.pastArm m13.targetOf m13.hasTarget m13.depthOf m13.encloses m14.operandOf m14.operandKind m14.operandNumber m14.hasExpression m14.isTest m14.isOperator m14.isCall m14.expressionUses m14.usedBy m14.operandAt m14.slots m14.rowFrom m14.rowAt m14.slotWords m14.encode m15.all m15.some m15.allOf m15.someOf m15.allBelow m15.someBelow m15.countBelow m15.greatestBelow m15.firstFrom m16.statementIn m16.standsIn m16.rowsOf m16.enters m16.leaves m16.groundOf m16.isFrame m16.kindOfWord m17.byteAddress m17.wordAddress m17.byteGood m17.wordGood m17.wordFrom m17.loadOf m17.storeFrom m18.lower m18.lowest m18.orElse m18.nextBad m18.frameEnds m18.rowsUsed m18.recordGood m18.stepBroken m18.numbersBelow m18.startBroken m19.roundUp m19.reserved m19.answered m19.fetched m19.byteOf m19.applied m19.evalOf m19.holds m20.mark m20.frameWords m20.isFirst m20.isReturnCall m20.isReturn m20.isCalling m20.calledFrom m20.headGood m20.passesOn m20.leavesGood m20.rowsLeft m20.landingOf m21.isAt m21.numberIn m21.fetchOf m21.readOf m21.withWord m21.onRead m21.readAll m22.exportsAs m22.exportOf m22.startAnswer m22.startWorld m22.startBy m22.begunBy m22.startOf m22.startLeaves m23.goingOn m23.movedTo m23.ended m23.stopped m23.goesTo m23.keeps m23.stores m23.blockOf m23.endBlockOf m23.testOf m23.workedOf m23.assigned m23.assignedAt m23.setAtOf m23.setByteBy m23.setWordBy m23.argumentsOf m23.callBy m23.callOf m23.tailCallBy m23.handedTo m23.handedBy m23.returned m23.returnOf m23.effectOf m23.idle m23.effected m23.gated m23.inState m23.stepOf m23.counting m23.runOf
-v1e = refl
-
-v1e-n : runOf Bits32 t-v1e 9 (startLeaves Bits32 t-v1e ([]) (102 ∷ []) ([]) (record { machine = freshOf 7 7 7; stack = replicate 4 9; memory = replicate 8 8 })) .count ≡ 0
-unfolding m1.byteAt m2.ifLt m2.ifEq m2.ifTrue m3.key m3.leastOf m4.sameList m4.clearedFrom m4.overlay m5.walk m6.freshOf m7.words m7.firstOf m7.isNamed m7.isNumber m7.entryNamed m7.entryOf m7.numberOf m7.leastOperands m7.mostOperands m8.wordBytes m9.addOf m9.subOf m9.mulOf m9.divOf m9.modOf m9.shlOf m9.bsrOf m9.asrOf m9.rolOf m9.rorOf m9.andOf m9.orOf m9.xorOf m9.notOf m9.ltOf m9.gtOf m9.geOf m9.leOf m9.eqOf m9.neOf m10.expressionListed m10.inFunction m10.sizeAt m10.operandFault m10.addressListed m10.kindFault m10.targetFault m10.calleeFault m10.sizeFault m10.ownWord m10.hasWord m10.wordFault m10.operandsFault m10.addressFault m10.rowFault m10.labelFault m10.countFault m10.tablesFault m11.labelAt m11.isData m11.isFunctionLabel m12.sizesOf m13.behind m13.openBefore m13.groundIn m13.funcIn m13.scopeIn m13.upIn m13.isListed m13.mayStand m13.followsJump m13.stands m13.allClosed m13.isArm m13.isEndIf m13.nextArm m13.endIfOf m13.pastArm m13.targetOf m13.hasTarget m13.depthOf m13.encloses m14.operandOf m14.operandKind m14.operandNumber m14.hasExpression m14.isTest m14.isOperator m14.isCall m14.expressionUses m14.usedBy m14.operandAt m14.slots m14.rowFrom m14.rowAt m14.slotWords m14.encode m15.all m15.some m15.allOf m15.someOf m15.allBelow m15.someBelow m15.countBelow m15.greatestBelow m15.firstFrom m16.statementIn m16.standsIn m16.rowsOf m16.enters m16.leaves m16.groundOf m16.isFrame m16.kindOfWord m17.byteAddress m17.wordAddress m17.byteGood m17.wordGood m17.wordFrom m17.loadOf m17.storeFrom m18.lower m18.lowest m18.orElse m18.nextBad m18.frameEnds m18.rowsUsed m18.recordGood m18.stepBroken m18.numbersBelow m18.startBroken m19.roundUp m19.reserved m19.answered m19.fetched m19.byteOf m19.applied m19.evalOf m19.holds m20.mark m20.frameWords m20.isFirst m20.isReturnCall m20.isReturn m20.isCalling m20.calledFrom m20.headGood m20.passesOn m20.leavesGood m20.rowsLeft m20.landingOf m21.isAt m21.numberIn m21.fetchOf m21.readOf m21.withWord m21.onRead m21.readAll m22.exportsAs m22.exportOf m22.startAnswer m22.startWorld m22.startBy m22.begunBy m22.startOf m22.startLeaves m23.goingOn m23.movedTo m23.ended m23.stopped m23.goesTo m23.keeps m23.stores m23.blockOf m23.endBlockOf m23.testOf m23.workedOf m23.assigned m23.assignedAt m23.setAtOf m23.setByteBy m23.setWordBy m23.argumentsOf m23.callBy m23.callOf m23.tailCallBy m23.handedTo m23.handedBy m23.returned m23.returnOf m23.effectOf m23.idle m23.effected m23.gated m23.inState m23.stepOf m23.counting m23.runOf
-v1e-n = refl
-
-v1e-b : runOf Bits32 t-v1e 9 (startLeaves Bits32 t-v1e ([]) (102 ∷ []) ([]) (record { machine = freshOf 7 7 7; stack = replicate 4 9; memory = replicate 8 8 })) .broken ≡ No
-unfolding m1.byteAt m2.ifLt m2.ifEq m2.ifTrue m3.key m3.leastOf m4.sameList m4.clearedFrom m4.overlay m5.walk m6.freshOf m7.words m7.firstOf m7.isNamed m7.isNumber m7.entryNamed m7.entryOf m7.numberOf m7.leastOperands m7.mostOperands m8.wordBytes m9.addOf m9.subOf m9.mulOf m9.divOf m9.modOf m9.shlOf m9.bsrOf m9.asrOf m9.rolOf m9.rorOf m9.andOf m9.orOf m9.xorOf m9.notOf m9.ltOf m9.gtOf m9.geOf m9.leOf m9.eqOf m9.neOf m10.expressionListed m10.inFunction m10.sizeAt m10.operandFault m10.addressListed m10.kindFault m10.targetFault m10.calleeFault m10.sizeFault m10.ownWord m10.hasWord m10.wordFault m10.operandsFault m10.addressFault m10.rowFault m10.labelFault m10.countFault m10.tablesFault m11.labelAt m11.isData m11.isFunctionLabel m12.sizesOf m13.behind m13.openBefore m13.groundIn m13.funcIn m13.scopeIn m13.upIn m13.isListed m13.mayStand m13.followsJump m13.stands m13.allClosed m13.isArm m13.isEndIf m13.nextArm m13.endIfOf m13.pastArm m13.targetOf m13.hasTarget m13.depthOf m13.encloses m14.operandOf m14.operandKind m14.operandNumber m14.hasExpression m14.isTest m14.isOperator m14.isCall m14.expressionUses m14.usedBy m14.operandAt m14.slots m14.rowFrom m14.rowAt m14.slotWords m14.encode m15.all m15.some m15.allOf m15.someOf m15.allBelow m15.someBelow m15.countBelow m15.greatestBelow m15.firstFrom m16.statementIn m16.standsIn m16.rowsOf m16.enters m16.leaves m16.groundOf m16.isFrame m16.kindOfWord m17.byteAddress m17.wordAddress m17.byteGood m17.wordGood m17.wordFrom m17.loadOf m17.storeFrom m18.lower m18.lowest m18.orElse m18.nextBad m18.frameEnds m18.rowsUsed m18.recordGood m18.stepBroken m18.numbersBelow m18.startBroken m19.roundUp m19.reserved m19.answered m19.fetched m19.byteOf m19.applied m19.evalOf m19.holds m20.mark m20.frameWords m20.isFirst m20.isReturnCall m20.isReturn m20.isCalling m20.calledFrom m20.headGood m20.passesOn m20.leavesGood m20.rowsLeft m20.landingOf m21.isAt m21.numberIn m21.fetchOf m21.readOf m21.withWord m21.onRead m21.readAll m22.exportsAs m22.exportOf m22.startAnswer m22.startWorld m22.startBy m22.begunBy m22.startOf m22.startLeaves m23.goingOn m23.movedTo m23.ended m23.stopped m23.goesTo m23.keeps m23.stores m23.blockOf m23.endBlockOf m23.testOf m23.workedOf m23.assigned m23.assignedAt m23.setAtOf m23.setByteBy m23.setWordBy m23.argumentsOf m23.callBy m23.callOf m23.tailCallBy m23.handedTo m23.handedBy m23.returned m23.returnOf m23.effectOf m23.idle m23.effected m23.gated m23.inState m23.stepOf m23.counting m23.runOf
-v1e-b = refl
-
-abbrev t-v2 : Tables
-t-v2 = record { statements = 1 ∷ 0 ∷ 0 ∷ 0 ∷ 3 ∷ 0 ∷ 0 ∷ 0 ∷ 0 ∷ 0 ∷ 0 ∷ 0 ∷ 0 ∷ 0 ∷ 0 ∷ 0 ∷ 0 ∷ 0 ∷ 0 ∷ 0 ∷ 0 ∷ 0 ∷ 0 ∷ 0 ∷ 0 ∷ 0 ∷ 0 ∷ 13 ∷ 0 ∷ 0 ∷ 1 ∷ 0 ∷ 0 ∷ 1 ∷ 0 ∷ 1 ∷ 0 ∷ 0 ∷ 1 ∷ 5 ∷ 0 ∷ 0 ∷ 0 ∷ 0 ∷ 0 ∷ 0 ∷ 0 ∷ 0 ∷ 0 ∷ 0 ∷ 0 ∷ 0 ∷ 0 ∷ 0 ∷ 2 ∷ 0 ∷ 0 ∷ 0 ∷ 0 ∷ 0 ∷ 0 ∷ 0 ∷ 0 ∷ 0 ∷ 0 ∷ 0 ∷ 0 ∷ 0 ∷ 0 ∷ 0 ∷ 0 ∷ 0 ∷ 0 ∷ 0 ∷ 0 ∷ 0 ∷ 0 ∷ 0 ∷ 0 ∷ 0 ∷ 0 ∷ 1 ∷ 3 ∷ 3 ∷ 0 ∷ 3 ∷ 0 ∷ 0 ∷ 0 ∷ 0 ∷ 0 ∷ 0 ∷ 0 ∷ 0 ∷ 0 ∷ 0 ∷ 0 ∷ 0 ∷ 0 ∷ 0 ∷ 0 ∷ 0 ∷ 0 ∷ 0 ∷ 0 ∷ 0 ∷ 0 ∷ 0 ∷ 13 ∷ 3 ∷ 3 ∷ 4 ∷ 0 ∷ 0 ∷ 2 ∷ 0 ∷ 0 ∷ 0 ∷ 0 ∷ 0 ∷ 0 ∷ 0 ∷ 0 ∷ 0 ∷ 0 ∷ 0 ∷ 0 ∷ 0 ∷ 0 ∷ 0 ∷ 0 ∷ 0 ∷ 0 ∷ 0 ∷ 0 ∷ 2 ∷ 3 ∷ 3 ∷ 0 ∷ 0 ∷ 0 ∷ 0 ∷ 0 ∷ 0 ∷ 0 ∷ 0 ∷ 0 ∷ 0 ∷ 0 ∷ 0 ∷ 0 ∷ 0 ∷ 0 ∷ 0 ∷ 0 ∷ 0 ∷ 0 ∷ 0 ∷ 0 ∷ 0 ∷ 0 ∷ 0 ∷ 1 ∷ 6 ∷ 6 ∷ 0 ∷ 3 ∷ 0 ∷ 0 ∷ 0 ∷ 0 ∷ 0 ∷ 0 ∷ 0 ∷ 0 ∷ 0 ∷ 0 ∷ 0 ∷ 0 ∷ 0 ∷ 0 ∷ 0 ∷ 0 ∷ 0 ∷ 0 ∷ 0 ∷ 0 ∷ 0 ∷ 0 ∷ 13 ∷ 6 ∷ 6 ∷ 7 ∷ 0 ∷ 0 ∷ 2 ∷ 3 ∷ 0 ∷ 0 ∷ 0 ∷ 0 ∷ 0 ∷ 0 ∷ 0 ∷ 0 ∷ 0 ∷ 0 ∷ 0 ∷ 0 ∷ 0 ∷ 0 ∷ 0 ∷ 0 ∷ 0 ∷ 0 ∷ 0 ∷ 2 ∷ 6 ∷ 6 ∷ 0 ∷ 0 ∷ 0 ∷ 0 ∷ 0 ∷ 0 ∷ 0 ∷ 0 ∷ 0 ∷ 0 ∷ 0 ∷ 0 ∷ 0 ∷ 0 ∷ 0 ∷ 0 ∷ 0 ∷ 0 ∷ 0 ∷ 0 ∷ 0 ∷ 0 ∷ 0 ∷ 0 ∷ []; count = 9; labels = 3 ∷ 0 ∷ 0 ∷ 1 ∷ 3 ∷ 3 ∷ 0 ∷ 1 ∷ 4 ∷ 6 ∷ 0 ∷ 1 ∷ []; labelCount = 3; names = 104 ∷ 0 ∷ 0 ∷ 0 ∷ 0 ∷ 0 ∷ 0 ∷ 0 ∷ 0 ∷ 0 ∷ 0 ∷ 0 ∷ 0 ∷ 0 ∷ 0 ∷ 0 ∷ 0 ∷ 0 ∷ 0 ∷ 0 ∷ 0 ∷ 0 ∷ 0 ∷ 0 ∷ 0 ∷ 0 ∷ 0 ∷ 0 ∷ 0 ∷ 0 ∷ 0 ∷ 0 ∷ 0 ∷ 0 ∷ 0 ∷ 0 ∷ 0 ∷ 0 ∷ 0 ∷ 0 ∷ 0 ∷ 0 ∷ 0 ∷ 0 ∷ 0 ∷ 0 ∷ 0 ∷ 0 ∷ 0 ∷ 0 ∷ 0 ∷ 0 ∷ 0 ∷ 0 ∷ 0 ∷ 0 ∷ 0 ∷ 0 ∷ 0 ∷ 0 ∷ 0 ∷ 0 ∷ 0 ∷ 0 ∷ 103 ∷ 0 ∷ 0 ∷ 0 ∷ 0 ∷ 0 ∷ 0 ∷ 0 ∷ 0 ∷ 0 ∷ 0 ∷ 0 ∷ 0 ∷ 0 ∷ 0 ∷ 0 ∷ 0 ∷ 0 ∷ 0 ∷ 0 ∷ 0 ∷ 0 ∷ 0 ∷ 0 ∷ 0 ∷ 0 ∷ 0 ∷ 0 ∷ 0 ∷ 0 ∷ 0 ∷ 0 ∷ 0 ∷ 0 ∷ 0 ∷ 0 ∷ 0 ∷ 0 ∷ 0 ∷ 0 ∷ 0 ∷ 0 ∷ 0 ∷ 0 ∷ 0 ∷ 0 ∷ 0 ∷ 0 ∷ 0 ∷ 0 ∷ 0 ∷ 0 ∷ 0 ∷ 0 ∷ 0 ∷ 0 ∷ 0 ∷ 0 ∷ 0 ∷ 0 ∷ 0 ∷ 0 ∷ 0 ∷ 0 ∷ 102 ∷ 0 ∷ 0 ∷ 0 ∷ 0 ∷ 0 ∷ 0 ∷ 0 ∷ 0 ∷ 0 ∷ 0 ∷ 0 ∷ 0 ∷ 0 ∷ 0 ∷ 0 ∷ 0 ∷ 0 ∷ 0 ∷ 0 ∷ 0 ∷ 0 ∷ 0 ∷ 0 ∷ 0 ∷ 0 ∷ 0 ∷ 0 ∷ 0 ∷ 0 ∷ 0 ∷ 0 ∷ 0 ∷ 0 ∷ 0 ∷ 0 ∷ 0 ∷ 0 ∷ 0 ∷ 0 ∷ 0 ∷ 0 ∷ 0 ∷ 0 ∷ 0 ∷ 0 ∷ 0 ∷ 0 ∷ 0 ∷ 0 ∷ 0 ∷ 0 ∷ 0 ∷ 0 ∷ 0 ∷ 0 ∷ 0 ∷ 0 ∷ 0 ∷ 0 ∷ 0 ∷ 0 ∷ 0 ∷ 0 ∷ []; dataLength = 0 }
-
-v2 : runOf Bits32 t-v2 9 (startLeaves Bits32 t-v2 ([]) (102 ∷ []) ([]) (record { machine = freshOf 7 7 7; stack = replicate 9 9; memory = replicate 0 8 })) .world .machine .state ≡ Finished 5
-unfolding m1.byteAt m2.ifLt m2.ifEq m2.ifTrue m3.key m3.leastOf m4.sameList m4.clearedFrom m4.overlay m5.walk m6.freshOf m7.words m7.firstOf m7.isNamed m7.isNumber m7.entryNamed m7.entryOf m7.numberOf m7.leastOperands m7.mostOperands m8.wordBytes m9.addOf m9.subOf m9.mulOf m9.divOf m9.modOf m9.shlOf m9.bsrOf m9.asrOf m9.rolOf m9.rorOf m9.andOf m9.orOf m9.xorOf m9.notOf m9.ltOf m9.gtOf m9.geOf m9.leOf m9.eqOf m9.neOf m10.expressionListed m10.inFunction m10.sizeAt m10.operandFault m10.addressListed m10.kindFault m10.targetFault m10.calleeFault m10.sizeFault m10.ownWord m10.hasWord m10.wordFault m10.operandsFault m10.addressFault m10.rowFault m10.labelFault m10.countFault m10.tablesFault m11.labelAt m11.isData m11.isFunctionLabel m12.sizesOf m13.behind m13.openBefore m13.groundIn m13.funcIn m13.scopeIn m13.upIn m13.isListed m13.mayStand m13.followsJump m13.stands m13.allClosed m13.isArm m13.isEndIf m13.nextArm m13.endIfOf m13.pastArm m13.targetOf m13.hasTarget m13.depthOf m13.encloses m14.operandOf m14.operandKind m14.operandNumber m14.hasExpression m14.isTest m14.isOperator m14.isCall m14.expressionUses m14.usedBy m14.operandAt m14.slots m14.rowFrom m14.rowAt m14.slotWords m14.encode m15.all m15.some m15.allOf m15.someOf m15.allBelow m15.someBelow m15.countBelow m15.greatestBelow m15.firstFrom m16.statementIn m16.standsIn m16.rowsOf m16.enters m16.leaves m16.groundOf m16.isFrame m16.kindOfWord m17.byteAddress m17.wordAddress m17.byteGood m17.wordGood m17.wordFrom m17.loadOf m17.storeFrom m18.lower m18.lowest m18.orElse m18.nextBad m18.frameEnds m18.rowsUsed m18.recordGood m18.stepBroken m18.numbersBelow m18.startBroken m19.roundUp m19.reserved m19.answered m19.fetched m19.byteOf m19.applied m19.evalOf m19.holds m20.mark m20.frameWords m20.isFirst m20.isReturnCall m20.isReturn m20.isCalling m20.calledFrom m20.headGood m20.passesOn m20.leavesGood m20.rowsLeft m20.landingOf m21.isAt m21.numberIn m21.fetchOf m21.readOf m21.withWord m21.onRead m21.readAll m22.exportsAs m22.exportOf m22.startAnswer m22.startWorld m22.startBy m22.begunBy m22.startOf m22.startLeaves m23.goingOn m23.movedTo m23.ended m23.stopped m23.goesTo m23.keeps m23.stores m23.blockOf m23.endBlockOf m23.testOf m23.workedOf m23.assigned m23.assignedAt m23.setAtOf m23.setByteBy m23.setWordBy m23.argumentsOf m23.callBy m23.callOf m23.tailCallBy m23.handedTo m23.handedBy m23.returned m23.returnOf m23.effectOf m23.idle m23.effected m23.gated m23.inState m23.stepOf m23.counting m23.runOf
-v2 = refl
-
-v2-n : runOf Bits32 t-v2 9 (startLeaves Bits32 t-v2 ([]) (102 ∷ []) ([]) (record { machine = freshOf 7 7 7; stack = replicate 9 9; memory = replicate 0 8 })) .count ≡ 3
-unfolding m1.byteAt m2.ifLt m2.ifEq m2.ifTrue m3.key m3.leastOf m4.sameList m4.clearedFrom m4.overlay m5.walk m6.freshOf m7.words m7.firstOf m7.isNamed m7.isNumber m7.entryNamed m7.entryOf m7.numberOf m7.leastOperands m7.mostOperands m8.wordBytes m9.addOf m9.subOf m9.mulOf m9.divOf m9.modOf m9.shlOf m9.bsrOf m9.asrOf m9.rolOf m9.rorOf m9.andOf m9.orOf m9.xorOf m9.notOf m9.ltOf m9.gtOf m9.geOf m9.leOf m9.eqOf m9.neOf m10.expressionListed m10.inFunction m10.sizeAt m10.operandFault m10.addressListed m10.kindFault m10.targetFault m10.calleeFault m10.sizeFault m10.ownWord m10.hasWord m10.wordFault m10.operandsFault m10.addressFault m10.rowFault m10.labelFault m10.countFault m10.tablesFault m11.labelAt m11.isData m11.isFunctionLabel m12.sizesOf m13.behind m13.openBefore m13.groundIn m13.funcIn m13.scopeIn m13.upIn m13.isListed m13.mayStand m13.followsJump m13.stands m13.allClosed m13.isArm m13.isEndIf m13.nextArm m13.endIfOf m13.pastArm m13.targetOf m13.hasTarget m13.depthOf m13.encloses m14.operandOf m14.operandKind m14.operandNumber m14.hasExpression m14.isTest m14.isOperator m14.isCall m14.expressionUses m14.usedBy m14.operandAt m14.slots m14.rowFrom m14.rowAt m14.slotWords m14.encode m15.all m15.some m15.allOf m15.someOf m15.allBelow m15.someBelow m15.countBelow m15.greatestBelow m15.firstFrom m16.statementIn m16.standsIn m16.rowsOf m16.enters m16.leaves m16.groundOf m16.isFrame m16.kindOfWord m17.byteAddress m17.wordAddress m17.byteGood m17.wordGood m17.wordFrom m17.loadOf m17.storeFrom m18.lower m18.lowest m18.orElse m18.nextBad m18.frameEnds m18.rowsUsed m18.recordGood m18.stepBroken m18.numbersBelow m18.startBroken m19.roundUp m19.reserved m19.answered m19.fetched m19.byteOf m19.applied m19.evalOf m19.holds m20.mark m20.frameWords m20.isFirst m20.isReturnCall m20.isReturn m20.isCalling m20.calledFrom m20.headGood m20.passesOn m20.leavesGood m20.rowsLeft m20.landingOf m21.isAt m21.numberIn m21.fetchOf m21.readOf m21.withWord m21.onRead m21.readAll m22.exportsAs m22.exportOf m22.startAnswer m22.startWorld m22.startBy m22.begunBy m22.startOf m22.startLeaves m23.goingOn m23.movedTo m23.ended m23.stopped m23.goesTo m23.keeps m23.stores m23.blockOf m23.endBlockOf m23.testOf m23.workedOf m23.assigned m23.assignedAt m23.setAtOf m23.setByteBy m23.setWordBy m23.argumentsOf m23.callBy m23.callOf m23.tailCallBy m23.handedTo m23.handedBy m23.returned m23.returnOf m23.effectOf m23.idle m23.effected m23.gated m23.inState m23.stepOf m23.counting m23.runOf
-v2-n = refl
-
-v2-u : runOf Bits32 t-v2 9 (startLeaves Bits32 t-v2 ([]) (102 ∷ []) ([]) (record { machine = freshOf 7 7 7; stack = replicate 9 9; memory = replicate 0 8 })) .world .machine .used ≡ 0
-unfolding m1.byteAt m2.ifLt m2.ifEq m2.ifTrue m3.key m3.leastOf m4.sameList m4.clearedFrom m4.overlay m5.walk m6.freshOf m7.words m7.firstOf m7.isNamed m7.isNumber m7.entryNamed m7.entryOf m7.numberOf m7.leastOperands m7.mostOperands m8.wordBytes m9.addOf m9.subOf m9.mulOf m9.divOf m9.modOf m9.shlOf m9.bsrOf m9.asrOf m9.rolOf m9.rorOf m9.andOf m9.orOf m9.xorOf m9.notOf m9.ltOf m9.gtOf m9.geOf m9.leOf m9.eqOf m9.neOf m10.expressionListed m10.inFunction m10.sizeAt m10.operandFault m10.addressListed m10.kindFault m10.targetFault m10.calleeFault m10.sizeFault m10.ownWord m10.hasWord m10.wordFault m10.operandsFault m10.addressFault m10.rowFault m10.labelFault m10.countFault m10.tablesFault m11.labelAt m11.isData m11.isFunctionLabel m12.sizesOf m13.behind m13.openBefore m13.groundIn m13.funcIn m13.scopeIn m13.upIn m13.isListed m13.mayStand m13.followsJump m13.stands m13.allClosed m13.isArm m13.isEndIf m13.nextArm m13.endIfOf m13.pastArm m13.targetOf m13.hasTarget m13.depthOf m13.encloses m14.operandOf m14.operandKind m14.operandNumber m14.hasExpression m14.isTest m14.isOperator m14.isCall m14.expressionUses m14.usedBy m14.operandAt m14.slots m14.rowFrom m14.rowAt m14.slotWords m14.encode m15.all m15.some m15.allOf m15.someOf m15.allBelow m15.someBelow m15.countBelow m15.greatestBelow m15.firstFrom m16.statementIn m16.standsIn m16.rowsOf m16.enters m16.leaves m16.groundOf m16.isFrame m16.kindOfWord m17.byteAddress m17.wordAddress m17.byteGood m17.wordGood m17.wordFrom m17.loadOf m17.storeFrom m18.lower m18.lowest m18.orElse m18.nextBad m18.frameEnds m18.rowsUsed m18.recordGood m18.stepBroken m18.numbersBelow m18.startBroken m19.roundUp m19.reserved m19.answered m19.fetched m19.byteOf m19.applied m19.evalOf m19.holds m20.mark m20.frameWords m20.isFirst m20.isReturnCall m20.isReturn m20.isCalling m20.calledFrom m20.headGood m20.passesOn m20.leavesGood m20.rowsLeft m20.landingOf m21.isAt m21.numberIn m21.fetchOf m21.readOf m21.withWord m21.onRead m21.readAll m22.exportsAs m22.exportOf m22.startAnswer m22.startWorld m22.startBy m22.begunBy m22.startOf m22.startLeaves m23.goingOn m23.movedTo m23.ended m23.stopped m23.goesTo m23.keeps m23.stores m23.blockOf m23.endBlockOf m23.testOf m23.workedOf m23.assigned m23.assignedAt m23.setAtOf m23.setByteBy m23.setWordBy m23.argumentsOf m23.callBy m23.callOf m23.tailCallBy m23.handedTo m23.handedBy m23.returned m23.returnOf m23.effectOf m23.idle m23.effected m23.gated m23.inState m23.stepOf m23.counting m23.runOf
-v2-u = refl
-
-abbrev t-v2-33 : Tables
-t-v2-33 = record { statements = 1 ∷ 0 ∷ 0 ∷ 0 ∷ 3 ∷ 0 ∷ 0 ∷ 0 ∷ 0 ∷ 0 ∷ 0 ∷ 0 ∷ 0 ∷ 0 ∷ 0 ∷ 0 ∷ 0 ∷ 0 ∷ 0 ∷ 0 ∷ 0 ∷ 0 ∷ 0 ∷ 0 ∷ 0 ∷ 0 ∷ 0 ∷ 13 ∷ 0 ∷ 0 ∷ 1 ∷ 0 ∷ 0 ∷ 1 ∷ 0 ∷ 1 ∷ 0 ∷ 0 ∷ 1 ∷ 5 ∷ 0 ∷ 0 ∷ 0 ∷ 0 ∷ 0 ∷ 0 ∷ 0 ∷ 0 ∷ 0 ∷ 0 ∷ 0 ∷ 0 ∷ 0 ∷ 0 ∷ 2 ∷ 0 ∷ 0 ∷ 0 ∷ 0 ∷ 0 ∷ 0 ∷ 0 ∷ 0 ∷ 0 ∷ 0 ∷ 0 ∷ 0 ∷ 0 ∷ 0 ∷ 0 ∷ 0 ∷ 0 ∷ 0 ∷ 0 ∷ 0 ∷ 0 ∷ 0 ∷ 0 ∷ 0 ∷ 0 ∷ 0 ∷ 1 ∷ 3 ∷ 3 ∷ 0 ∷ 3 ∷ 0 ∷ 0 ∷ 0 ∷ 0 ∷ 0 ∷ 0 ∷ 0 ∷ 0 ∷ 0 ∷ 0 ∷ 0 ∷ 0 ∷ 0 ∷ 0 ∷ 0 ∷ 0 ∷ 0 ∷ 0 ∷ 0 ∷ 0 ∷ 0 ∷ 0 ∷ 13 ∷ 3 ∷ 3 ∷ 4 ∷ 0 ∷ 0 ∷ 2 ∷ 0 ∷ 0 ∷ 0 ∷ 0 ∷ 0 ∷ 0 ∷ 0 ∷ 0 ∷ 0 ∷ 0 ∷ 0 ∷ 0 ∷ 0 ∷ 0 ∷ 0 ∷ 0 ∷ 0 ∷ 0 ∷ 0 ∷ 0 ∷ 2 ∷ 3 ∷ 3 ∷ 0 ∷ 0 ∷ 0 ∷ 0 ∷ 0 ∷ 0 ∷ 0 ∷ 0 ∷ 0 ∷ 0 ∷ 0 ∷ 0 ∷ 0 ∷ 0 ∷ 0 ∷ 0 ∷ 0 ∷ 0 ∷ 0 ∷ 0 ∷ 0 ∷ 0 ∷ 0 ∷ 0 ∷ 1 ∷ 6 ∷ 6 ∷ 0 ∷ 3 ∷ 0 ∷ 0 ∷ 0 ∷ 0 ∷ 0 ∷ 0 ∷ 0 ∷ 0 ∷ 0 ∷ 0 ∷ 0 ∷ 0 ∷ 0 ∷ 0 ∷ 0 ∷ 0 ∷ 0 ∷ 0 ∷ 0 ∷ 0 ∷ 0 ∷ 0 ∷ 13 ∷ 6 ∷ 6 ∷ 7 ∷ 0 ∷ 0 ∷ 2 ∷ 3 ∷ 0 ∷ 0 ∷ 0 ∷ 0 ∷ 0 ∷ 0 ∷ 0 ∷ 0 ∷ 0 ∷ 0 ∷ 0 ∷ 0 ∷ 0 ∷ 0 ∷ 0 ∷ 0 ∷ 0 ∷ 0 ∷ 0 ∷ 2 ∷ 6 ∷ 6 ∷ 0 ∷ 0 ∷ 0 ∷ 0 ∷ 0 ∷ 0 ∷ 0 ∷ 0 ∷ 0 ∷ 0 ∷ 0 ∷ 0 ∷ 0 ∷ 0 ∷ 0 ∷ 0 ∷ 0 ∷ 0 ∷ 0 ∷ 0 ∷ 0 ∷ 0 ∷ 0 ∷ 0 ∷ []; count = 9; labels = 3 ∷ 0 ∷ 0 ∷ 1 ∷ 3 ∷ 3 ∷ 0 ∷ 1 ∷ 4 ∷ 6 ∷ 0 ∷ 1 ∷ []; labelCount = 3; names = 104 ∷ 0 ∷ 0 ∷ 0 ∷ 0 ∷ 0 ∷ 0 ∷ 0 ∷ 0 ∷ 0 ∷ 0 ∷ 0 ∷ 0 ∷ 0 ∷ 0 ∷ 0 ∷ 0 ∷ 0 ∷ 0 ∷ 0 ∷ 0 ∷ 0 ∷ 0 ∷ 0 ∷ 0 ∷ 0 ∷ 0 ∷ 0 ∷ 0 ∷ 0 ∷ 0 ∷ 0 ∷ 0 ∷ 0 ∷ 0 ∷ 0 ∷ 0 ∷ 0 ∷ 0 ∷ 0 ∷ 0 ∷ 0 ∷ 0 ∷ 0 ∷ 0 ∷ 0 ∷ 0 ∷ 0 ∷ 0 ∷ 0 ∷ 0 ∷ 0 ∷ 0 ∷ 0 ∷ 0 ∷ 0 ∷ 0 ∷ 0 ∷ 0 ∷ 0 ∷ 0 ∷ 0 ∷ 0 ∷ 0 ∷ 103 ∷ 0 ∷ 0 ∷ 0 ∷ 0 ∷ 0 ∷ 0 ∷ 0 ∷ 0 ∷ 0 ∷ 0 ∷ 0 ∷ 0 ∷ 0 ∷ 0 ∷ 0 ∷ 0 ∷ 0 ∷ 0 ∷ 0 ∷ 0 ∷ 0 ∷ 0 ∷ 0 ∷ 0 ∷ 0 ∷ 0 ∷ 0 ∷ 0 ∷ 0 ∷ 0 ∷ 0 ∷ 0 ∷ 0 ∷ 0 ∷ 0 ∷ 0 ∷ 0 ∷ 0 ∷ 0 ∷ 0 ∷ 0 ∷ 0 ∷ 0 ∷ 0 ∷ 0 ∷ 0 ∷ 0 ∷ 0 ∷ 0 ∷ 0 ∷ 0 ∷ 0 ∷ 0 ∷ 0 ∷ 0 ∷ 0 ∷ 0 ∷ 0 ∷ 0 ∷ 0 ∷ 0 ∷ 0 ∷ 0 ∷ 102 ∷ 0 ∷ 0 ∷ 0 ∷ 0 ∷ 0 ∷ 0 ∷ 0 ∷ 0 ∷ 0 ∷ 0 ∷ 0 ∷ 0 ∷ 0 ∷ 0 ∷ 0 ∷ 0 ∷ 0 ∷ 0 ∷ 0 ∷ 0 ∷ 0 ∷ 0 ∷ 0 ∷ 0 ∷ 0 ∷ 0 ∷ 0 ∷ 0 ∷ 0 ∷ 0 ∷ 0 ∷ 0 ∷ 0 ∷ 0 ∷ 0 ∷ 0 ∷ 0 ∷ 0 ∷ 0 ∷ 0 ∷ 0 ∷ 0 ∷ 0 ∷ 0 ∷ 0 ∷ 0 ∷ 0 ∷ 0 ∷ 0 ∷ 0 ∷ 0 ∷ 0 ∷ 0 ∷ 0 ∷ 0 ∷ 0 ∷ 0 ∷ 0 ∷ 0 ∷ 0 ∷ 0 ∷ 0 ∷ 0 ∷ []; dataLength = 0 }
-
-v2-33 : runOf Bits32 t-v2-33 9 (startLeaves Bits32 t-v2-33 ([]) (102 ∷ []) ([]) (record { machine = freshOf 7 7 7; stack = replicate 8 9; memory = replicate 0 8 })) .world .machine .state ≡ Stopped 33 4
-unfolding m1.byteAt m2.ifLt m2.ifEq m2.ifTrue m3.key m3.leastOf m4.sameList m4.clearedFrom m4.overlay m5.walk m6.freshOf m7.words m7.firstOf m7.isNamed m7.isNumber m7.entryNamed m7.entryOf m7.numberOf m7.leastOperands m7.mostOperands m8.wordBytes m9.addOf m9.subOf m9.mulOf m9.divOf m9.modOf m9.shlOf m9.bsrOf m9.asrOf m9.rolOf m9.rorOf m9.andOf m9.orOf m9.xorOf m9.notOf m9.ltOf m9.gtOf m9.geOf m9.leOf m9.eqOf m9.neOf m10.expressionListed m10.inFunction m10.sizeAt m10.operandFault m10.addressListed m10.kindFault m10.targetFault m10.calleeFault m10.sizeFault m10.ownWord m10.hasWord m10.wordFault m10.operandsFault m10.addressFault m10.rowFault m10.labelFault m10.countFault m10.tablesFault m11.labelAt m11.isData m11.isFunctionLabel m12.sizesOf m13.behind m13.openBefore m13.groundIn m13.funcIn m13.scopeIn m13.upIn m13.isListed m13.mayStand m13.followsJump m13.stands m13.allClosed m13.isArm m13.isEndIf m13.nextArm m13.endIfOf m13.pastArm m13.targetOf m13.hasTarget m13.depthOf m13.encloses m14.operandOf m14.operandKind m14.operandNumber m14.hasExpression m14.isTest m14.isOperator m14.isCall m14.expressionUses m14.usedBy m14.operandAt m14.slots m14.rowFrom m14.rowAt m14.slotWords m14.encode m15.all m15.some m15.allOf m15.someOf m15.allBelow m15.someBelow m15.countBelow m15.greatestBelow m15.firstFrom m16.statementIn m16.standsIn m16.rowsOf m16.enters m16.leaves m16.groundOf m16.isFrame m16.kindOfWord m17.byteAddress m17.wordAddress m17.byteGood m17.wordGood m17.wordFrom m17.loadOf m17.storeFrom m18.lower m18.lowest m18.orElse m18.nextBad m18.frameEnds m18.rowsUsed m18.recordGood m18.stepBroken m18.numbersBelow m18.startBroken m19.roundUp m19.reserved m19.answered m19.fetched m19.byteOf m19.applied m19.evalOf m19.holds m20.mark m20.frameWords m20.isFirst m20.isReturnCall m20.isReturn m20.isCalling m20.calledFrom m20.headGood m20.passesOn m20.leavesGood m20.rowsLeft m20.landingOf m21.isAt m21.numberIn m21.fetchOf m21.readOf m21.withWord m21.onRead m21.readAll m22.exportsAs m22.exportOf m22.startAnswer m22.startWorld m22.startBy m22.begunBy m22.startOf m22.startLeaves m23.goingOn m23.movedTo m23.ended m23.stopped m23.goesTo m23.keeps m23.stores m23.blockOf m23.endBlockOf m23.testOf m23.workedOf m23.assigned m23.assignedAt m23.setAtOf m23.setByteBy m23.setWordBy m23.argumentsOf m23.callBy m23.callOf m23.tailCallBy m23.handedTo m23.handedBy m23.returned m23.returnOf m23.effectOf m23.idle m23.effected m23.gated m23.inState m23.stepOf m23.counting m23.runOf
-v2-33 = refl
-
-v2-33-n : runOf Bits32 t-v2-33 9 (startLeaves Bits32 t-v2-33 ([]) (102 ∷ []) ([]) (record { machine = freshOf 7 7 7; stack = replicate 8 9; memory = replicate 0 8 })) .count ≡ 1
-unfolding m1.byteAt m2.ifLt m2.ifEq m2.ifTrue m3.key m3.leastOf m4.sameList m4.clearedFrom m4.overlay m5.walk m6.freshOf m7.words m7.firstOf m7.isNamed m7.isNumber m7.entryNamed m7.entryOf m7.numberOf m7.leastOperands m7.mostOperands m8.wordBytes m9.addOf m9.subOf m9.mulOf m9.divOf m9.modOf m9.shlOf m9.bsrOf m9.asrOf m9.rolOf m9.rorOf m9.andOf m9.orOf m9.xorOf m9.notOf m9.ltOf m9.gtOf m9.geOf m9.leOf m9.eqOf m9.neOf m10.expressionListed m10.inFunction m10.sizeAt m10.operandFault m10.addressListed m10.kindFault m10.targetFault m10.calleeFault m10.sizeFault m10.ownWord m10.hasWord m10.wordFault m10.operandsFault m10.addressFault m10.rowFault m10.labelFault m10.countFault m10.tablesFault m11.labelAt m11.isData m11.isFunctionLabel m12.sizesOf m13.behind m13.openBefore m13.groundIn m13.funcIn m13.scopeIn m13.upIn m13.isListed m13.mayStand m13.followsJump m13.stands m13.allClosed m13.isArm m13.isEndIf m13.nextArm m13.endIfOf m13.pastArm m13.targetOf m13.hasTarget m13.depthOf m13.encloses m14.operandOf m14.operandKind m14.operandNumber m14.hasExpression m14.isTest m14.isOperator m14.isCall m14.expressionUses m14.usedBy m14.operandAt m14.slots m14.rowFrom m14.rowAt m14.slotWords m14.encode m15.all m15.some m15.allOf m15.someOf m15.allBelow m15.someBelow m15.countBelow m15.greatestBelow m15.firstFrom m16.statementIn m16.standsIn m16.rowsOf m16.enters m16.leaves m16.groundOf m16.isFrame m16.kindOfWord m17.byteAddress m17.wordAddress m17.byteGood m17.wordGood m17.wordFrom m17.loadOf m17.storeFrom m18.lower m18.lowest m18.orElse m18.nextBad m18.frameEnds m18.rowsUsed m18.recordGood m18.stepBroken m18.numbersBelow m18.startBroken m19.roundUp m19.reserved m19.answered m19.fetched m19.byteOf m19.applied m19.evalOf m19.holds m20.mark m20.frameWords m20.isFirst m20.isReturnCall m20.isReturn m20.isCalling m20.calledFrom m20.headGood m20.passesOn m20.leavesGood m20.rowsLeft m20.landingOf m21.isAt m21.numberIn m21.fetchOf m21.readOf m21.withWord m21.onRead m21.readAll m22.exportsAs m22.exportOf m22.startAnswer m22.startWorld m22.startBy m22.begunBy m22.startOf m22.startLeaves m23.goingOn m23.movedTo m23.ended m23.stopped m23.goesTo m23.keeps m23.stores m23.blockOf m23.endBlockOf m23.testOf m23.workedOf m23.assigned m23.assignedAt m23.setAtOf m23.setByteBy m23.setWordBy m23.argumentsOf m23.callBy m23.callOf m23.tailCallBy m23.handedTo m23.handedBy m23.returned m23.returnOf m23.effectOf m23.idle m23.effected m23.gated m23.inState m23.stepOf m23.counting m23.runOf
-v2-33-n = refl
-
-v2-33-b : runOf Bits32 t-v2-33 9 (startLeaves Bits32 t-v2-33 ([]) (102 ∷ []) ([]) (record { machine = freshOf 7 7 7; stack = replicate 8 9; memory = replicate 0 8 })) .broken ≡ No
-unfolding m1.byteAt m2.ifLt m2.ifEq m2.ifTrue m3.key m3.leastOf m4.sameList m4.clearedFrom m4.overlay m5.walk m6.freshOf m7.words m7.firstOf m7.isNamed m7.isNumber m7.entryNamed m7.entryOf m7.numberOf m7.leastOperands m7.mostOperands m8.wordBytes m9.addOf m9.subOf m9.mulOf m9.divOf m9.modOf m9.shlOf m9.bsrOf m9.asrOf m9.rolOf m9.rorOf m9.andOf m9.orOf m9.xorOf m9.notOf m9.ltOf m9.gtOf m9.geOf m9.leOf m9.eqOf m9.neOf m10.expressionListed m10.inFunction m10.sizeAt m10.operandFault m10.addressListed m10.kindFault m10.targetFault m10.calleeFault m10.sizeFault m10.ownWord m10.hasWord m10.wordFault m10.operandsFault m10.addressFault m10.rowFault m10.labelFault m10.countFault m10.tablesFault m11.labelAt m11.isData m11.isFunctionLabel m12.sizesOf m13.behind m13.openBefore m13.groundIn m13.funcIn m13.scopeIn m13.upIn m13.isListed m13.mayStand m13.followsJump m13.stands m13.allClosed m13.isArm m13.isEndIf m13.nextArm m13.endIfOf m13.pastArm m13.targetOf m13.hasTarget m13.depthOf m13.encloses m14.operandOf m14.operandKind m14.operandNumber m14.hasExpression m14.isTest m14.isOperator m14.isCall m14.expressionUses m14.usedBy m14.operandAt m14.slots m14.rowFrom m14.rowAt m14.slotWords m14.encode m15.all m15.some m15.allOf m15.someOf m15.allBelow m15.someBelow m15.countBelow m15.greatestBelow m15.firstFrom m16.statementIn m16.standsIn m16.rowsOf m16.enters m16.leaves m16.groundOf m16.isFrame m16.kindOfWord m17.byteAddress m17.wordAddress m17.byteGood m17.wordGood m17.wordFrom m17.loadOf m17.storeFrom m18.lower m18.lowest m18.orElse m18.nextBad m18.frameEnds m18.rowsUsed m18.recordGood m18.stepBroken m18.numbersBelow m18.startBroken m19.roundUp m19.reserved m19.answered m19.fetched m19.byteOf m19.applied m19.evalOf m19.holds m20.mark m20.frameWords m20.isFirst m20.isReturnCall m20.isReturn m20.isCalling m20.calledFrom m20.headGood m20.passesOn m20.leavesGood m20.rowsLeft m20.landingOf m21.isAt m21.numberIn m21.fetchOf m21.readOf m21.withWord m21.onRead m21.readAll m22.exportsAs m22.exportOf m22.startAnswer m22.startWorld m22.startBy m22.begunBy m22.startOf m22.startLeaves m23.goingOn m23.movedTo m23.ended m23.stopped m23.goesTo m23.keeps m23.stores m23.blockOf m23.endBlockOf m23.testOf m23.workedOf m23.assigned m23.assignedAt m23.setAtOf m23.setByteBy m23.setWordBy m23.argumentsOf m23.callBy m23.callOf m23.tailCallBy m23.handedTo m23.handedBy m23.returned m23.returnOf m23.effectOf m23.idle m23.effected m23.gated m23.inState m23.stepOf m23.counting m23.runOf
-v2-33-b = refl
-
-abbrev t-v3 : Tables
-t-v3 = record { statements = 1 ∷ 0 ∷ 0 ∷ 0 ∷ 5 ∷ 0 ∷ 0 ∷ 0 ∷ 0 ∷ 0 ∷ 0 ∷ 0 ∷ 0 ∷ 0 ∷ 0 ∷ 0 ∷ 0 ∷ 0 ∷ 0 ∷ 0 ∷ 0 ∷ 0 ∷ 0 ∷ 0 ∷ 0 ∷ 0 ∷ 0 ∷ 5 ∷ 0 ∷ 0 ∷ 1 ∷ 3 ∷ 0 ∷ 36 ∷ 0 ∷ 1 ∷ 0 ∷ 0 ∷ 1 ∷ 3 ∷ 0 ∷ 0 ∷ 0 ∷ 0 ∷ 0 ∷ 0 ∷ 0 ∷ 0 ∷ 0 ∷ 0 ∷ 0 ∷ 0 ∷ 0 ∷ 0 ∷ 5 ∷ 0 ∷ 0 ∷ 1 ∷ 4 ∷ 0 ∷ 37 ∷ 0 ∷ 1 ∷ 0 ∷ 0 ∷ 1 ∷ 1 ∷ 0 ∷ 0 ∷ 0 ∷ 0 ∷ 0 ∷ 0 ∷ 0 ∷ 0 ∷ 0 ∷ 0 ∷ 0 ∷ 0 ∷ 0 ∷ 0 ∷ 13 ∷ 0 ∷ 0 ∷ 1 ∷ 0 ∷ 0 ∷ 1 ∷ 0 ∷ 1 ∷ 0 ∷ 0 ∷ 2 ∷ 4 ∷ 0 ∷ 0 ∷ 0 ∷ 0 ∷ 0 ∷ 0 ∷ 0 ∷ 0 ∷ 0 ∷ 0 ∷ 0 ∷ 0 ∷ 0 ∷ 0 ∷ 2 ∷ 0 ∷ 0 ∷ 0 ∷ 0 ∷ 0 ∷ 0 ∷ 0 ∷ 0 ∷ 0 ∷ 0 ∷ 0 ∷ 0 ∷ 0 ∷ 0 ∷ 0 ∷ 0 ∷ 0 ∷ 0 ∷ 0 ∷ 0 ∷ 0 ∷ 0 ∷ 0 ∷ 0 ∷ 0 ∷ 0 ∷ []; count = 5; labels = 4 ∷ 0 ∷ 0 ∷ 1 ∷ []; labelCount = 1; names = 102 ∷ 0 ∷ 0 ∷ 0 ∷ 0 ∷ 0 ∷ 0 ∷ 0 ∷ 0 ∷ 0 ∷ 0 ∷ 0 ∷ 0 ∷ 0 ∷ 0 ∷ 0 ∷ 0 ∷ 0 ∷ 0 ∷ 0 ∷ 0 ∷ 0 ∷ 0 ∷ 0 ∷ 0 ∷ 0 ∷ 0 ∷ 0 ∷ 0 ∷ 0 ∷ 0 ∷ 0 ∷ 0 ∷ 0 ∷ 0 ∷ 0 ∷ 0 ∷ 0 ∷ 0 ∷ 0 ∷ 0 ∷ 0 ∷ 0 ∷ 0 ∷ 0 ∷ 0 ∷ 0 ∷ 0 ∷ 0 ∷ 0 ∷ 0 ∷ 0 ∷ 0 ∷ 0 ∷ 0 ∷ 0 ∷ 0 ∷ 0 ∷ 0 ∷ 0 ∷ 0 ∷ 0 ∷ 0 ∷ 0 ∷ []; dataLength = 1 }
-
-v3 : runOf Bits32 t-v3 9 (startLeaves Bits32 t-v3 (1 ∷ []) (102 ∷ []) ([]) (record { machine = freshOf 7 7 7; stack = replicate 5 9; memory = replicate 12 8 })) .world .machine .state ≡ Finished 8
-unfolding m1.byteAt m2.ifLt m2.ifEq m2.ifTrue m3.key m3.leastOf m4.sameList m4.clearedFrom m4.overlay m5.walk m6.freshOf m7.words m7.firstOf m7.isNamed m7.isNumber m7.entryNamed m7.entryOf m7.numberOf m7.leastOperands m7.mostOperands m8.wordBytes m9.addOf m9.subOf m9.mulOf m9.divOf m9.modOf m9.shlOf m9.bsrOf m9.asrOf m9.rolOf m9.rorOf m9.andOf m9.orOf m9.xorOf m9.notOf m9.ltOf m9.gtOf m9.geOf m9.leOf m9.eqOf m9.neOf m10.expressionListed m10.inFunction m10.sizeAt m10.operandFault m10.addressListed m10.kindFault m10.targetFault m10.calleeFault m10.sizeFault m10.ownWord m10.hasWord m10.wordFault m10.operandsFault m10.addressFault m10.rowFault m10.labelFault m10.countFault m10.tablesFault m11.labelAt m11.isData m11.isFunctionLabel m12.sizesOf m13.behind m13.openBefore m13.groundIn m13.funcIn m13.scopeIn m13.upIn m13.isListed m13.mayStand m13.followsJump m13.stands m13.allClosed m13.isArm m13.isEndIf m13.nextArm m13.endIfOf m13.pastArm m13.targetOf m13.hasTarget m13.depthOf m13.encloses m14.operandOf m14.operandKind m14.operandNumber m14.hasExpression m14.isTest m14.isOperator m14.isCall m14.expressionUses m14.usedBy m14.operandAt m14.slots m14.rowFrom m14.rowAt m14.slotWords m14.encode m15.all m15.some m15.allOf m15.someOf m15.allBelow m15.someBelow m15.countBelow m15.greatestBelow m15.firstFrom m16.statementIn m16.standsIn m16.rowsOf m16.enters m16.leaves m16.groundOf m16.isFrame m16.kindOfWord m17.byteAddress m17.wordAddress m17.byteGood m17.wordGood m17.wordFrom m17.loadOf m17.storeFrom m18.lower m18.lowest m18.orElse m18.nextBad m18.frameEnds m18.rowsUsed m18.recordGood m18.stepBroken m18.numbersBelow m18.startBroken m19.roundUp m19.reserved m19.answered m19.fetched m19.byteOf m19.applied m19.evalOf m19.holds m20.mark m20.frameWords m20.isFirst m20.isReturnCall m20.isReturn m20.isCalling m20.calledFrom m20.headGood m20.passesOn m20.leavesGood m20.rowsLeft m20.landingOf m21.isAt m21.numberIn m21.fetchOf m21.readOf m21.withWord m21.onRead m21.readAll m22.exportsAs m22.exportOf m22.startAnswer m22.startWorld m22.startBy m22.begunBy m22.startOf m22.startLeaves m23.goingOn m23.movedTo m23.ended m23.stopped m23.goesTo m23.keeps m23.stores m23.blockOf m23.endBlockOf m23.testOf m23.workedOf m23.assigned m23.assignedAt m23.setAtOf m23.setByteBy m23.setWordBy m23.argumentsOf m23.callBy m23.callOf m23.tailCallBy m23.handedTo m23.handedBy m23.returned m23.returnOf m23.effectOf m23.idle m23.effected m23.gated m23.inState m23.stepOf m23.counting m23.runOf
-v3 = refl
-
-v3-n : runOf Bits32 t-v3 9 (startLeaves Bits32 t-v3 (1 ∷ []) (102 ∷ []) ([]) (record { machine = freshOf 7 7 7; stack = replicate 5 9; memory = replicate 12 8 })) .count ≡ 3
-unfolding m1.byteAt m2.ifLt m2.ifEq m2.ifTrue m3.key m3.leastOf m4.sameList m4.clearedFrom m4.overlay m5.walk m6.freshOf m7.words m7.firstOf m7.isNamed m7.isNumber m7.entryNamed m7.entryOf m7.numberOf m7.leastOperands m7.mostOperands m8.wordBytes m9.addOf m9.subOf m9.mulOf m9.divOf m9.modOf m9.shlOf m9.bsrOf m9.asrOf m9.rolOf m9.rorOf m9.andOf m9.orOf m9.xorOf m9.notOf m9.ltOf m9.gtOf m9.geOf m9.leOf m9.eqOf m9.neOf m10.expressionListed m10.inFunction m10.sizeAt m10.operandFault m10.addressListed m10.kindFault m10.targetFault m10.calleeFault m10.sizeFault m10.ownWord m10.hasWord m10.wordFault m10.operandsFault m10.addressFault m10.rowFault m10.labelFault m10.countFault m10.tablesFault m11.labelAt m11.isData m11.isFunctionLabel m12.sizesOf m13.behind m13.openBefore m13.groundIn m13.funcIn m13.scopeIn m13.upIn m13.isListed m13.mayStand m13.followsJump m13.stands m13.allClosed m13.isArm m13.isEndIf m13.nextArm m13.endIfOf m13.pastArm m13.targetOf m13.hasTarget m13.depthOf m13.encloses m14.operandOf m14.operandKind m14.operandNumber m14.hasExpression m14.isTest m14.isOperator m14.isCall m14.expressionUses m14.usedBy m14.operandAt m14.slots m14.rowFrom m14.rowAt m14.slotWords m14.encode m15.all m15.some m15.allOf m15.someOf m15.allBelow m15.someBelow m15.countBelow m15.greatestBelow m15.firstFrom m16.statementIn m16.standsIn m16.rowsOf m16.enters m16.leaves m16.groundOf m16.isFrame m16.kindOfWord m17.byteAddress m17.wordAddress m17.byteGood m17.wordGood m17.wordFrom m17.loadOf m17.storeFrom m18.lower m18.lowest m18.orElse m18.nextBad m18.frameEnds m18.rowsUsed m18.recordGood m18.stepBroken m18.numbersBelow m18.startBroken m19.roundUp m19.reserved m19.answered m19.fetched m19.byteOf m19.applied m19.evalOf m19.holds m20.mark m20.frameWords m20.isFirst m20.isReturnCall m20.isReturn m20.isCalling m20.calledFrom m20.headGood m20.passesOn m20.leavesGood m20.rowsLeft m20.landingOf m21.isAt m21.numberIn m21.fetchOf m21.readOf m21.withWord m21.onRead m21.readAll m22.exportsAs m22.exportOf m22.startAnswer m22.startWorld m22.startBy m22.begunBy m22.startOf m22.startLeaves m23.goingOn m23.movedTo m23.ended m23.stopped m23.goesTo m23.keeps m23.stores m23.blockOf m23.endBlockOf m23.testOf m23.workedOf m23.assigned m23.assignedAt m23.setAtOf m23.setByteBy m23.setWordBy m23.argumentsOf m23.callBy m23.callOf m23.tailCallBy m23.handedTo m23.handedBy m23.returned m23.returnOf m23.effectOf m23.idle m23.effected m23.gated m23.inState m23.stepOf m23.counting m23.runOf
-v3-n = refl
-
-v3-u : runOf Bits32 t-v3 9 (startLeaves Bits32 t-v3 (1 ∷ []) (102 ∷ []) ([]) (record { machine = freshOf 7 7 7; stack = replicate 5 9; memory = replicate 12 8 })) .world .machine .used ≡ 0
-unfolding m1.byteAt m2.ifLt m2.ifEq m2.ifTrue m3.key m3.leastOf m4.sameList m4.clearedFrom m4.overlay m5.walk m6.freshOf m7.words m7.firstOf m7.isNamed m7.isNumber m7.entryNamed m7.entryOf m7.numberOf m7.leastOperands m7.mostOperands m8.wordBytes m9.addOf m9.subOf m9.mulOf m9.divOf m9.modOf m9.shlOf m9.bsrOf m9.asrOf m9.rolOf m9.rorOf m9.andOf m9.orOf m9.xorOf m9.notOf m9.ltOf m9.gtOf m9.geOf m9.leOf m9.eqOf m9.neOf m10.expressionListed m10.inFunction m10.sizeAt m10.operandFault m10.addressListed m10.kindFault m10.targetFault m10.calleeFault m10.sizeFault m10.ownWord m10.hasWord m10.wordFault m10.operandsFault m10.addressFault m10.rowFault m10.labelFault m10.countFault m10.tablesFault m11.labelAt m11.isData m11.isFunctionLabel m12.sizesOf m13.behind m13.openBefore m13.groundIn m13.funcIn m13.scopeIn m13.upIn m13.isListed m13.mayStand m13.followsJump m13.stands m13.allClosed m13.isArm m13.isEndIf m13.nextArm m13.endIfOf m13.pastArm m13.targetOf m13.hasTarget m13.depthOf m13.encloses m14.operandOf m14.operandKind m14.operandNumber m14.hasExpression m14.isTest m14.isOperator m14.isCall m14.expressionUses m14.usedBy m14.operandAt m14.slots m14.rowFrom m14.rowAt m14.slotWords m14.encode m15.all m15.some m15.allOf m15.someOf m15.allBelow m15.someBelow m15.countBelow m15.greatestBelow m15.firstFrom m16.statementIn m16.standsIn m16.rowsOf m16.enters m16.leaves m16.groundOf m16.isFrame m16.kindOfWord m17.byteAddress m17.wordAddress m17.byteGood m17.wordGood m17.wordFrom m17.loadOf m17.storeFrom m18.lower m18.lowest m18.orElse m18.nextBad m18.frameEnds m18.rowsUsed m18.recordGood m18.stepBroken m18.numbersBelow m18.startBroken m19.roundUp m19.reserved m19.answered m19.fetched m19.byteOf m19.applied m19.evalOf m19.holds m20.mark m20.frameWords m20.isFirst m20.isReturnCall m20.isReturn m20.isCalling m20.calledFrom m20.headGood m20.passesOn m20.leavesGood m20.rowsLeft m20.landingOf m21.isAt m21.numberIn m21.fetchOf m21.readOf m21.withWord m21.onRead m21.readAll m22.exportsAs m22.exportOf m22.startAnswer m22.startWorld m22.startBy m22.begunBy m22.startOf m22.startLeaves m23.goingOn m23.movedTo m23.ended m23.stopped m23.goesTo m23.keeps m23.stores m23.blockOf m23.endBlockOf m23.testOf m23.workedOf m23.assigned m23.assignedAt m23.setAtOf m23.setByteBy m23.setWordBy m23.argumentsOf m23.callBy m23.callOf m23.tailCallBy m23.handedTo m23.handedBy m23.returned m23.returnOf m23.effectOf m23.idle m23.effected m23.gated m23.inState m23.stepOf m23.counting m23.runOf
-v3-u = refl
-
-abbrev t-v3-34 : Tables
-t-v3-34 = record { statements = 1 ∷ 0 ∷ 0 ∷ 0 ∷ 5 ∷ 0 ∷ 0 ∷ 0 ∷ 0 ∷ 0 ∷ 0 ∷ 0 ∷ 0 ∷ 0 ∷ 0 ∷ 0 ∷ 0 ∷ 0 ∷ 0 ∷ 0 ∷ 0 ∷ 0 ∷ 0 ∷ 0 ∷ 0 ∷ 0 ∷ 0 ∷ 5 ∷ 0 ∷ 0 ∷ 1 ∷ 3 ∷ 0 ∷ 36 ∷ 0 ∷ 1 ∷ 0 ∷ 0 ∷ 1 ∷ 3 ∷ 0 ∷ 0 ∷ 0 ∷ 0 ∷ 0 ∷ 0 ∷ 0 ∷ 0 ∷ 0 ∷ 0 ∷ 0 ∷ 0 ∷ 0 ∷ 0 ∷ 5 ∷ 0 ∷ 0 ∷ 1 ∷ 4 ∷ 0 ∷ 37 ∷ 0 ∷ 1 ∷ 0 ∷ 0 ∷ 1 ∷ 1 ∷ 0 ∷ 0 ∷ 0 ∷ 0 ∷ 0 ∷ 0 ∷ 0 ∷ 0 ∷ 0 ∷ 0 ∷ 0 ∷ 0 ∷ 0 ∷ 0 ∷ 13 ∷ 0 ∷ 0 ∷ 1 ∷ 0 ∷ 0 ∷ 1 ∷ 0 ∷ 1 ∷ 0 ∷ 0 ∷ 2 ∷ 4 ∷ 0 ∷ 0 ∷ 0 ∷ 0 ∷ 0 ∷ 0 ∷ 0 ∷ 0 ∷ 0 ∷ 0 ∷ 0 ∷ 0 ∷ 0 ∷ 0 ∷ 2 ∷ 0 ∷ 0 ∷ 0 ∷ 0 ∷ 0 ∷ 0 ∷ 0 ∷ 0 ∷ 0 ∷ 0 ∷ 0 ∷ 0 ∷ 0 ∷ 0 ∷ 0 ∷ 0 ∷ 0 ∷ 0 ∷ 0 ∷ 0 ∷ 0 ∷ 0 ∷ 0 ∷ 0 ∷ 0 ∷ 0 ∷ []; count = 5; labels = 4 ∷ 0 ∷ 0 ∷ 1 ∷ []; labelCount = 1; names = 102 ∷ 0 ∷ 0 ∷ 0 ∷ 0 ∷ 0 ∷ 0 ∷ 0 ∷ 0 ∷ 0 ∷ 0 ∷ 0 ∷ 0 ∷ 0 ∷ 0 ∷ 0 ∷ 0 ∷ 0 ∷ 0 ∷ 0 ∷ 0 ∷ 0 ∷ 0 ∷ 0 ∷ 0 ∷ 0 ∷ 0 ∷ 0 ∷ 0 ∷ 0 ∷ 0 ∷ 0 ∷ 0 ∷ 0 ∷ 0 ∷ 0 ∷ 0 ∷ 0 ∷ 0 ∷ 0 ∷ 0 ∷ 0 ∷ 0 ∷ 0 ∷ 0 ∷ 0 ∷ 0 ∷ 0 ∷ 0 ∷ 0 ∷ 0 ∷ 0 ∷ 0 ∷ 0 ∷ 0 ∷ 0 ∷ 0 ∷ 0 ∷ 0 ∷ 0 ∷ 0 ∷ 0 ∷ 0 ∷ 0 ∷ []; dataLength = 1 }
-
-v3-34 : runOf Bits32 t-v3-34 9 (startLeaves Bits32 t-v3-34 (1 ∷ []) (102 ∷ []) ([]) (record { machine = freshOf 7 7 7; stack = replicate 5 9; memory = replicate 11 8 })) .world .machine .state ≡ Stopped 34 2
-unfolding m1.byteAt m2.ifLt m2.ifEq m2.ifTrue m3.key m3.leastOf m4.sameList m4.clearedFrom m4.overlay m5.walk m6.freshOf m7.words m7.firstOf m7.isNamed m7.isNumber m7.entryNamed m7.entryOf m7.numberOf m7.leastOperands m7.mostOperands m8.wordBytes m9.addOf m9.subOf m9.mulOf m9.divOf m9.modOf m9.shlOf m9.bsrOf m9.asrOf m9.rolOf m9.rorOf m9.andOf m9.orOf m9.xorOf m9.notOf m9.ltOf m9.gtOf m9.geOf m9.leOf m9.eqOf m9.neOf m10.expressionListed m10.inFunction m10.sizeAt m10.operandFault m10.addressListed m10.kindFault m10.targetFault m10.calleeFault m10.sizeFault m10.ownWord m10.hasWord m10.wordFault m10.operandsFault m10.addressFault m10.rowFault m10.labelFault m10.countFault m10.tablesFault m11.labelAt m11.isData m11.isFunctionLabel m12.sizesOf m13.behind m13.openBefore m13.groundIn m13.funcIn m13.scopeIn m13.upIn m13.isListed m13.mayStand m13.followsJump m13.stands m13.allClosed m13.isArm m13.isEndIf m13.nextArm m13.endIfOf m13.pastArm m13.targetOf m13.hasTarget m13.depthOf m13.encloses m14.operandOf m14.operandKind m14.operandNumber m14.hasExpression m14.isTest m14.isOperator m14.isCall m14.expressionUses m14.usedBy m14.operandAt m14.slots m14.rowFrom m14.rowAt m14.slotWords m14.encode m15.all m15.some m15.allOf m15.someOf m15.allBelow m15.someBelow m15.countBelow m15.greatestBelow m15.firstFrom m16.statementIn m16.standsIn m16.rowsOf m16.enters m16.leaves m16.groundOf m16.isFrame m16.kindOfWord m17.byteAddress m17.wordAddress m17.byteGood m17.wordGood m17.wordFrom m17.loadOf m17.storeFrom m18.lower m18.lowest m18.orElse m18.nextBad m18.frameEnds m18.rowsUsed m18.recordGood m18.stepBroken m18.numbersBelow m18.startBroken m19.roundUp m19.reserved m19.answered m19.fetched m19.byteOf m19.applied m19.evalOf m19.holds m20.mark m20.frameWords m20.isFirst m20.isReturnCall m20.isReturn m20.isCalling m20.calledFrom m20.headGood m20.passesOn m20.leavesGood m20.rowsLeft m20.landingOf m21.isAt m21.numberIn m21.fetchOf m21.readOf m21.withWord m21.onRead m21.readAll m22.exportsAs m22.exportOf m22.startAnswer m22.startWorld m22.startBy m22.begunBy m22.startOf m22.startLeaves m23.goingOn m23.movedTo m23.ended m23.stopped m23.goesTo m23.keeps m23.stores m23.blockOf m23.endBlockOf m23.testOf m23.workedOf m23.assigned m23.assignedAt m23.setAtOf m23.setByteBy m23.setWordBy m23.argumentsOf m23.callBy m23.callOf m23.tailCallBy m23.handedTo m23.handedBy m23.returned m23.returnOf m23.effectOf m23.idle m23.effected m23.gated m23.inState m23.stepOf m23.counting m23.runOf
-v3-34 = refl
-
-v3-34-n : runOf Bits32 t-v3-34 9 (startLeaves Bits32 t-v3-34 (1 ∷ []) (102 ∷ []) ([]) (record { machine = freshOf 7 7 7; stack = replicate 5 9; memory = replicate 11 8 })) .count ≡ 1
-unfolding m1.byteAt m2.ifLt m2.ifEq m2.ifTrue m3.key m3.leastOf m4.sameList m4.clearedFrom m4.overlay m5.walk m6.freshOf m7.words m7.firstOf m7.isNamed m7.isNumber m7.entryNamed m7.entryOf m7.numberOf m7.leastOperands m7.mostOperands m8.wordBytes m9.addOf m9.subOf m9.mulOf m9.divOf m9.modOf m9.shlOf m9.bsrOf m9.asrOf m9.rolOf m9.rorOf m9.andOf m9.orOf m9.xorOf m9.notOf m9.ltOf m9.gtOf m9.geOf m9.leOf m9.eqOf m9.neOf m10.expressionListed m10.inFunction m10.sizeAt m10.operandFault m10.addressListed m10.kindFault m10.targetFault m10.calleeFault m10.sizeFault m10.ownWord m10.hasWord m10.wordFault m10.operandsFault m10.addressFault m10.rowFault m10.labelFault m10.countFault m10.tablesFault m11.labelAt m11.isData m11.isFunctionLabel m12.sizesOf m13.behind m13.openBefore m13.groundIn m13.funcIn m13.scopeIn m13.upIn m13.isListed m13.mayStand m13.followsJump m13.stands m13.allClosed m13.isArm m13.isEndIf m13.nextArm m13.endIfOf m13.pastArm m13.targetOf m13.hasTarget m13.depthOf m13.encloses m14.operandOf m14.operandKind m14.operandNumber m14.hasExpression m14.isTest m14.isOperator m14.isCall m14.expressionUses m14.usedBy m14.operandAt m14.slots m14.rowFrom m14.rowAt m14.slotWords m14.encode m15.all m15.some m15.allOf m15.someOf m15.allBelow m15.someBelow m15.countBelow m15.greatestBelow m15.firstFrom m16.statementIn m16.standsIn m16.rowsOf m16.enters m16.leaves m16.groundOf m16.isFrame m16.kindOfWord m17.byteAddress m17.wordAddress m17.byteGood m17.wordGood m17.wordFrom m17.loadOf m17.storeFrom m18.lower m18.lowest m18.orElse m18.nextBad m18.frameEnds m18.rowsUsed m18.recordGood m18.stepBroken m18.numbersBelow m18.startBroken m19.roundUp m19.reserved m19.answered m19.fetched m19.byteOf m19.applied m19.evalOf m19.holds m20.mark m20.frameWords m20.isFirst m20.isReturnCall m20.isReturn m20.isCalling m20.calledFrom m20.headGood m20.passesOn m20.leavesGood m20.rowsLeft m20.landingOf m21.isAt m21.numberIn m21.fetchOf m21.readOf m21.withWord m21.onRead m21.readAll m22.exportsAs m22.exportOf m22.startAnswer m22.startWorld m22.startBy m22.begunBy m22.startOf m22.startLeaves m23.goingOn m23.movedTo m23.ended m23.stopped m23.goesTo m23.keeps m23.stores m23.blockOf m23.endBlockOf m23.testOf m23.workedOf m23.assigned m23.assignedAt m23.setAtOf m23.setByteBy m23.setWordBy m23.argumentsOf m23.callBy m23.callOf m23.tailCallBy m23.handedTo m23.handedBy m23.returned m23.returnOf m23.effectOf m23.idle m23.effected m23.gated m23.inState m23.stepOf m23.counting m23.runOf
-v3-34-n = refl
-
-v3-34-b : runOf Bits32 t-v3-34 9 (startLeaves Bits32 t-v3-34 (1 ∷ []) (102 ∷ []) ([]) (record { machine = freshOf 7 7 7; stack = replicate 5 9; memory = replicate 11 8 })) .broken ≡ No
-unfolding m1.byteAt m2.ifLt m2.ifEq m2.ifTrue m3.key m3.leastOf m4.sameList m4.clearedFrom m4.overlay m5.walk m6.freshOf m7.words m7.firstOf m7.isNamed m7.isNumber m7.entryNamed m7.entryOf m7.numberOf m7.leastOperands m7.mostOperands m8.wordBytes m9.addOf m9.subOf m9.mulOf m9.divOf m9.modOf m9.shlOf m9.bsrOf m9.asrOf m9.rolOf m9.rorOf m9.andOf m9.orOf m9.xorOf m9.notOf m9.ltOf m9.gtOf m9.geOf m9.leOf m9.eqOf m9.neOf m10.expressionListed m10.inFunction m10.sizeAt m10.operandFault m10.addressListed m10.kindFault m10.targetFault m10.calleeFault m10.sizeFault m10.ownWord m10.hasWord m10.wordFault m10.operandsFault m10.addressFault m10.rowFault m10.labelFault m10.countFault m10.tablesFault m11.labelAt m11.isData m11.isFunctionLabel m12.sizesOf m13.behind m13.openBefore m13.groundIn m13.funcIn m13.scopeIn m13.upIn m13.isListed m13.mayStand m13.followsJump m13.stands m13.allClosed m13.isArm m13.isEndIf m13.nextArm m13.endIfOf m13.pastArm m13.targetOf m13.hasTarget m13.depthOf m13.encloses m14.operandOf m14.operandKind m14.operandNumber m14.hasExpression m14.isTest m14.isOperator m14.isCall m14.expressionUses m14.usedBy m14.operandAt m14.slots m14.rowFrom m14.rowAt m14.slotWords m14.encode m15.all m15.some m15.allOf m15.someOf m15.allBelow m15.someBelow m15.countBelow m15.greatestBelow m15.firstFrom m16.statementIn m16.standsIn m16.rowsOf m16.enters m16.leaves m16.groundOf m16.isFrame m16.kindOfWord m17.byteAddress m17.wordAddress m17.byteGood m17.wordGood m17.wordFrom m17.loadOf m17.storeFrom m18.lower m18.lowest m18.orElse m18.nextBad m18.frameEnds m18.rowsUsed m18.recordGood m18.stepBroken m18.numbersBelow m18.startBroken m19.roundUp m19.reserved m19.answered m19.fetched m19.byteOf m19.applied m19.evalOf m19.holds m20.mark m20.frameWords m20.isFirst m20.isReturnCall m20.isReturn m20.isCalling m20.calledFrom m20.headGood m20.passesOn m20.leavesGood m20.rowsLeft m20.landingOf m21.isAt m21.numberIn m21.fetchOf m21.readOf m21.withWord m21.onRead m21.readAll m22.exportsAs m22.exportOf m22.startAnswer m22.startWorld m22.startBy m22.begunBy m22.startOf m22.startLeaves m23.goingOn m23.movedTo m23.ended m23.stopped m23.goesTo m23.keeps m23.stores m23.blockOf m23.endBlockOf m23.testOf m23.workedOf m23.assigned m23.assignedAt m23.setAtOf m23.setByteBy m23.setWordBy m23.argumentsOf m23.callBy m23.callOf m23.tailCallBy m23.handedTo m23.handedBy m23.returned m23.returnOf m23.effectOf m23.idle m23.effected m23.gated m23.inState m23.stepOf m23.counting m23.runOf
-v3-34-b = refl
-
-abbrev t-v4 : Tables
-t-v4 = record { statements = 1 ∷ 0 ∷ 0 ∷ 0 ∷ 4 ∷ 0 ∷ 0 ∷ 0 ∷ 0 ∷ 0 ∷ 0 ∷ 0 ∷ 0 ∷ 0 ∷ 0 ∷ 0 ∷ 0 ∷ 0 ∷ 0 ∷ 0 ∷ 0 ∷ 0 ∷ 0 ∷ 0 ∷ 0 ∷ 0 ∷ 0 ∷ 5 ∷ 0 ∷ 0 ∷ 1 ∷ 3 ∷ 0 ∷ 36 ∷ 0 ∷ 1 ∷ 0 ∷ 0 ∷ 1 ∷ 0 ∷ 0 ∷ 0 ∷ 0 ∷ 0 ∷ 0 ∷ 0 ∷ 0 ∷ 0 ∷ 0 ∷ 0 ∷ 0 ∷ 0 ∷ 0 ∷ 0 ∷ 13 ∷ 0 ∷ 0 ∷ 1 ∷ 0 ∷ 0 ∷ 1 ∷ 0 ∷ 1 ∷ 0 ∷ 0 ∷ 2 ∷ 3 ∷ 0 ∷ 0 ∷ 0 ∷ 0 ∷ 0 ∷ 0 ∷ 0 ∷ 0 ∷ 0 ∷ 0 ∷ 0 ∷ 0 ∷ 0 ∷ 0 ∷ 2 ∷ 0 ∷ 0 ∷ 0 ∷ 0 ∷ 0 ∷ 0 ∷ 0 ∷ 0 ∷ 0 ∷ 0 ∷ 0 ∷ 0 ∷ 0 ∷ 0 ∷ 0 ∷ 0 ∷ 0 ∷ 0 ∷ 0 ∷ 0 ∷ 0 ∷ 0 ∷ 0 ∷ 0 ∷ 0 ∷ 0 ∷ []; count = 4; labels = 4 ∷ 0 ∷ 0 ∷ 1 ∷ []; labelCount = 1; names = 102 ∷ 0 ∷ 0 ∷ 0 ∷ 0 ∷ 0 ∷ 0 ∷ 0 ∷ 0 ∷ 0 ∷ 0 ∷ 0 ∷ 0 ∷ 0 ∷ 0 ∷ 0 ∷ 0 ∷ 0 ∷ 0 ∷ 0 ∷ 0 ∷ 0 ∷ 0 ∷ 0 ∷ 0 ∷ 0 ∷ 0 ∷ 0 ∷ 0 ∷ 0 ∷ 0 ∷ 0 ∷ 0 ∷ 0 ∷ 0 ∷ 0 ∷ 0 ∷ 0 ∷ 0 ∷ 0 ∷ 0 ∷ 0 ∷ 0 ∷ 0 ∷ 0 ∷ 0 ∷ 0 ∷ 0 ∷ 0 ∷ 0 ∷ 0 ∷ 0 ∷ 0 ∷ 0 ∷ 0 ∷ 0 ∷ 0 ∷ 0 ∷ 0 ∷ 0 ∷ 0 ∷ 0 ∷ 0 ∷ 0 ∷ []; dataLength = 1 }
-
-v4 : runOf Bits32 t-v4 9 (startLeaves Bits32 t-v4 (1 ∷ []) (102 ∷ []) ([]) (record { machine = freshOf 7 7 7; stack = replicate 5 9; memory = replicate 4 8 })) .world .machine .state ≡ Finished 4
-unfolding m1.byteAt m2.ifLt m2.ifEq m2.ifTrue m3.key m3.leastOf m4.sameList m4.clearedFrom m4.overlay m5.walk m6.freshOf m7.words m7.firstOf m7.isNamed m7.isNumber m7.entryNamed m7.entryOf m7.numberOf m7.leastOperands m7.mostOperands m8.wordBytes m9.addOf m9.subOf m9.mulOf m9.divOf m9.modOf m9.shlOf m9.bsrOf m9.asrOf m9.rolOf m9.rorOf m9.andOf m9.orOf m9.xorOf m9.notOf m9.ltOf m9.gtOf m9.geOf m9.leOf m9.eqOf m9.neOf m10.expressionListed m10.inFunction m10.sizeAt m10.operandFault m10.addressListed m10.kindFault m10.targetFault m10.calleeFault m10.sizeFault m10.ownWord m10.hasWord m10.wordFault m10.operandsFault m10.addressFault m10.rowFault m10.labelFault m10.countFault m10.tablesFault m11.labelAt m11.isData m11.isFunctionLabel m12.sizesOf m13.behind m13.openBefore m13.groundIn m13.funcIn m13.scopeIn m13.upIn m13.isListed m13.mayStand m13.followsJump m13.stands m13.allClosed m13.isArm m13.isEndIf m13.nextArm m13.endIfOf m13.pastArm m13.targetOf m13.hasTarget m13.depthOf m13.encloses m14.operandOf m14.operandKind m14.operandNumber m14.hasExpression m14.isTest m14.isOperator m14.isCall m14.expressionUses m14.usedBy m14.operandAt m14.slots m14.rowFrom m14.rowAt m14.slotWords m14.encode m15.all m15.some m15.allOf m15.someOf m15.allBelow m15.someBelow m15.countBelow m15.greatestBelow m15.firstFrom m16.statementIn m16.standsIn m16.rowsOf m16.enters m16.leaves m16.groundOf m16.isFrame m16.kindOfWord m17.byteAddress m17.wordAddress m17.byteGood m17.wordGood m17.wordFrom m17.loadOf m17.storeFrom m18.lower m18.lowest m18.orElse m18.nextBad m18.frameEnds m18.rowsUsed m18.recordGood m18.stepBroken m18.numbersBelow m18.startBroken m19.roundUp m19.reserved m19.answered m19.fetched m19.byteOf m19.applied m19.evalOf m19.holds m20.mark m20.frameWords m20.isFirst m20.isReturnCall m20.isReturn m20.isCalling m20.calledFrom m20.headGood m20.passesOn m20.leavesGood m20.rowsLeft m20.landingOf m21.isAt m21.numberIn m21.fetchOf m21.readOf m21.withWord m21.onRead m21.readAll m22.exportsAs m22.exportOf m22.startAnswer m22.startWorld m22.startBy m22.begunBy m22.startOf m22.startLeaves m23.goingOn m23.movedTo m23.ended m23.stopped m23.goesTo m23.keeps m23.stores m23.blockOf m23.endBlockOf m23.testOf m23.workedOf m23.assigned m23.assignedAt m23.setAtOf m23.setByteBy m23.setWordBy m23.argumentsOf m23.callBy m23.callOf m23.tailCallBy m23.handedTo m23.handedBy m23.returned m23.returnOf m23.effectOf m23.idle m23.effected m23.gated m23.inState m23.stepOf m23.counting m23.runOf
-v4 = refl
-
-v4-n : runOf Bits32 t-v4 9 (startLeaves Bits32 t-v4 (1 ∷ []) (102 ∷ []) ([]) (record { machine = freshOf 7 7 7; stack = replicate 5 9; memory = replicate 4 8 })) .count ≡ 2
-unfolding m1.byteAt m2.ifLt m2.ifEq m2.ifTrue m3.key m3.leastOf m4.sameList m4.clearedFrom m4.overlay m5.walk m6.freshOf m7.words m7.firstOf m7.isNamed m7.isNumber m7.entryNamed m7.entryOf m7.numberOf m7.leastOperands m7.mostOperands m8.wordBytes m9.addOf m9.subOf m9.mulOf m9.divOf m9.modOf m9.shlOf m9.bsrOf m9.asrOf m9.rolOf m9.rorOf m9.andOf m9.orOf m9.xorOf m9.notOf m9.ltOf m9.gtOf m9.geOf m9.leOf m9.eqOf m9.neOf m10.expressionListed m10.inFunction m10.sizeAt m10.operandFault m10.addressListed m10.kindFault m10.targetFault m10.calleeFault m10.sizeFault m10.ownWord m10.hasWord m10.wordFault m10.operandsFault m10.addressFault m10.rowFault m10.labelFault m10.countFault m10.tablesFault m11.labelAt m11.isData m11.isFunctionLabel m12.sizesOf m13.behind m13.openBefore m13.groundIn m13.funcIn m13.scopeIn m13.upIn m13.isListed m13.mayStand m13.followsJump m13.stands m13.allClosed m13.isArm m13.isEndIf m13.nextArm m13.endIfOf m13.pastArm m13.targetOf m13.hasTarget m13.depthOf m13.encloses m14.operandOf m14.operandKind m14.operandNumber m14.hasExpression m14.isTest m14.isOperator m14.isCall m14.expressionUses m14.usedBy m14.operandAt m14.slots m14.rowFrom m14.rowAt m14.slotWords m14.encode m15.all m15.some m15.allOf m15.someOf m15.allBelow m15.someBelow m15.countBelow m15.greatestBelow m15.firstFrom m16.statementIn m16.standsIn m16.rowsOf m16.enters m16.leaves m16.groundOf m16.isFrame m16.kindOfWord m17.byteAddress m17.wordAddress m17.byteGood m17.wordGood m17.wordFrom m17.loadOf m17.storeFrom m18.lower m18.lowest m18.orElse m18.nextBad m18.frameEnds m18.rowsUsed m18.recordGood m18.stepBroken m18.numbersBelow m18.startBroken m19.roundUp m19.reserved m19.answered m19.fetched m19.byteOf m19.applied m19.evalOf m19.holds m20.mark m20.frameWords m20.isFirst m20.isReturnCall m20.isReturn m20.isCalling m20.calledFrom m20.headGood m20.passesOn m20.leavesGood m20.rowsLeft m20.landingOf m21.isAt m21.numberIn m21.fetchOf m21.readOf m21.withWord m21.onRead m21.readAll m22.exportsAs m22.exportOf m22.startAnswer m22.startWorld m22.startBy m22.begunBy m22.startOf m22.startLeaves m23.goingOn m23.movedTo m23.ended m23.stopped m23.goesTo m23.keeps m23.stores m23.blockOf m23.endBlockOf m23.testOf m23.workedOf m23.assigned m23.assignedAt m23.setAtOf m23.setByteBy m23.setWordBy m23.argumentsOf m23.callBy m23.callOf m23.tailCallBy m23.handedTo m23.handedBy m23.returned m23.returnOf m23.effectOf m23.idle m23.effected m23.gated m23.inState m23.stepOf m23.counting m23.runOf
-v4-n = refl
-
-v4-u : runOf Bits32 t-v4 9 (startLeaves Bits32 t-v4 (1 ∷ []) (102 ∷ []) ([]) (record { machine = freshOf 7 7 7; stack = replicate 5 9; memory = replicate 4 8 })) .world .machine .used ≡ 0
-unfolding m1.byteAt m2.ifLt m2.ifEq m2.ifTrue m3.key m3.leastOf m4.sameList m4.clearedFrom m4.overlay m5.walk m6.freshOf m7.words m7.firstOf m7.isNamed m7.isNumber m7.entryNamed m7.entryOf m7.numberOf m7.leastOperands m7.mostOperands m8.wordBytes m9.addOf m9.subOf m9.mulOf m9.divOf m9.modOf m9.shlOf m9.bsrOf m9.asrOf m9.rolOf m9.rorOf m9.andOf m9.orOf m9.xorOf m9.notOf m9.ltOf m9.gtOf m9.geOf m9.leOf m9.eqOf m9.neOf m10.expressionListed m10.inFunction m10.sizeAt m10.operandFault m10.addressListed m10.kindFault m10.targetFault m10.calleeFault m10.sizeFault m10.ownWord m10.hasWord m10.wordFault m10.operandsFault m10.addressFault m10.rowFault m10.labelFault m10.countFault m10.tablesFault m11.labelAt m11.isData m11.isFunctionLabel m12.sizesOf m13.behind m13.openBefore m13.groundIn m13.funcIn m13.scopeIn m13.upIn m13.isListed m13.mayStand m13.followsJump m13.stands m13.allClosed m13.isArm m13.isEndIf m13.nextArm m13.endIfOf m13.pastArm m13.targetOf m13.hasTarget m13.depthOf m13.encloses m14.operandOf m14.operandKind m14.operandNumber m14.hasExpression m14.isTest m14.isOperator m14.isCall m14.expressionUses m14.usedBy m14.operandAt m14.slots m14.rowFrom m14.rowAt m14.slotWords m14.encode m15.all m15.some m15.allOf m15.someOf m15.allBelow m15.someBelow m15.countBelow m15.greatestBelow m15.firstFrom m16.statementIn m16.standsIn m16.rowsOf m16.enters m16.leaves m16.groundOf m16.isFrame m16.kindOfWord m17.byteAddress m17.wordAddress m17.byteGood m17.wordGood m17.wordFrom m17.loadOf m17.storeFrom m18.lower m18.lowest m18.orElse m18.nextBad m18.frameEnds m18.rowsUsed m18.recordGood m18.stepBroken m18.numbersBelow m18.startBroken m19.roundUp m19.reserved m19.answered m19.fetched m19.byteOf m19.applied m19.evalOf m19.holds m20.mark m20.frameWords m20.isFirst m20.isReturnCall m20.isReturn m20.isCalling m20.calledFrom m20.headGood m20.passesOn m20.leavesGood m20.rowsLeft m20.landingOf m21.isAt m21.numberIn m21.fetchOf m21.readOf m21.withWord m21.onRead m21.readAll m22.exportsAs m22.exportOf m22.startAnswer m22.startWorld m22.startBy m22.begunBy m22.startOf m22.startLeaves m23.goingOn m23.movedTo m23.ended m23.stopped m23.goesTo m23.keeps m23.stores m23.blockOf m23.endBlockOf m23.testOf m23.workedOf m23.assigned m23.assignedAt m23.setAtOf m23.setByteBy m23.setWordBy m23.argumentsOf m23.callBy m23.callOf m23.tailCallBy m23.handedTo m23.handedBy m23.returned m23.returnOf m23.effectOf m23.idle m23.effected m23.gated m23.inState m23.stepOf m23.counting m23.runOf
-v4-u = refl
-
-abbrev t-v4-34 : Tables
-t-v4-34 = record { statements = 1 ∷ 0 ∷ 0 ∷ 0 ∷ 4 ∷ 0 ∷ 0 ∷ 0 ∷ 0 ∷ 0 ∷ 0 ∷ 0 ∷ 0 ∷ 0 ∷ 0 ∷ 0 ∷ 0 ∷ 0 ∷ 0 ∷ 0 ∷ 0 ∷ 0 ∷ 0 ∷ 0 ∷ 0 ∷ 0 ∷ 0 ∷ 5 ∷ 0 ∷ 0 ∷ 1 ∷ 3 ∷ 0 ∷ 36 ∷ 0 ∷ 1 ∷ 0 ∷ 0 ∷ 1 ∷ 0 ∷ 0 ∷ 0 ∷ 0 ∷ 0 ∷ 0 ∷ 0 ∷ 0 ∷ 0 ∷ 0 ∷ 0 ∷ 0 ∷ 0 ∷ 0 ∷ 0 ∷ 13 ∷ 0 ∷ 0 ∷ 1 ∷ 0 ∷ 0 ∷ 1 ∷ 0 ∷ 1 ∷ 0 ∷ 0 ∷ 2 ∷ 3 ∷ 0 ∷ 0 ∷ 0 ∷ 0 ∷ 0 ∷ 0 ∷ 0 ∷ 0 ∷ 0 ∷ 0 ∷ 0 ∷ 0 ∷ 0 ∷ 0 ∷ 2 ∷ 0 ∷ 0 ∷ 0 ∷ 0 ∷ 0 ∷ 0 ∷ 0 ∷ 0 ∷ 0 ∷ 0 ∷ 0 ∷ 0 ∷ 0 ∷ 0 ∷ 0 ∷ 0 ∷ 0 ∷ 0 ∷ 0 ∷ 0 ∷ 0 ∷ 0 ∷ 0 ∷ 0 ∷ 0 ∷ 0 ∷ []; count = 4; labels = 4 ∷ 0 ∷ 0 ∷ 1 ∷ []; labelCount = 1; names = 102 ∷ 0 ∷ 0 ∷ 0 ∷ 0 ∷ 0 ∷ 0 ∷ 0 ∷ 0 ∷ 0 ∷ 0 ∷ 0 ∷ 0 ∷ 0 ∷ 0 ∷ 0 ∷ 0 ∷ 0 ∷ 0 ∷ 0 ∷ 0 ∷ 0 ∷ 0 ∷ 0 ∷ 0 ∷ 0 ∷ 0 ∷ 0 ∷ 0 ∷ 0 ∷ 0 ∷ 0 ∷ 0 ∷ 0 ∷ 0 ∷ 0 ∷ 0 ∷ 0 ∷ 0 ∷ 0 ∷ 0 ∷ 0 ∷ 0 ∷ 0 ∷ 0 ∷ 0 ∷ 0 ∷ 0 ∷ 0 ∷ 0 ∷ 0 ∷ 0 ∷ 0 ∷ 0 ∷ 0 ∷ 0 ∷ 0 ∷ 0 ∷ 0 ∷ 0 ∷ 0 ∷ 0 ∷ 0 ∷ 0 ∷ []; dataLength = 1 }
-
-v4-34 : runOf Bits32 t-v4-34 9 (startLeaves Bits32 t-v4-34 (1 ∷ []) (102 ∷ []) ([]) (record { machine = freshOf 7 7 7; stack = replicate 5 9; memory = replicate 3 8 })) .world .machine .state ≡ Stopped 34 1
-unfolding m1.byteAt m2.ifLt m2.ifEq m2.ifTrue m3.key m3.leastOf m4.sameList m4.clearedFrom m4.overlay m5.walk m6.freshOf m7.words m7.firstOf m7.isNamed m7.isNumber m7.entryNamed m7.entryOf m7.numberOf m7.leastOperands m7.mostOperands m8.wordBytes m9.addOf m9.subOf m9.mulOf m9.divOf m9.modOf m9.shlOf m9.bsrOf m9.asrOf m9.rolOf m9.rorOf m9.andOf m9.orOf m9.xorOf m9.notOf m9.ltOf m9.gtOf m9.geOf m9.leOf m9.eqOf m9.neOf m10.expressionListed m10.inFunction m10.sizeAt m10.operandFault m10.addressListed m10.kindFault m10.targetFault m10.calleeFault m10.sizeFault m10.ownWord m10.hasWord m10.wordFault m10.operandsFault m10.addressFault m10.rowFault m10.labelFault m10.countFault m10.tablesFault m11.labelAt m11.isData m11.isFunctionLabel m12.sizesOf m13.behind m13.openBefore m13.groundIn m13.funcIn m13.scopeIn m13.upIn m13.isListed m13.mayStand m13.followsJump m13.stands m13.allClosed m13.isArm m13.isEndIf m13.nextArm m13.endIfOf m13.pastArm m13.targetOf m13.hasTarget m13.depthOf m13.encloses m14.operandOf m14.operandKind m14.operandNumber m14.hasExpression m14.isTest m14.isOperator m14.isCall m14.expressionUses m14.usedBy m14.operandAt m14.slots m14.rowFrom m14.rowAt m14.slotWords m14.encode m15.all m15.some m15.allOf m15.someOf m15.allBelow m15.someBelow m15.countBelow m15.greatestBelow m15.firstFrom m16.statementIn m16.standsIn m16.rowsOf m16.enters m16.leaves m16.groundOf m16.isFrame m16.kindOfWord m17.byteAddress m17.wordAddress m17.byteGood m17.wordGood m17.wordFrom m17.loadOf m17.storeFrom m18.lower m18.lowest m18.orElse m18.nextBad m18.frameEnds m18.rowsUsed m18.recordGood m18.stepBroken m18.numbersBelow m18.startBroken m19.roundUp m19.reserved m19.answered m19.fetched m19.byteOf m19.applied m19.evalOf m19.holds m20.mark m20.frameWords m20.isFirst m20.isReturnCall m20.isReturn m20.isCalling m20.calledFrom m20.headGood m20.passesOn m20.leavesGood m20.rowsLeft m20.landingOf m21.isAt m21.numberIn m21.fetchOf m21.readOf m21.withWord m21.onRead m21.readAll m22.exportsAs m22.exportOf m22.startAnswer m22.startWorld m22.startBy m22.begunBy m22.startOf m22.startLeaves m23.goingOn m23.movedTo m23.ended m23.stopped m23.goesTo m23.keeps m23.stores m23.blockOf m23.endBlockOf m23.testOf m23.workedOf m23.assigned m23.assignedAt m23.setAtOf m23.setByteBy m23.setWordBy m23.argumentsOf m23.callBy m23.callOf m23.tailCallBy m23.handedTo m23.handedBy m23.returned m23.returnOf m23.effectOf m23.idle m23.effected m23.gated m23.inState m23.stepOf m23.counting m23.runOf
-v4-34 = refl
-
-v4-34-n : runOf Bits32 t-v4-34 9 (startLeaves Bits32 t-v4-34 (1 ∷ []) (102 ∷ []) ([]) (record { machine = freshOf 7 7 7; stack = replicate 5 9; memory = replicate 3 8 })) .count ≡ 0
-unfolding m1.byteAt m2.ifLt m2.ifEq m2.ifTrue m3.key m3.leastOf m4.sameList m4.clearedFrom m4.overlay m5.walk m6.freshOf m7.words m7.firstOf m7.isNamed m7.isNumber m7.entryNamed m7.entryOf m7.numberOf m7.leastOperands m7.mostOperands m8.wordBytes m9.addOf m9.subOf m9.mulOf m9.divOf m9.modOf m9.shlOf m9.bsrOf m9.asrOf m9.rolOf m9.rorOf m9.andOf m9.orOf m9.xorOf m9.notOf m9.ltOf m9.gtOf m9.geOf m9.leOf m9.eqOf m9.neOf m10.expressionListed m10.inFunction m10.sizeAt m10.operandFault m10.addressListed m10.kindFault m10.targetFault m10.calleeFault m10.sizeFault m10.ownWord m10.hasWord m10.wordFault m10.operandsFault m10.addressFault m10.rowFault m10.labelFault m10.countFault m10.tablesFault m11.labelAt m11.isData m11.isFunctionLabel m12.sizesOf m13.behind m13.openBefore m13.groundIn m13.funcIn m13.scopeIn m13.upIn m13.isListed m13.mayStand m13.followsJump m13.stands m13.allClosed m13.isArm m13.isEndIf m13.nextArm m13.endIfOf m13.pastArm m13.targetOf m13.hasTarget m13.depthOf m13.encloses m14.operandOf m14.operandKind m14.operandNumber m14.hasExpression m14.isTest m14.isOperator m14.isCall m14.expressionUses m14.usedBy m14.operandAt m14.slots m14.rowFrom m14.rowAt m14.slotWords m14.encode m15.all m15.some m15.allOf m15.someOf m15.allBelow m15.someBelow m15.countBelow m15.greatestBelow m15.firstFrom m16.statementIn m16.standsIn m16.rowsOf m16.enters m16.leaves m16.groundOf m16.isFrame m16.kindOfWord m17.byteAddress m17.wordAddress m17.byteGood m17.wordGood m17.wordFrom m17.loadOf m17.storeFrom m18.lower m18.lowest m18.orElse m18.nextBad m18.frameEnds m18.rowsUsed m18.recordGood m18.stepBroken m18.numbersBelow m18.startBroken m19.roundUp m19.reserved m19.answered m19.fetched m19.byteOf m19.applied m19.evalOf m19.holds m20.mark m20.frameWords m20.isFirst m20.isReturnCall m20.isReturn m20.isCalling m20.calledFrom m20.headGood m20.passesOn m20.leavesGood m20.rowsLeft m20.landingOf m21.isAt m21.numberIn m21.fetchOf m21.readOf m21.withWord m21.onRead m21.readAll m22.exportsAs m22.exportOf m22.startAnswer m22.startWorld m22.startBy m22.begunBy m22.startOf m22.startLeaves m23.goingOn m23.movedTo m23.ended m23.stopped m23.goesTo m23.keeps m23.stores m23.blockOf m23.endBlockOf m23.testOf m23.workedOf m23.assigned m23.assignedAt m23.setAtOf m23.setByteBy m23.setWordBy m23.argumentsOf m23.callBy m23.callOf m23.tailCallBy m23.handedTo m23.handedBy m23.returned m23.returnOf m23.effectOf m23.idle m23.effected m23.gated m23.inState m23.stepOf m23.counting m23.runOf
-v4-34-n = refl
-
-v4-34-b : runOf Bits32 t-v4-34 9 (startLeaves Bits32 t-v4-34 (1 ∷ []) (102 ∷ []) ([]) (record { machine = freshOf 7 7 7; stack = replicate 5 9; memory = replicate 3 8 })) .broken ≡ No
-unfolding m1.byteAt m2.ifLt m2.ifEq m2.ifTrue m3.key m3.leastOf m4.sameList m4.clearedFrom m4.overlay m5.walk m6.freshOf m7.words m7.firstOf m7.isNamed m7.isNumber m7.entryNamed m7.entryOf m7.numberOf m7.leastOperands m7.mostOperands m8.wordBytes m9.addOf m9.subOf m9.mulOf m9.divOf m9.modOf m9.shlOf m9.bsrOf m9.asrOf m9.rolOf m9.rorOf m9.andOf m9.orOf m9.xorOf m9.notOf m9.ltOf m9.gtOf m9.geOf m9.leOf m9.eqOf m9.neOf m10.expressionListed m10.inFunction m10.sizeAt m10.operandFault m10.addressListed m10.kindFault m10.targetFault m10.calleeFault m10.sizeFault m10.ownWord m10.hasWord m10.wordFault m10.operandsFault m10.addressFault m10.rowFault m10.labelFault m10.countFault m10.tablesFault m11.labelAt m11.isData m11.isFunctionLabel m12.sizesOf m13.behind m13.openBefore m13.groundIn m13.funcIn m13.scopeIn m13.upIn m13.isListed m13.mayStand m13.followsJump m13.stands m13.allClosed m13.isArm m13.isEndIf m13.nextArm m13.endIfOf m13.pastArm m13.targetOf m13.hasTarget m13.depthOf m13.encloses m14.operandOf m14.operandKind m14.operandNumber m14.hasExpression m14.isTest m14.isOperator m14.isCall m14.expressionUses m14.usedBy m14.operandAt m14.slots m14.rowFrom m14.rowAt m14.slotWords m14.encode m15.all m15.some m15.allOf m15.someOf m15.allBelow m15.someBelow m15.countBelow m15.greatestBelow m15.firstFrom m16.statementIn m16.standsIn m16.rowsOf m16.enters m16.leaves m16.groundOf m16.isFrame m16.kindOfWord m17.byteAddress m17.wordAddress m17.byteGood m17.wordGood m17.wordFrom m17.loadOf m17.storeFrom m18.lower m18.lowest m18.orElse m18.nextBad m18.frameEnds m18.rowsUsed m18.recordGood m18.stepBroken m18.numbersBelow m18.startBroken m19.roundUp m19.reserved m19.answered m19.fetched m19.byteOf m19.applied m19.evalOf m19.holds m20.mark m20.frameWords m20.isFirst m20.isReturnCall m20.isReturn m20.isCalling m20.calledFrom m20.headGood m20.passesOn m20.leavesGood m20.rowsLeft m20.landingOf m21.isAt m21.numberIn m21.fetchOf m21.readOf m21.withWord m21.onRead m21.readAll m22.exportsAs m22.exportOf m22.startAnswer m22.startWorld m22.startBy m22.begunBy m22.startOf m22.startLeaves m23.goingOn m23.movedTo m23.ended m23.stopped m23.goesTo m23.keeps m23.stores m23.blockOf m23.endBlockOf m23.testOf m23.workedOf m23.assigned m23.assignedAt m23.setAtOf m23.setByteBy m23.setWordBy m23.argumentsOf m23.callBy m23.callOf m23.tailCallBy m23.handedTo m23.handedBy m23.returned m23.returnOf m23.effectOf m23.idle m23.effected m23.gated m23.inState m23.stepOf m23.counting m23.runOf
-v4-34-b = refl
-
-abbrev t-v5-33 : Tables
-t-v5-33 = record { statements = 1 ∷ 0 ∷ 0 ∷ 0 ∷ 5 ∷ 0 ∷ 0 ∷ 0 ∷ 0 ∷ 0 ∷ 0 ∷ 0 ∷ 0 ∷ 0 ∷ 0 ∷ 0 ∷ 0 ∷ 0 ∷ 0 ∷ 0 ∷ 0 ∷ 0 ∷ 0 ∷ 0 ∷ 0 ∷ 0 ∷ 0 ∷ 5 ∷ 0 ∷ 0 ∷ 1 ∷ 3 ∷ 0 ∷ 1 ∷ 0 ∷ 1 ∷ 0 ∷ 0 ∷ 1 ∷ 1 ∷ 0 ∷ 0 ∷ 0 ∷ 0 ∷ 0 ∷ 0 ∷ 0 ∷ 0 ∷ 0 ∷ 0 ∷ 0 ∷ 0 ∷ 0 ∷ 0 ∷ 5 ∷ 0 ∷ 0 ∷ 1 ∷ 4 ∷ 0 ∷ 1 ∷ 0 ∷ 1 ∷ 0 ∷ 0 ∷ 1 ∷ 2 ∷ 0 ∷ 0 ∷ 0 ∷ 0 ∷ 0 ∷ 0 ∷ 0 ∷ 0 ∷ 0 ∷ 0 ∷ 0 ∷ 0 ∷ 0 ∷ 0 ∷ 13 ∷ 0 ∷ 0 ∷ 1 ∷ 0 ∷ 0 ∷ 1 ∷ 0 ∷ 1 ∷ 0 ∷ 0 ∷ 2 ∷ 4 ∷ 0 ∷ 0 ∷ 0 ∷ 0 ∷ 0 ∷ 0 ∷ 0 ∷ 0 ∷ 0 ∷ 0 ∷ 0 ∷ 0 ∷ 0 ∷ 0 ∷ 2 ∷ 0 ∷ 0 ∷ 0 ∷ 0 ∷ 0 ∷ 0 ∷ 0 ∷ 0 ∷ 0 ∷ 0 ∷ 0 ∷ 0 ∷ 0 ∷ 0 ∷ 0 ∷ 0 ∷ 0 ∷ 0 ∷ 0 ∷ 0 ∷ 0 ∷ 0 ∷ 0 ∷ 0 ∷ 0 ∷ 0 ∷ 1 ∷ 5 ∷ 5 ∷ 0 ∷ 3 ∷ 0 ∷ 0 ∷ 0 ∷ 0 ∷ 0 ∷ 0 ∷ 0 ∷ 0 ∷ 0 ∷ 0 ∷ 0 ∷ 0 ∷ 0 ∷ 0 ∷ 0 ∷ 0 ∷ 0 ∷ 0 ∷ 0 ∷ 0 ∷ 0 ∷ 0 ∷ 12 ∷ 5 ∷ 5 ∷ 6 ∷ 0 ∷ 0 ∷ 0 ∷ 0 ∷ 0 ∷ 0 ∷ 0 ∷ 0 ∷ 0 ∷ 0 ∷ 0 ∷ 0 ∷ 0 ∷ 0 ∷ 0 ∷ 0 ∷ 0 ∷ 0 ∷ 0 ∷ 0 ∷ 0 ∷ 0 ∷ 0 ∷ 2 ∷ 5 ∷ 5 ∷ 0 ∷ 0 ∷ 0 ∷ 0 ∷ 0 ∷ 0 ∷ 0 ∷ 0 ∷ 0 ∷ 0 ∷ 0 ∷ 0 ∷ 0 ∷ 0 ∷ 0 ∷ 0 ∷ 0 ∷ 0 ∷ 0 ∷ 0 ∷ 0 ∷ 0 ∷ 0 ∷ 0 ∷ []; count = 8; labels = 3 ∷ 0 ∷ 0 ∷ 1 ∷ 4 ∷ 5 ∷ 0 ∷ 1 ∷ []; labelCount = 2; names = 103 ∷ 0 ∷ 0 ∷ 0 ∷ 0 ∷ 0 ∷ 0 ∷ 0 ∷ 0 ∷ 0 ∷ 0 ∷ 0 ∷ 0 ∷ 0 ∷ 0 ∷ 0 ∷ 0 ∷ 0 ∷ 0 ∷ 0 ∷ 0 ∷ 0 ∷ 0 ∷ 0 ∷ 0 ∷ 0 ∷ 0 ∷ 0 ∷ 0 ∷ 0 ∷ 0 ∷ 0 ∷ 0 ∷ 0 ∷ 0 ∷ 0 ∷ 0 ∷ 0 ∷ 0 ∷ 0 ∷ 0 ∷ 0 ∷ 0 ∷ 0 ∷ 0 ∷ 0 ∷ 0 ∷ 0 ∷ 0 ∷ 0 ∷ 0 ∷ 0 ∷ 0 ∷ 0 ∷ 0 ∷ 0 ∷ 0 ∷ 0 ∷ 0 ∷ 0 ∷ 0 ∷ 0 ∷ 0 ∷ 0 ∷ 102 ∷ 0 ∷ 0 ∷ 0 ∷ 0 ∷ 0 ∷ 0 ∷ 0 ∷ 0 ∷ 0 ∷ 0 ∷ 0 ∷ 0 ∷ 0 ∷ 0 ∷ 0 ∷ 0 ∷ 0 ∷ 0 ∷ 0 ∷ 0 ∷ 0 ∷ 0 ∷ 0 ∷ 0 ∷ 0 ∷ 0 ∷ 0 ∷ 0 ∷ 0 ∷ 0 ∷ 0 ∷ 0 ∷ 0 ∷ 0 ∷ 0 ∷ 0 ∷ 0 ∷ 0 ∷ 0 ∷ 0 ∷ 0 ∷ 0 ∷ 0 ∷ 0 ∷ 0 ∷ 0 ∷ 0 ∷ 0 ∷ 0 ∷ 0 ∷ 0 ∷ 0 ∷ 0 ∷ 0 ∷ 0 ∷ 0 ∷ 0 ∷ 0 ∷ 0 ∷ 0 ∷ 0 ∷ 0 ∷ 0 ∷ []; dataLength = 0 }
-
-v5-33 : runOf Bits32 t-v5-33 9 (startLeaves Bits32 t-v5-33 ([]) (102 ∷ []) ([]) (record { machine = freshOf 7 7 7; stack = replicate 4 9; memory = replicate 0 8 })) .world .machine .state ≡ Stopped 33 6
-unfolding m1.byteAt m2.ifLt m2.ifEq m2.ifTrue m3.key m3.leastOf m4.sameList m4.clearedFrom m4.overlay m5.walk m6.freshOf m7.words m7.firstOf m7.isNamed m7.isNumber m7.entryNamed m7.entryOf m7.numberOf m7.leastOperands m7.mostOperands m8.wordBytes m9.addOf m9.subOf m9.mulOf m9.divOf m9.modOf m9.shlOf m9.bsrOf m9.asrOf m9.rolOf m9.rorOf m9.andOf m9.orOf m9.xorOf m9.notOf m9.ltOf m9.gtOf m9.geOf m9.leOf m9.eqOf m9.neOf m10.expressionListed m10.inFunction m10.sizeAt m10.operandFault m10.addressListed m10.kindFault m10.targetFault m10.calleeFault m10.sizeFault m10.ownWord m10.hasWord m10.wordFault m10.operandsFault m10.addressFault m10.rowFault m10.labelFault m10.countFault m10.tablesFault m11.labelAt m11.isData m11.isFunctionLabel m12.sizesOf m13.behind m13.openBefore m13.groundIn m13.funcIn m13.scopeIn m13.upIn m13.isListed m13.mayStand m13.followsJump m13.stands m13.allClosed m13.isArm m13.isEndIf m13.nextArm m13.endIfOf m13.pastArm m13.targetOf m13.hasTarget m13.depthOf m13.encloses m14.operandOf m14.operandKind m14.operandNumber m14.hasExpression m14.isTest m14.isOperator m14.isCall m14.expressionUses m14.usedBy m14.operandAt m14.slots m14.rowFrom m14.rowAt m14.slotWords m14.encode m15.all m15.some m15.allOf m15.someOf m15.allBelow m15.someBelow m15.countBelow m15.greatestBelow m15.firstFrom m16.statementIn m16.standsIn m16.rowsOf m16.enters m16.leaves m16.groundOf m16.isFrame m16.kindOfWord m17.byteAddress m17.wordAddress m17.byteGood m17.wordGood m17.wordFrom m17.loadOf m17.storeFrom m18.lower m18.lowest m18.orElse m18.nextBad m18.frameEnds m18.rowsUsed m18.recordGood m18.stepBroken m18.numbersBelow m18.startBroken m19.roundUp m19.reserved m19.answered m19.fetched m19.byteOf m19.applied m19.evalOf m19.holds m20.mark m20.frameWords m20.isFirst m20.isReturnCall m20.isReturn m20.isCalling m20.calledFrom m20.headGood m20.passesOn m20.leavesGood m20.rowsLeft m20.landingOf m21.isAt m21.numberIn m21.fetchOf m21.readOf m21.withWord m21.onRead m21.readAll m22.exportsAs m22.exportOf m22.startAnswer m22.startWorld m22.startBy m22.begunBy m22.startOf m22.startLeaves m23.goingOn m23.movedTo m23.ended m23.stopped m23.goesTo m23.keeps m23.stores m23.blockOf m23.endBlockOf m23.testOf m23.workedOf m23.assigned m23.assignedAt m23.setAtOf m23.setByteBy m23.setWordBy m23.argumentsOf m23.callBy m23.callOf m23.tailCallBy m23.handedTo m23.handedBy m23.returned m23.returnOf m23.effectOf m23.idle m23.effected m23.gated m23.inState m23.stepOf m23.counting m23.runOf
-v5-33 = refl
-
-v5-33-n : runOf Bits32 t-v5-33 9 (startLeaves Bits32 t-v5-33 ([]) (102 ∷ []) ([]) (record { machine = freshOf 7 7 7; stack = replicate 4 9; memory = replicate 0 8 })) .count ≡ 0
-unfolding m1.byteAt m2.ifLt m2.ifEq m2.ifTrue m3.key m3.leastOf m4.sameList m4.clearedFrom m4.overlay m5.walk m6.freshOf m7.words m7.firstOf m7.isNamed m7.isNumber m7.entryNamed m7.entryOf m7.numberOf m7.leastOperands m7.mostOperands m8.wordBytes m9.addOf m9.subOf m9.mulOf m9.divOf m9.modOf m9.shlOf m9.bsrOf m9.asrOf m9.rolOf m9.rorOf m9.andOf m9.orOf m9.xorOf m9.notOf m9.ltOf m9.gtOf m9.geOf m9.leOf m9.eqOf m9.neOf m10.expressionListed m10.inFunction m10.sizeAt m10.operandFault m10.addressListed m10.kindFault m10.targetFault m10.calleeFault m10.sizeFault m10.ownWord m10.hasWord m10.wordFault m10.operandsFault m10.addressFault m10.rowFault m10.labelFault m10.countFault m10.tablesFault m11.labelAt m11.isData m11.isFunctionLabel m12.sizesOf m13.behind m13.openBefore m13.groundIn m13.funcIn m13.scopeIn m13.upIn m13.isListed m13.mayStand m13.followsJump m13.stands m13.allClosed m13.isArm m13.isEndIf m13.nextArm m13.endIfOf m13.pastArm m13.targetOf m13.hasTarget m13.depthOf m13.encloses m14.operandOf m14.operandKind m14.operandNumber m14.hasExpression m14.isTest m14.isOperator m14.isCall m14.expressionUses m14.usedBy m14.operandAt m14.slots m14.rowFrom m14.rowAt m14.slotWords m14.encode m15.all m15.some m15.allOf m15.someOf m15.allBelow m15.someBelow m15.countBelow m15.greatestBelow m15.firstFrom m16.statementIn m16.standsIn m16.rowsOf m16.enters m16.leaves m16.groundOf m16.isFrame m16.kindOfWord m17.byteAddress m17.wordAddress m17.byteGood m17.wordGood m17.wordFrom m17.loadOf m17.storeFrom m18.lower m18.lowest m18.orElse m18.nextBad m18.frameEnds m18.rowsUsed m18.recordGood m18.stepBroken m18.numbersBelow m18.startBroken m19.roundUp m19.reserved m19.answered m19.fetched m19.byteOf m19.applied m19.evalOf m19.holds m20.mark m20.frameWords m20.isFirst m20.isReturnCall m20.isReturn m20.isCalling m20.calledFrom m20.headGood m20.passesOn m20.leavesGood m20.rowsLeft m20.landingOf m21.isAt m21.numberIn m21.fetchOf m21.readOf m21.withWord m21.onRead m21.readAll m22.exportsAs m22.exportOf m22.startAnswer m22.startWorld m22.startBy m22.begunBy m22.startOf m22.startLeaves m23.goingOn m23.movedTo m23.ended m23.stopped m23.goesTo m23.keeps m23.stores m23.blockOf m23.endBlockOf m23.testOf m23.workedOf m23.assigned m23.assignedAt m23.setAtOf m23.setByteBy m23.setWordBy m23.argumentsOf m23.callBy m23.callOf m23.tailCallBy m23.handedTo m23.handedBy m23.returned m23.returnOf m23.effectOf m23.idle m23.effected m23.gated m23.inState m23.stepOf m23.counting m23.runOf
-v5-33-n = refl
-
-v5-33-b : runOf Bits32 t-v5-33 9 (startLeaves Bits32 t-v5-33 ([]) (102 ∷ []) ([]) (record { machine = freshOf 7 7 7; stack = replicate 4 9; memory = replicate 0 8 })) .broken ≡ No
-unfolding m1.byteAt m2.ifLt m2.ifEq m2.ifTrue m3.key m3.leastOf m4.sameList m4.clearedFrom m4.overlay m5.walk m6.freshOf m7.words m7.firstOf m7.isNamed m7.isNumber m7.entryNamed m7.entryOf m7.numberOf m7.leastOperands m7.mostOperands m8.wordBytes m9.addOf m9.subOf m9.mulOf m9.divOf m9.modOf m9.shlOf m9.bsrOf m9.asrOf m9.rolOf m9.rorOf m9.andOf m9.orOf m9.xorOf m9.notOf m9.ltOf m9.gtOf m9.geOf m9.leOf m9.eqOf m9.neOf m10.expressionListed m10.inFunction m10.sizeAt m10.operandFault m10.addressListed m10.kindFault m10.targetFault m10.calleeFault m10.sizeFault m10.ownWord m10.hasWord m10.wordFault m10.operandsFault m10.addressFault m10.rowFault m10.labelFault m10.countFault m10.tablesFault m11.labelAt m11.isData m11.isFunctionLabel m12.sizesOf m13.behind m13.openBefore m13.groundIn m13.funcIn m13.scopeIn m13.upIn m13.isListed m13.mayStand m13.followsJump m13.stands m13.allClosed m13.isArm m13.isEndIf m13.nextArm m13.endIfOf m13.pastArm m13.targetOf m13.hasTarget m13.depthOf m13.encloses m14.operandOf m14.operandKind m14.operandNumber m14.hasExpression m14.isTest m14.isOperator m14.isCall m14.expressionUses m14.usedBy m14.operandAt m14.slots m14.rowFrom m14.rowAt m14.slotWords m14.encode m15.all m15.some m15.allOf m15.someOf m15.allBelow m15.someBelow m15.countBelow m15.greatestBelow m15.firstFrom m16.statementIn m16.standsIn m16.rowsOf m16.enters m16.leaves m16.groundOf m16.isFrame m16.kindOfWord m17.byteAddress m17.wordAddress m17.byteGood m17.wordGood m17.wordFrom m17.loadOf m17.storeFrom m18.lower m18.lowest m18.orElse m18.nextBad m18.frameEnds m18.rowsUsed m18.recordGood m18.stepBroken m18.numbersBelow m18.startBroken m19.roundUp m19.reserved m19.answered m19.fetched m19.byteOf m19.applied m19.evalOf m19.holds m20.mark m20.frameWords m20.isFirst m20.isReturnCall m20.isReturn m20.isCalling m20.calledFrom m20.headGood m20.passesOn m20.leavesGood m20.rowsLeft m20.landingOf m21.isAt m21.numberIn m21.fetchOf m21.readOf m21.withWord m21.onRead m21.readAll m22.exportsAs m22.exportOf m22.startAnswer m22.startWorld m22.startBy m22.begunBy m22.startOf m22.startLeaves m23.goingOn m23.movedTo m23.ended m23.stopped m23.goesTo m23.keeps m23.stores m23.blockOf m23.endBlockOf m23.testOf m23.workedOf m23.assigned m23.assignedAt m23.setAtOf m23.setByteBy m23.setWordBy m23.argumentsOf m23.callBy m23.callOf m23.tailCallBy m23.handedTo m23.handedBy m23.returned m23.returnOf m23.effectOf m23.idle m23.effected m23.gated m23.inState m23.stepOf m23.counting m23.runOf
-v5-33-b = refl
-
-abbrev t-v5 : Tables
-t-v5 = record { statements = 1 ∷ 0 ∷ 0 ∷ 0 ∷ 5 ∷ 0 ∷ 0 ∷ 0 ∷ 0 ∷ 0 ∷ 0 ∷ 0 ∷ 0 ∷ 0 ∷ 0 ∷ 0 ∷ 0 ∷ 0 ∷ 0 ∷ 0 ∷ 0 ∷ 0 ∷ 0 ∷ 0 ∷ 0 ∷ 0 ∷ 0 ∷ 5 ∷ 0 ∷ 0 ∷ 1 ∷ 3 ∷ 0 ∷ 1 ∷ 0 ∷ 1 ∷ 0 ∷ 0 ∷ 1 ∷ 1 ∷ 0 ∷ 0 ∷ 0 ∷ 0 ∷ 0 ∷ 0 ∷ 0 ∷ 0 ∷ 0 ∷ 0 ∷ 0 ∷ 0 ∷ 0 ∷ 0 ∷ 5 ∷ 0 ∷ 0 ∷ 1 ∷ 4 ∷ 0 ∷ 1 ∷ 0 ∷ 1 ∷ 0 ∷ 0 ∷ 1 ∷ 2 ∷ 0 ∷ 0 ∷ 0 ∷ 0 ∷ 0 ∷ 0 ∷ 0 ∷ 0 ∷ 0 ∷ 0 ∷ 0 ∷ 0 ∷ 0 ∷ 0 ∷ 13 ∷ 0 ∷ 0 ∷ 1 ∷ 0 ∷ 0 ∷ 1 ∷ 0 ∷ 1 ∷ 0 ∷ 0 ∷ 2 ∷ 4 ∷ 0 ∷ 0 ∷ 0 ∷ 0 ∷ 0 ∷ 0 ∷ 0 ∷ 0 ∷ 0 ∷ 0 ∷ 0 ∷ 0 ∷ 0 ∷ 0 ∷ 2 ∷ 0 ∷ 0 ∷ 0 ∷ 0 ∷ 0 ∷ 0 ∷ 0 ∷ 0 ∷ 0 ∷ 0 ∷ 0 ∷ 0 ∷ 0 ∷ 0 ∷ 0 ∷ 0 ∷ 0 ∷ 0 ∷ 0 ∷ 0 ∷ 0 ∷ 0 ∷ 0 ∷ 0 ∷ 0 ∷ 0 ∷ 1 ∷ 5 ∷ 5 ∷ 0 ∷ 3 ∷ 0 ∷ 0 ∷ 0 ∷ 0 ∷ 0 ∷ 0 ∷ 0 ∷ 0 ∷ 0 ∷ 0 ∷ 0 ∷ 0 ∷ 0 ∷ 0 ∷ 0 ∷ 0 ∷ 0 ∷ 0 ∷ 0 ∷ 0 ∷ 0 ∷ 0 ∷ 12 ∷ 5 ∷ 5 ∷ 6 ∷ 0 ∷ 0 ∷ 0 ∷ 0 ∷ 0 ∷ 0 ∷ 0 ∷ 0 ∷ 0 ∷ 0 ∷ 0 ∷ 0 ∷ 0 ∷ 0 ∷ 0 ∷ 0 ∷ 0 ∷ 0 ∷ 0 ∷ 0 ∷ 0 ∷ 0 ∷ 0 ∷ 2 ∷ 5 ∷ 5 ∷ 0 ∷ 0 ∷ 0 ∷ 0 ∷ 0 ∷ 0 ∷ 0 ∷ 0 ∷ 0 ∷ 0 ∷ 0 ∷ 0 ∷ 0 ∷ 0 ∷ 0 ∷ 0 ∷ 0 ∷ 0 ∷ 0 ∷ 0 ∷ 0 ∷ 0 ∷ 0 ∷ 0 ∷ []; count = 8; labels = 3 ∷ 0 ∷ 0 ∷ 1 ∷ 4 ∷ 5 ∷ 0 ∷ 1 ∷ []; labelCount = 2; names = 103 ∷ 0 ∷ 0 ∷ 0 ∷ 0 ∷ 0 ∷ 0 ∷ 0 ∷ 0 ∷ 0 ∷ 0 ∷ 0 ∷ 0 ∷ 0 ∷ 0 ∷ 0 ∷ 0 ∷ 0 ∷ 0 ∷ 0 ∷ 0 ∷ 0 ∷ 0 ∷ 0 ∷ 0 ∷ 0 ∷ 0 ∷ 0 ∷ 0 ∷ 0 ∷ 0 ∷ 0 ∷ 0 ∷ 0 ∷ 0 ∷ 0 ∷ 0 ∷ 0 ∷ 0 ∷ 0 ∷ 0 ∷ 0 ∷ 0 ∷ 0 ∷ 0 ∷ 0 ∷ 0 ∷ 0 ∷ 0 ∷ 0 ∷ 0 ∷ 0 ∷ 0 ∷ 0 ∷ 0 ∷ 0 ∷ 0 ∷ 0 ∷ 0 ∷ 0 ∷ 0 ∷ 0 ∷ 0 ∷ 0 ∷ 102 ∷ 0 ∷ 0 ∷ 0 ∷ 0 ∷ 0 ∷ 0 ∷ 0 ∷ 0 ∷ 0 ∷ 0 ∷ 0 ∷ 0 ∷ 0 ∷ 0 ∷ 0 ∷ 0 ∷ 0 ∷ 0 ∷ 0 ∷ 0 ∷ 0 ∷ 0 ∷ 0 ∷ 0 ∷ 0 ∷ 0 ∷ 0 ∷ 0 ∷ 0 ∷ 0 ∷ 0 ∷ 0 ∷ 0 ∷ 0 ∷ 0 ∷ 0 ∷ 0 ∷ 0 ∷ 0 ∷ 0 ∷ 0 ∷ 0 ∷ 0 ∷ 0 ∷ 0 ∷ 0 ∷ 0 ∷ 0 ∷ 0 ∷ 0 ∷ 0 ∷ 0 ∷ 0 ∷ 0 ∷ 0 ∷ 0 ∷ 0 ∷ 0 ∷ 0 ∷ 0 ∷ 0 ∷ 0 ∷ 0 ∷ []; dataLength = 0 }
-
-v5 : runOf Bits32 t-v5 9 (startLeaves Bits32 t-v5 ([]) (102 ∷ []) ([]) (record { machine = freshOf 7 7 7; stack = replicate 5 9; memory = replicate 0 8 })) .world .machine .state ≡ Finished 2
-unfolding m1.byteAt m2.ifLt m2.ifEq m2.ifTrue m3.key m3.leastOf m4.sameList m4.clearedFrom m4.overlay m5.walk m6.freshOf m7.words m7.firstOf m7.isNamed m7.isNumber m7.entryNamed m7.entryOf m7.numberOf m7.leastOperands m7.mostOperands m8.wordBytes m9.addOf m9.subOf m9.mulOf m9.divOf m9.modOf m9.shlOf m9.bsrOf m9.asrOf m9.rolOf m9.rorOf m9.andOf m9.orOf m9.xorOf m9.notOf m9.ltOf m9.gtOf m9.geOf m9.leOf m9.eqOf m9.neOf m10.expressionListed m10.inFunction m10.sizeAt m10.operandFault m10.addressListed m10.kindFault m10.targetFault m10.calleeFault m10.sizeFault m10.ownWord m10.hasWord m10.wordFault m10.operandsFault m10.addressFault m10.rowFault m10.labelFault m10.countFault m10.tablesFault m11.labelAt m11.isData m11.isFunctionLabel m12.sizesOf m13.behind m13.openBefore m13.groundIn m13.funcIn m13.scopeIn m13.upIn m13.isListed m13.mayStand m13.followsJump m13.stands m13.allClosed m13.isArm m13.isEndIf m13.nextArm m13.endIfOf m13.pastArm m13.targetOf m13.hasTarget m13.depthOf m13.encloses m14.operandOf m14.operandKind m14.operandNumber m14.hasExpression m14.isTest m14.isOperator m14.isCall m14.expressionUses m14.usedBy m14.operandAt m14.slots m14.rowFrom m14.rowAt m14.slotWords m14.encode m15.all m15.some m15.allOf m15.someOf m15.allBelow m15.someBelow m15.countBelow m15.greatestBelow m15.firstFrom m16.statementIn m16.standsIn m16.rowsOf m16.enters m16.leaves m16.groundOf m16.isFrame m16.kindOfWord m17.byteAddress m17.wordAddress m17.byteGood m17.wordGood m17.wordFrom m17.loadOf m17.storeFrom m18.lower m18.lowest m18.orElse m18.nextBad m18.frameEnds m18.rowsUsed m18.recordGood m18.stepBroken m18.numbersBelow m18.startBroken m19.roundUp m19.reserved m19.answered m19.fetched m19.byteOf m19.applied m19.evalOf m19.holds m20.mark m20.frameWords m20.isFirst m20.isReturnCall m20.isReturn m20.isCalling m20.calledFrom m20.headGood m20.passesOn m20.leavesGood m20.rowsLeft m20.landingOf m21.isAt m21.numberIn m21.fetchOf m21.readOf m21.withWord m21.onRead m21.readAll m22.exportsAs m22.exportOf m22.startAnswer m22.startWorld m22.startBy m22.begunBy m22.startOf m22.startLeaves m23.goingOn m23.movedTo m23.ended m23.stopped m23.goesTo m23.keeps m23.stores m23.blockOf m23.endBlockOf m23.testOf m23.workedOf m23.assigned m23.assignedAt m23.setAtOf m23.setByteBy m23.setWordBy m23.argumentsOf m23.callBy m23.callOf m23.tailCallBy m23.handedTo m23.handedBy m23.returned m23.returnOf m23.effectOf m23.idle m23.effected m23.gated m23.inState m23.stepOf m23.counting m23.runOf
-v5 = refl
-
-v5-n : runOf Bits32 t-v5 9 (startLeaves Bits32 t-v5 ([]) (102 ∷ []) ([]) (record { machine = freshOf 7 7 7; stack = replicate 5 9; memory = replicate 0 8 })) .count ≡ 4
-unfolding m1.byteAt m2.ifLt m2.ifEq m2.ifTrue m3.key m3.leastOf m4.sameList m4.clearedFrom m4.overlay m5.walk m6.freshOf m7.words m7.firstOf m7.isNamed m7.isNumber m7.entryNamed m7.entryOf m7.numberOf m7.leastOperands m7.mostOperands m8.wordBytes m9.addOf m9.subOf m9.mulOf m9.divOf m9.modOf m9.shlOf m9.bsrOf m9.asrOf m9.rolOf m9.rorOf m9.andOf m9.orOf m9.xorOf m9.notOf m9.ltOf m9.gtOf m9.geOf m9.leOf m9.eqOf m9.neOf m10.expressionListed m10.inFunction m10.sizeAt m10.operandFault m10.addressListed m10.kindFault m10.targetFault m10.calleeFault m10.sizeFault m10.ownWord m10.hasWord m10.wordFault m10.operandsFault m10.addressFault m10.rowFault m10.labelFault m10.countFault m10.tablesFault m11.labelAt m11.isData m11.isFunctionLabel m12.sizesOf m13.behind m13.openBefore m13.groundIn m13.funcIn m13.scopeIn m13.upIn m13.isListed m13.mayStand m13.followsJump m13.stands m13.allClosed m13.isArm m13.isEndIf m13.nextArm m13.endIfOf m13.pastArm m13.targetOf m13.hasTarget m13.depthOf m13.encloses m14.operandOf m14.operandKind m14.operandNumber m14.hasExpression m14.isTest m14.isOperator m14.isCall m14.expressionUses m14.usedBy m14.operandAt m14.slots m14.rowFrom m14.rowAt m14.slotWords m14.encode m15.all m15.some m15.allOf m15.someOf m15.allBelow m15.someBelow m15.countBelow m15.greatestBelow m15.firstFrom m16.statementIn m16.standsIn m16.rowsOf m16.enters m16.leaves m16.groundOf m16.isFrame m16.kindOfWord m17.byteAddress m17.wordAddress m17.byteGood m17.wordGood m17.wordFrom m17.loadOf m17.storeFrom m18.lower m18.lowest m18.orElse m18.nextBad m18.frameEnds m18.rowsUsed m18.recordGood m18.stepBroken m18.numbersBelow m18.startBroken m19.roundUp m19.reserved m19.answered m19.fetched m19.byteOf m19.applied m19.evalOf m19.holds m20.mark m20.frameWords m20.isFirst m20.isReturnCall m20.isReturn m20.isCalling m20.calledFrom m20.headGood m20.passesOn m20.leavesGood m20.rowsLeft m20.landingOf m21.isAt m21.numberIn m21.fetchOf m21.readOf m21.withWord m21.onRead m21.readAll m22.exportsAs m22.exportOf m22.startAnswer m22.startWorld m22.startBy m22.begunBy m22.startOf m22.startLeaves m23.goingOn m23.movedTo m23.ended m23.stopped m23.goesTo m23.keeps m23.stores m23.blockOf m23.endBlockOf m23.testOf m23.workedOf m23.assigned m23.assignedAt m23.setAtOf m23.setByteBy m23.setWordBy m23.argumentsOf m23.callBy m23.callOf m23.tailCallBy m23.handedTo m23.handedBy m23.returned m23.returnOf m23.effectOf m23.idle m23.effected m23.gated m23.inState m23.stepOf m23.counting m23.runOf
-v5-n = refl
-
-v5-u : runOf Bits32 t-v5 9 (startLeaves Bits32 t-v5 ([]) (102 ∷ []) ([]) (record { machine = freshOf 7 7 7; stack = replicate 5 9; memory = replicate 0 8 })) .world .machine .used ≡ 0
-unfolding m1.byteAt m2.ifLt m2.ifEq m2.ifTrue m3.key m3.leastOf m4.sameList m4.clearedFrom m4.overlay m5.walk m6.freshOf m7.words m7.firstOf m7.isNamed m7.isNumber m7.entryNamed m7.entryOf m7.numberOf m7.leastOperands m7.mostOperands m8.wordBytes m9.addOf m9.subOf m9.mulOf m9.divOf m9.modOf m9.shlOf m9.bsrOf m9.asrOf m9.rolOf m9.rorOf m9.andOf m9.orOf m9.xorOf m9.notOf m9.ltOf m9.gtOf m9.geOf m9.leOf m9.eqOf m9.neOf m10.expressionListed m10.inFunction m10.sizeAt m10.operandFault m10.addressListed m10.kindFault m10.targetFault m10.calleeFault m10.sizeFault m10.ownWord m10.hasWord m10.wordFault m10.operandsFault m10.addressFault m10.rowFault m10.labelFault m10.countFault m10.tablesFault m11.labelAt m11.isData m11.isFunctionLabel m12.sizesOf m13.behind m13.openBefore m13.groundIn m13.funcIn m13.scopeIn m13.upIn m13.isListed m13.mayStand m13.followsJump m13.stands m13.allClosed m13.isArm m13.isEndIf m13.nextArm m13.endIfOf m13.pastArm m13.targetOf m13.hasTarget m13.depthOf m13.encloses m14.operandOf m14.operandKind m14.operandNumber m14.hasExpression m14.isTest m14.isOperator m14.isCall m14.expressionUses m14.usedBy m14.operandAt m14.slots m14.rowFrom m14.rowAt m14.slotWords m14.encode m15.all m15.some m15.allOf m15.someOf m15.allBelow m15.someBelow m15.countBelow m15.greatestBelow m15.firstFrom m16.statementIn m16.standsIn m16.rowsOf m16.enters m16.leaves m16.groundOf m16.isFrame m16.kindOfWord m17.byteAddress m17.wordAddress m17.byteGood m17.wordGood m17.wordFrom m17.loadOf m17.storeFrom m18.lower m18.lowest m18.orElse m18.nextBad m18.frameEnds m18.rowsUsed m18.recordGood m18.stepBroken m18.numbersBelow m18.startBroken m19.roundUp m19.reserved m19.answered m19.fetched m19.byteOf m19.applied m19.evalOf m19.holds m20.mark m20.frameWords m20.isFirst m20.isReturnCall m20.isReturn m20.isCalling m20.calledFrom m20.headGood m20.passesOn m20.leavesGood m20.rowsLeft m20.landingOf m21.isAt m21.numberIn m21.fetchOf m21.readOf m21.withWord m21.onRead m21.readAll m22.exportsAs m22.exportOf m22.startAnswer m22.startWorld m22.startBy m22.begunBy m22.startOf m22.startLeaves m23.goingOn m23.movedTo m23.ended m23.stopped m23.goesTo m23.keeps m23.stores m23.blockOf m23.endBlockOf m23.testOf m23.workedOf m23.assigned m23.assignedAt m23.setAtOf m23.setByteBy m23.setWordBy m23.argumentsOf m23.callBy m23.callOf m23.tailCallBy m23.handedTo m23.handedBy m23.returned m23.returnOf m23.effectOf m23.idle m23.effected m23.gated m23.inState m23.stepOf m23.counting m23.runOf
-v5-u = refl
-
-abbrev t-v6-1 : Tables
-t-v6-1 = record { statements = 1 ∷ 0 ∷ 0 ∷ 0 ∷ 4 ∷ 1 ∷ 0 ∷ 0 ∷ 0 ∷ 0 ∷ 0 ∷ 0 ∷ 0 ∷ 0 ∷ 0 ∷ 0 ∷ 0 ∷ 0 ∷ 0 ∷ 0 ∷ 0 ∷ 0 ∷ 0 ∷ 0 ∷ 0 ∷ 0 ∷ 0 ∷ 14 ∷ 0 ∷ 0 ∷ 1 ∷ 4 ∷ 0 ∷ 0 ∷ 0 ∷ 2 ∷ 0 ∷ 0 ∷ 2 ∷ 3 ∷ 1 ∷ 1 ∷ 0 ∷ 0 ∷ 0 ∷ 0 ∷ 0 ∷ 0 ∷ 0 ∷ 0 ∷ 0 ∷ 0 ∷ 0 ∷ 0 ∷ 6 ∷ 0 ∷ 0 ∷ 2 ∷ 3 ∷ 0 ∷ 1 ∷ 0 ∷ 1 ∷ 0 ∷ 0 ∷ 1 ∷ 10 ∷ 0 ∷ 0 ∷ 0 ∷ 0 ∷ 0 ∷ 0 ∷ 0 ∷ 0 ∷ 0 ∷ 0 ∷ 0 ∷ 0 ∷ 0 ∷ 0 ∷ 21 ∷ 0 ∷ 0 ∷ 1 ∷ 8 ∷ 0 ∷ 0 ∷ 0 ∷ 0 ∷ 0 ∷ 0 ∷ 0 ∷ 0 ∷ 0 ∷ 0 ∷ 0 ∷ 0 ∷ 0 ∷ 0 ∷ 0 ∷ 0 ∷ 0 ∷ 0 ∷ 0 ∷ 0 ∷ 0 ∷ 0 ∷ 14 ∷ 0 ∷ 0 ∷ 1 ∷ 7 ∷ 0 ∷ 0 ∷ 0 ∷ 2 ∷ 0 ∷ 0 ∷ 2 ∷ 3 ∷ 1 ∷ 2 ∷ 0 ∷ 0 ∷ 0 ∷ 0 ∷ 0 ∷ 0 ∷ 0 ∷ 0 ∷ 0 ∷ 0 ∷ 0 ∷ 0 ∷ 6 ∷ 0 ∷ 0 ∷ 5 ∷ 3 ∷ 0 ∷ 1 ∷ 0 ∷ 1 ∷ 0 ∷ 0 ∷ 1 ∷ 20 ∷ 0 ∷ 0 ∷ 0 ∷ 0 ∷ 0 ∷ 0 ∷ 0 ∷ 0 ∷ 0 ∷ 0 ∷ 0 ∷ 0 ∷ 0 ∷ 0 ∷ 20 ∷ 0 ∷ 0 ∷ 1 ∷ 8 ∷ 0 ∷ 0 ∷ 0 ∷ 0 ∷ 0 ∷ 0 ∷ 0 ∷ 0 ∷ 0 ∷ 0 ∷ 0 ∷ 0 ∷ 0 ∷ 0 ∷ 0 ∷ 0 ∷ 0 ∷ 0 ∷ 0 ∷ 0 ∷ 0 ∷ 0 ∷ 6 ∷ 0 ∷ 0 ∷ 7 ∷ 3 ∷ 0 ∷ 1 ∷ 0 ∷ 1 ∷ 0 ∷ 0 ∷ 1 ∷ 30 ∷ 0 ∷ 0 ∷ 0 ∷ 0 ∷ 0 ∷ 0 ∷ 0 ∷ 0 ∷ 0 ∷ 0 ∷ 0 ∷ 0 ∷ 0 ∷ 0 ∷ 22 ∷ 0 ∷ 0 ∷ 1 ∷ 0 ∷ 0 ∷ 0 ∷ 0 ∷ 0 ∷ 0 ∷ 0 ∷ 0 ∷ 0 ∷ 0 ∷ 0 ∷ 0 ∷ 0 ∷ 0 ∷ 0 ∷ 0 ∷ 0 ∷ 0 ∷ 0 ∷ 0 ∷ 0 ∷ 0 ∷ 0 ∷ 13 ∷ 0 ∷ 0 ∷ 1 ∷ 0 ∷ 0 ∷ 1 ∷ 0 ∷ 1 ∷ 0 ∷ 0 ∷ 2 ∷ 3 ∷ 0 ∷ 0 ∷ 0 ∷ 0 ∷ 0 ∷ 0 ∷ 0 ∷ 0 ∷ 0 ∷ 0 ∷ 0 ∷ 0 ∷ 0 ∷ 0 ∷ 2 ∷ 0 ∷ 0 ∷ 0 ∷ 0 ∷ 0 ∷ 0 ∷ 0 ∷ 0 ∷ 0 ∷ 0 ∷ 0 ∷ 0 ∷ 0 ∷ 0 ∷ 0 ∷ 0 ∷ 0 ∷ 0 ∷ 0 ∷ 0 ∷ 0 ∷ 0 ∷ 0 ∷ 0 ∷ 0 ∷ 0 ∷ []; count = 11; labels = 4 ∷ 0 ∷ 0 ∷ 1 ∷ []; labelCount = 1; names = 102 ∷ 0 ∷ 0 ∷ 0 ∷ 0 ∷ 0 ∷ 0 ∷ 0 ∷ 0 ∷ 0 ∷ 0 ∷ 0 ∷ 0 ∷ 0 ∷ 0 ∷ 0 ∷ 0 ∷ 0 ∷ 0 ∷ 0 ∷ 0 ∷ 0 ∷ 0 ∷ 0 ∷ 0 ∷ 0 ∷ 0 ∷ 0 ∷ 0 ∷ 0 ∷ 0 ∷ 0 ∷ 0 ∷ 0 ∷ 0 ∷ 0 ∷ 0 ∷ 0 ∷ 0 ∷ 0 ∷ 0 ∷ 0 ∷ 0 ∷ 0 ∷ 0 ∷ 0 ∷ 0 ∷ 0 ∷ 0 ∷ 0 ∷ 0 ∷ 0 ∷ 0 ∷ 0 ∷ 0 ∷ 0 ∷ 0 ∷ 0 ∷ 0 ∷ 0 ∷ 0 ∷ 0 ∷ 0 ∷ 0 ∷ []; dataLength = 0 }
-
-v6-1 : runOf Bits32 t-v6-1 9 (startLeaves Bits32 t-v6-1 ([]) (102 ∷ []) (1 ∷ []) (record { machine = freshOf 7 7 7; stack = replicate 4 9; memory = replicate 0 8 })) .world .machine .state ≡ Finished 10
-unfolding m1.byteAt m2.ifLt m2.ifEq m2.ifTrue m3.key m3.leastOf m4.sameList m4.clearedFrom m4.overlay m5.walk m6.freshOf m7.words m7.firstOf m7.isNamed m7.isNumber m7.entryNamed m7.entryOf m7.numberOf m7.leastOperands m7.mostOperands m8.wordBytes m9.addOf m9.subOf m9.mulOf m9.divOf m9.modOf m9.shlOf m9.bsrOf m9.asrOf m9.rolOf m9.rorOf m9.andOf m9.orOf m9.xorOf m9.notOf m9.ltOf m9.gtOf m9.geOf m9.leOf m9.eqOf m9.neOf m10.expressionListed m10.inFunction m10.sizeAt m10.operandFault m10.addressListed m10.kindFault m10.targetFault m10.calleeFault m10.sizeFault m10.ownWord m10.hasWord m10.wordFault m10.operandsFault m10.addressFault m10.rowFault m10.labelFault m10.countFault m10.tablesFault m11.labelAt m11.isData m11.isFunctionLabel m12.sizesOf m13.behind m13.openBefore m13.groundIn m13.funcIn m13.scopeIn m13.upIn m13.isListed m13.mayStand m13.followsJump m13.stands m13.allClosed m13.isArm m13.isEndIf m13.nextArm m13.endIfOf m13.pastArm m13.targetOf m13.hasTarget m13.depthOf m13.encloses m14.operandOf m14.operandKind m14.operandNumber m14.hasExpression m14.isTest m14.isOperator m14.isCall m14.expressionUses m14.usedBy m14.operandAt m14.slots m14.rowFrom m14.rowAt m14.slotWords m14.encode m15.all m15.some m15.allOf m15.someOf m15.allBelow m15.someBelow m15.countBelow m15.greatestBelow m15.firstFrom m16.statementIn m16.standsIn m16.rowsOf m16.enters m16.leaves m16.groundOf m16.isFrame m16.kindOfWord m17.byteAddress m17.wordAddress m17.byteGood m17.wordGood m17.wordFrom m17.loadOf m17.storeFrom m18.lower m18.lowest m18.orElse m18.nextBad m18.frameEnds m18.rowsUsed m18.recordGood m18.stepBroken m18.numbersBelow m18.startBroken m19.roundUp m19.reserved m19.answered m19.fetched m19.byteOf m19.applied m19.evalOf m19.holds m20.mark m20.frameWords m20.isFirst m20.isReturnCall m20.isReturn m20.isCalling m20.calledFrom m20.headGood m20.passesOn m20.leavesGood m20.rowsLeft m20.landingOf m21.isAt m21.numberIn m21.fetchOf m21.readOf m21.withWord m21.onRead m21.readAll m22.exportsAs m22.exportOf m22.startAnswer m22.startWorld m22.startBy m22.begunBy m22.startOf m22.startLeaves m23.goingOn m23.movedTo m23.ended m23.stopped m23.goesTo m23.keeps m23.stores m23.blockOf m23.endBlockOf m23.testOf m23.workedOf m23.assigned m23.assignedAt m23.setAtOf m23.setByteBy m23.setWordBy m23.argumentsOf m23.callBy m23.callOf m23.tailCallBy m23.handedTo m23.handedBy m23.returned m23.returnOf m23.effectOf m23.idle m23.effected m23.gated m23.inState m23.stepOf m23.counting m23.runOf
-v6-1 = refl
-
-v6-1-n : runOf Bits32 t-v6-1 9 (startLeaves Bits32 t-v6-1 ([]) (102 ∷ []) (1 ∷ []) (record { machine = freshOf 7 7 7; stack = replicate 4 9; memory = replicate 0 8 })) .count ≡ 5
-unfolding m1.byteAt m2.ifLt m2.ifEq m2.ifTrue m3.key m3.leastOf m4.sameList m4.clearedFrom m4.overlay m5.walk m6.freshOf m7.words m7.firstOf m7.isNamed m7.isNumber m7.entryNamed m7.entryOf m7.numberOf m7.leastOperands m7.mostOperands m8.wordBytes m9.addOf m9.subOf m9.mulOf m9.divOf m9.modOf m9.shlOf m9.bsrOf m9.asrOf m9.rolOf m9.rorOf m9.andOf m9.orOf m9.xorOf m9.notOf m9.ltOf m9.gtOf m9.geOf m9.leOf m9.eqOf m9.neOf m10.expressionListed m10.inFunction m10.sizeAt m10.operandFault m10.addressListed m10.kindFault m10.targetFault m10.calleeFault m10.sizeFault m10.ownWord m10.hasWord m10.wordFault m10.operandsFault m10.addressFault m10.rowFault m10.labelFault m10.countFault m10.tablesFault m11.labelAt m11.isData m11.isFunctionLabel m12.sizesOf m13.behind m13.openBefore m13.groundIn m13.funcIn m13.scopeIn m13.upIn m13.isListed m13.mayStand m13.followsJump m13.stands m13.allClosed m13.isArm m13.isEndIf m13.nextArm m13.endIfOf m13.pastArm m13.targetOf m13.hasTarget m13.depthOf m13.encloses m14.operandOf m14.operandKind m14.operandNumber m14.hasExpression m14.isTest m14.isOperator m14.isCall m14.expressionUses m14.usedBy m14.operandAt m14.slots m14.rowFrom m14.rowAt m14.slotWords m14.encode m15.all m15.some m15.allOf m15.someOf m15.allBelow m15.someBelow m15.countBelow m15.greatestBelow m15.firstFrom m16.statementIn m16.standsIn m16.rowsOf m16.enters m16.leaves m16.groundOf m16.isFrame m16.kindOfWord m17.byteAddress m17.wordAddress m17.byteGood m17.wordGood m17.wordFrom m17.loadOf m17.storeFrom m18.lower m18.lowest m18.orElse m18.nextBad m18.frameEnds m18.rowsUsed m18.recordGood m18.stepBroken m18.numbersBelow m18.startBroken m19.roundUp m19.reserved m19.answered m19.fetched m19.byteOf m19.applied m19.evalOf m19.holds m20.mark m20.frameWords m20.isFirst m20.isReturnCall m20.isReturn m20.isCalling m20.calledFrom m20.headGood m20.passesOn m20.leavesGood m20.rowsLeft m20.landingOf m21.isAt m21.numberIn m21.fetchOf m21.readOf m21.withWord m21.onRead m21.readAll m22.exportsAs m22.exportOf m22.startAnswer m22.startWorld m22.startBy m22.begunBy m22.startOf m22.startLeaves m23.goingOn m23.movedTo m23.ended m23.stopped m23.goesTo m23.keeps m23.stores m23.blockOf m23.endBlockOf m23.testOf m23.workedOf m23.assigned m23.assignedAt m23.setAtOf m23.setByteBy m23.setWordBy m23.argumentsOf m23.callBy m23.callOf m23.tailCallBy m23.handedTo m23.handedBy m23.returned m23.returnOf m23.effectOf m23.idle m23.effected m23.gated m23.inState m23.stepOf m23.counting m23.runOf
-v6-1-n = refl
-
-v6-1-u : runOf Bits32 t-v6-1 9 (startLeaves Bits32 t-v6-1 ([]) (102 ∷ []) (1 ∷ []) (record { machine = freshOf 7 7 7; stack = replicate 4 9; memory = replicate 0 8 })) .world .machine .used ≡ 0
-unfolding m1.byteAt m2.ifLt m2.ifEq m2.ifTrue m3.key m3.leastOf m4.sameList m4.clearedFrom m4.overlay m5.walk m6.freshOf m7.words m7.firstOf m7.isNamed m7.isNumber m7.entryNamed m7.entryOf m7.numberOf m7.leastOperands m7.mostOperands m8.wordBytes m9.addOf m9.subOf m9.mulOf m9.divOf m9.modOf m9.shlOf m9.bsrOf m9.asrOf m9.rolOf m9.rorOf m9.andOf m9.orOf m9.xorOf m9.notOf m9.ltOf m9.gtOf m9.geOf m9.leOf m9.eqOf m9.neOf m10.expressionListed m10.inFunction m10.sizeAt m10.operandFault m10.addressListed m10.kindFault m10.targetFault m10.calleeFault m10.sizeFault m10.ownWord m10.hasWord m10.wordFault m10.operandsFault m10.addressFault m10.rowFault m10.labelFault m10.countFault m10.tablesFault m11.labelAt m11.isData m11.isFunctionLabel m12.sizesOf m13.behind m13.openBefore m13.groundIn m13.funcIn m13.scopeIn m13.upIn m13.isListed m13.mayStand m13.followsJump m13.stands m13.allClosed m13.isArm m13.isEndIf m13.nextArm m13.endIfOf m13.pastArm m13.targetOf m13.hasTarget m13.depthOf m13.encloses m14.operandOf m14.operandKind m14.operandNumber m14.hasExpression m14.isTest m14.isOperator m14.isCall m14.expressionUses m14.usedBy m14.operandAt m14.slots m14.rowFrom m14.rowAt m14.slotWords m14.encode m15.all m15.some m15.allOf m15.someOf m15.allBelow m15.someBelow m15.countBelow m15.greatestBelow m15.firstFrom m16.statementIn m16.standsIn m16.rowsOf m16.enters m16.leaves m16.groundOf m16.isFrame m16.kindOfWord m17.byteAddress m17.wordAddress m17.byteGood m17.wordGood m17.wordFrom m17.loadOf m17.storeFrom m18.lower m18.lowest m18.orElse m18.nextBad m18.frameEnds m18.rowsUsed m18.recordGood m18.stepBroken m18.numbersBelow m18.startBroken m19.roundUp m19.reserved m19.answered m19.fetched m19.byteOf m19.applied m19.evalOf m19.holds m20.mark m20.frameWords m20.isFirst m20.isReturnCall m20.isReturn m20.isCalling m20.calledFrom m20.headGood m20.passesOn m20.leavesGood m20.rowsLeft m20.landingOf m21.isAt m21.numberIn m21.fetchOf m21.readOf m21.withWord m21.onRead m21.readAll m22.exportsAs m22.exportOf m22.startAnswer m22.startWorld m22.startBy m22.begunBy m22.startOf m22.startLeaves m23.goingOn m23.movedTo m23.ended m23.stopped m23.goesTo m23.keeps m23.stores m23.blockOf m23.endBlockOf m23.testOf m23.workedOf m23.assigned m23.assignedAt m23.setAtOf m23.setByteBy m23.setWordBy m23.argumentsOf m23.callBy m23.callOf m23.tailCallBy m23.handedTo m23.handedBy m23.returned m23.returnOf m23.effectOf m23.idle m23.effected m23.gated m23.inState m23.stepOf m23.counting m23.runOf
-v6-1-u = refl
-
-abbrev t-v6-2 : Tables
-t-v6-2 = record { statements = 1 ∷ 0 ∷ 0 ∷ 0 ∷ 4 ∷ 1 ∷ 0 ∷ 0 ∷ 0 ∷ 0 ∷ 0 ∷ 0 ∷ 0 ∷ 0 ∷ 0 ∷ 0 ∷ 0 ∷ 0 ∷ 0 ∷ 0 ∷ 0 ∷ 0 ∷ 0 ∷ 0 ∷ 0 ∷ 0 ∷ 0 ∷ 14 ∷ 0 ∷ 0 ∷ 1 ∷ 4 ∷ 0 ∷ 0 ∷ 0 ∷ 2 ∷ 0 ∷ 0 ∷ 2 ∷ 3 ∷ 1 ∷ 1 ∷ 0 ∷ 0 ∷ 0 ∷ 0 ∷ 0 ∷ 0 ∷ 0 ∷ 0 ∷ 0 ∷ 0 ∷ 0 ∷ 0 ∷ 6 ∷ 0 ∷ 0 ∷ 2 ∷ 3 ∷ 0 ∷ 1 ∷ 0 ∷ 1 ∷ 0 ∷ 0 ∷ 1 ∷ 10 ∷ 0 ∷ 0 ∷ 0 ∷ 0 ∷ 0 ∷ 0 ∷ 0 ∷ 0 ∷ 0 ∷ 0 ∷ 0 ∷ 0 ∷ 0 ∷ 0 ∷ 21 ∷ 0 ∷ 0 ∷ 1 ∷ 8 ∷ 0 ∷ 0 ∷ 0 ∷ 0 ∷ 0 ∷ 0 ∷ 0 ∷ 0 ∷ 0 ∷ 0 ∷ 0 ∷ 0 ∷ 0 ∷ 0 ∷ 0 ∷ 0 ∷ 0 ∷ 0 ∷ 0 ∷ 0 ∷ 0 ∷ 0 ∷ 14 ∷ 0 ∷ 0 ∷ 1 ∷ 7 ∷ 0 ∷ 0 ∷ 0 ∷ 2 ∷ 0 ∷ 0 ∷ 2 ∷ 3 ∷ 1 ∷ 2 ∷ 0 ∷ 0 ∷ 0 ∷ 0 ∷ 0 ∷ 0 ∷ 0 ∷ 0 ∷ 0 ∷ 0 ∷ 0 ∷ 0 ∷ 6 ∷ 0 ∷ 0 ∷ 5 ∷ 3 ∷ 0 ∷ 1 ∷ 0 ∷ 1 ∷ 0 ∷ 0 ∷ 1 ∷ 20 ∷ 0 ∷ 0 ∷ 0 ∷ 0 ∷ 0 ∷ 0 ∷ 0 ∷ 0 ∷ 0 ∷ 0 ∷ 0 ∷ 0 ∷ 0 ∷ 0 ∷ 20 ∷ 0 ∷ 0 ∷ 1 ∷ 8 ∷ 0 ∷ 0 ∷ 0 ∷ 0 ∷ 0 ∷ 0 ∷ 0 ∷ 0 ∷ 0 ∷ 0 ∷ 0 ∷ 0 ∷ 0 ∷ 0 ∷ 0 ∷ 0 ∷ 0 ∷ 0 ∷ 0 ∷ 0 ∷ 0 ∷ 0 ∷ 6 ∷ 0 ∷ 0 ∷ 7 ∷ 3 ∷ 0 ∷ 1 ∷ 0 ∷ 1 ∷ 0 ∷ 0 ∷ 1 ∷ 30 ∷ 0 ∷ 0 ∷ 0 ∷ 0 ∷ 0 ∷ 0 ∷ 0 ∷ 0 ∷ 0 ∷ 0 ∷ 0 ∷ 0 ∷ 0 ∷ 0 ∷ 22 ∷ 0 ∷ 0 ∷ 1 ∷ 0 ∷ 0 ∷ 0 ∷ 0 ∷ 0 ∷ 0 ∷ 0 ∷ 0 ∷ 0 ∷ 0 ∷ 0 ∷ 0 ∷ 0 ∷ 0 ∷ 0 ∷ 0 ∷ 0 ∷ 0 ∷ 0 ∷ 0 ∷ 0 ∷ 0 ∷ 0 ∷ 13 ∷ 0 ∷ 0 ∷ 1 ∷ 0 ∷ 0 ∷ 1 ∷ 0 ∷ 1 ∷ 0 ∷ 0 ∷ 2 ∷ 3 ∷ 0 ∷ 0 ∷ 0 ∷ 0 ∷ 0 ∷ 0 ∷ 0 ∷ 0 ∷ 0 ∷ 0 ∷ 0 ∷ 0 ∷ 0 ∷ 0 ∷ 2 ∷ 0 ∷ 0 ∷ 0 ∷ 0 ∷ 0 ∷ 0 ∷ 0 ∷ 0 ∷ 0 ∷ 0 ∷ 0 ∷ 0 ∷ 0 ∷ 0 ∷ 0 ∷ 0 ∷ 0 ∷ 0 ∷ 0 ∷ 0 ∷ 0 ∷ 0 ∷ 0 ∷ 0 ∷ 0 ∷ 0 ∷ []; count = 11; labels = 4 ∷ 0 ∷ 0 ∷ 1 ∷ []; labelCount = 1; names = 102 ∷ 0 ∷ 0 ∷ 0 ∷ 0 ∷ 0 ∷ 0 ∷ 0 ∷ 0 ∷ 0 ∷ 0 ∷ 0 ∷ 0 ∷ 0 ∷ 0 ∷ 0 ∷ 0 ∷ 0 ∷ 0 ∷ 0 ∷ 0 ∷ 0 ∷ 0 ∷ 0 ∷ 0 ∷ 0 ∷ 0 ∷ 0 ∷ 0 ∷ 0 ∷ 0 ∷ 0 ∷ 0 ∷ 0 ∷ 0 ∷ 0 ∷ 0 ∷ 0 ∷ 0 ∷ 0 ∷ 0 ∷ 0 ∷ 0 ∷ 0 ∷ 0 ∷ 0 ∷ 0 ∷ 0 ∷ 0 ∷ 0 ∷ 0 ∷ 0 ∷ 0 ∷ 0 ∷ 0 ∷ 0 ∷ 0 ∷ 0 ∷ 0 ∷ 0 ∷ 0 ∷ 0 ∷ 0 ∷ 0 ∷ []; dataLength = 0 }
-
-v6-2 : runOf Bits32 t-v6-2 9 (startLeaves Bits32 t-v6-2 ([]) (102 ∷ []) (2 ∷ []) (record { machine = freshOf 7 7 7; stack = replicate 4 9; memory = replicate 0 8 })) .world .machine .state ≡ Finished 20
-unfolding m1.byteAt m2.ifLt m2.ifEq m2.ifTrue m3.key m3.leastOf m4.sameList m4.clearedFrom m4.overlay m5.walk m6.freshOf m7.words m7.firstOf m7.isNamed m7.isNumber m7.entryNamed m7.entryOf m7.numberOf m7.leastOperands m7.mostOperands m8.wordBytes m9.addOf m9.subOf m9.mulOf m9.divOf m9.modOf m9.shlOf m9.bsrOf m9.asrOf m9.rolOf m9.rorOf m9.andOf m9.orOf m9.xorOf m9.notOf m9.ltOf m9.gtOf m9.geOf m9.leOf m9.eqOf m9.neOf m10.expressionListed m10.inFunction m10.sizeAt m10.operandFault m10.addressListed m10.kindFault m10.targetFault m10.calleeFault m10.sizeFault m10.ownWord m10.hasWord m10.wordFault m10.operandsFault m10.addressFault m10.rowFault m10.labelFault m10.countFault m10.tablesFault m11.labelAt m11.isData m11.isFunctionLabel m12.sizesOf m13.behind m13.openBefore m13.groundIn m13.funcIn m13.scopeIn m13.upIn m13.isListed m13.mayStand m13.followsJump m13.stands m13.allClosed m13.isArm m13.isEndIf m13.nextArm m13.endIfOf m13.pastArm m13.targetOf m13.hasTarget m13.depthOf m13.encloses m14.operandOf m14.operandKind m14.operandNumber m14.hasExpression m14.isTest m14.isOperator m14.isCall m14.expressionUses m14.usedBy m14.operandAt m14.slots m14.rowFrom m14.rowAt m14.slotWords m14.encode m15.all m15.some m15.allOf m15.someOf m15.allBelow m15.someBelow m15.countBelow m15.greatestBelow m15.firstFrom m16.statementIn m16.standsIn m16.rowsOf m16.enters m16.leaves m16.groundOf m16.isFrame m16.kindOfWord m17.byteAddress m17.wordAddress m17.byteGood m17.wordGood m17.wordFrom m17.loadOf m17.storeFrom m18.lower m18.lowest m18.orElse m18.nextBad m18.frameEnds m18.rowsUsed m18.recordGood m18.stepBroken m18.numbersBelow m18.startBroken m19.roundUp m19.reserved m19.answered m19.fetched m19.byteOf m19.applied m19.evalOf m19.holds m20.mark m20.frameWords m20.isFirst m20.isReturnCall m20.isReturn m20.isCalling m20.calledFrom m20.headGood m20.passesOn m20.leavesGood m20.rowsLeft m20.landingOf m21.isAt m21.numberIn m21.fetchOf m21.readOf m21.withWord m21.onRead m21.readAll m22.exportsAs m22.exportOf m22.startAnswer m22.startWorld m22.startBy m22.begunBy m22.startOf m22.startLeaves m23.goingOn m23.movedTo m23.ended m23.stopped m23.goesTo m23.keeps m23.stores m23.blockOf m23.endBlockOf m23.testOf m23.workedOf m23.assigned m23.assignedAt m23.setAtOf m23.setByteBy m23.setWordBy m23.argumentsOf m23.callBy m23.callOf m23.tailCallBy m23.handedTo m23.handedBy m23.returned m23.returnOf m23.effectOf m23.idle m23.effected m23.gated m23.inState m23.stepOf m23.counting m23.runOf
-v6-2 = refl
-
-v6-2-n : runOf Bits32 t-v6-2 9 (startLeaves Bits32 t-v6-2 ([]) (102 ∷ []) (2 ∷ []) (record { machine = freshOf 7 7 7; stack = replicate 4 9; memory = replicate 0 8 })) .count ≡ 6
-unfolding m1.byteAt m2.ifLt m2.ifEq m2.ifTrue m3.key m3.leastOf m4.sameList m4.clearedFrom m4.overlay m5.walk m6.freshOf m7.words m7.firstOf m7.isNamed m7.isNumber m7.entryNamed m7.entryOf m7.numberOf m7.leastOperands m7.mostOperands m8.wordBytes m9.addOf m9.subOf m9.mulOf m9.divOf m9.modOf m9.shlOf m9.bsrOf m9.asrOf m9.rolOf m9.rorOf m9.andOf m9.orOf m9.xorOf m9.notOf m9.ltOf m9.gtOf m9.geOf m9.leOf m9.eqOf m9.neOf m10.expressionListed m10.inFunction m10.sizeAt m10.operandFault m10.addressListed m10.kindFault m10.targetFault m10.calleeFault m10.sizeFault m10.ownWord m10.hasWord m10.wordFault m10.operandsFault m10.addressFault m10.rowFault m10.labelFault m10.countFault m10.tablesFault m11.labelAt m11.isData m11.isFunctionLabel m12.sizesOf m13.behind m13.openBefore m13.groundIn m13.funcIn m13.scopeIn m13.upIn m13.isListed m13.mayStand m13.followsJump m13.stands m13.allClosed m13.isArm m13.isEndIf m13.nextArm m13.endIfOf m13.pastArm m13.targetOf m13.hasTarget m13.depthOf m13.encloses m14.operandOf m14.operandKind m14.operandNumber m14.hasExpression m14.isTest m14.isOperator m14.isCall m14.expressionUses m14.usedBy m14.operandAt m14.slots m14.rowFrom m14.rowAt m14.slotWords m14.encode m15.all m15.some m15.allOf m15.someOf m15.allBelow m15.someBelow m15.countBelow m15.greatestBelow m15.firstFrom m16.statementIn m16.standsIn m16.rowsOf m16.enters m16.leaves m16.groundOf m16.isFrame m16.kindOfWord m17.byteAddress m17.wordAddress m17.byteGood m17.wordGood m17.wordFrom m17.loadOf m17.storeFrom m18.lower m18.lowest m18.orElse m18.nextBad m18.frameEnds m18.rowsUsed m18.recordGood m18.stepBroken m18.numbersBelow m18.startBroken m19.roundUp m19.reserved m19.answered m19.fetched m19.byteOf m19.applied m19.evalOf m19.holds m20.mark m20.frameWords m20.isFirst m20.isReturnCall m20.isReturn m20.isCalling m20.calledFrom m20.headGood m20.passesOn m20.leavesGood m20.rowsLeft m20.landingOf m21.isAt m21.numberIn m21.fetchOf m21.readOf m21.withWord m21.onRead m21.readAll m22.exportsAs m22.exportOf m22.startAnswer m22.startWorld m22.startBy m22.begunBy m22.startOf m22.startLeaves m23.goingOn m23.movedTo m23.ended m23.stopped m23.goesTo m23.keeps m23.stores m23.blockOf m23.endBlockOf m23.testOf m23.workedOf m23.assigned m23.assignedAt m23.setAtOf m23.setByteBy m23.setWordBy m23.argumentsOf m23.callBy m23.callOf m23.tailCallBy m23.handedTo m23.handedBy m23.returned m23.returnOf m23.effectOf m23.idle m23.effected m23.gated m23.inState m23.stepOf m23.counting m23.runOf
-v6-2-n = refl
-
-v6-2-u : runOf Bits32 t-v6-2 9 (startLeaves Bits32 t-v6-2 ([]) (102 ∷ []) (2 ∷ []) (record { machine = freshOf 7 7 7; stack = replicate 4 9; memory = replicate 0 8 })) .world .machine .used ≡ 0
-unfolding m1.byteAt m2.ifLt m2.ifEq m2.ifTrue m3.key m3.leastOf m4.sameList m4.clearedFrom m4.overlay m5.walk m6.freshOf m7.words m7.firstOf m7.isNamed m7.isNumber m7.entryNamed m7.entryOf m7.numberOf m7.leastOperands m7.mostOperands m8.wordBytes m9.addOf m9.subOf m9.mulOf m9.divOf m9.modOf m9.shlOf m9.bsrOf m9.asrOf m9.rolOf m9.rorOf m9.andOf m9.orOf m9.xorOf m9.notOf m9.ltOf m9.gtOf m9.geOf m9.leOf m9.eqOf m9.neOf m10.expressionListed m10.inFunction m10.sizeAt m10.operandFault m10.addressListed m10.kindFault m10.targetFault m10.calleeFault m10.sizeFault m10.ownWord m10.hasWord m10.wordFault m10.operandsFault m10.addressFault m10.rowFault m10.labelFault m10.countFault m10.tablesFault m11.labelAt m11.isData m11.isFunctionLabel m12.sizesOf m13.behind m13.openBefore m13.groundIn m13.funcIn m13.scopeIn m13.upIn m13.isListed m13.mayStand m13.followsJump m13.stands m13.allClosed m13.isArm m13.isEndIf m13.nextArm m13.endIfOf m13.pastArm m13.targetOf m13.hasTarget m13.depthOf m13.encloses m14.operandOf m14.operandKind m14.operandNumber m14.hasExpression m14.isTest m14.isOperator m14.isCall m14.expressionUses m14.usedBy m14.operandAt m14.slots m14.rowFrom m14.rowAt m14.slotWords m14.encode m15.all m15.some m15.allOf m15.someOf m15.allBelow m15.someBelow m15.countBelow m15.greatestBelow m15.firstFrom m16.statementIn m16.standsIn m16.rowsOf m16.enters m16.leaves m16.groundOf m16.isFrame m16.kindOfWord m17.byteAddress m17.wordAddress m17.byteGood m17.wordGood m17.wordFrom m17.loadOf m17.storeFrom m18.lower m18.lowest m18.orElse m18.nextBad m18.frameEnds m18.rowsUsed m18.recordGood m18.stepBroken m18.numbersBelow m18.startBroken m19.roundUp m19.reserved m19.answered m19.fetched m19.byteOf m19.applied m19.evalOf m19.holds m20.mark m20.frameWords m20.isFirst m20.isReturnCall m20.isReturn m20.isCalling m20.calledFrom m20.headGood m20.passesOn m20.leavesGood m20.rowsLeft m20.landingOf m21.isAt m21.numberIn m21.fetchOf m21.readOf m21.withWord m21.onRead m21.readAll m22.exportsAs m22.exportOf m22.startAnswer m22.startWorld m22.startBy m22.begunBy m22.startOf m22.startLeaves m23.goingOn m23.movedTo m23.ended m23.stopped m23.goesTo m23.keeps m23.stores m23.blockOf m23.endBlockOf m23.testOf m23.workedOf m23.assigned m23.assignedAt m23.setAtOf m23.setByteBy m23.setWordBy m23.argumentsOf m23.callBy m23.callOf m23.tailCallBy m23.handedTo m23.handedBy m23.returned m23.returnOf m23.effectOf m23.idle m23.effected m23.gated m23.inState m23.stepOf m23.counting m23.runOf
-v6-2-u = refl
-
-abbrev t-v6-3 : Tables
-t-v6-3 = record { statements = 1 ∷ 0 ∷ 0 ∷ 0 ∷ 4 ∷ 1 ∷ 0 ∷ 0 ∷ 0 ∷ 0 ∷ 0 ∷ 0 ∷ 0 ∷ 0 ∷ 0 ∷ 0 ∷ 0 ∷ 0 ∷ 0 ∷ 0 ∷ 0 ∷ 0 ∷ 0 ∷ 0 ∷ 0 ∷ 0 ∷ 0 ∷ 14 ∷ 0 ∷ 0 ∷ 1 ∷ 4 ∷ 0 ∷ 0 ∷ 0 ∷ 2 ∷ 0 ∷ 0 ∷ 2 ∷ 3 ∷ 1 ∷ 1 ∷ 0 ∷ 0 ∷ 0 ∷ 0 ∷ 0 ∷ 0 ∷ 0 ∷ 0 ∷ 0 ∷ 0 ∷ 0 ∷ 0 ∷ 6 ∷ 0 ∷ 0 ∷ 2 ∷ 3 ∷ 0 ∷ 1 ∷ 0 ∷ 1 ∷ 0 ∷ 0 ∷ 1 ∷ 10 ∷ 0 ∷ 0 ∷ 0 ∷ 0 ∷ 0 ∷ 0 ∷ 0 ∷ 0 ∷ 0 ∷ 0 ∷ 0 ∷ 0 ∷ 0 ∷ 0 ∷ 21 ∷ 0 ∷ 0 ∷ 1 ∷ 8 ∷ 0 ∷ 0 ∷ 0 ∷ 0 ∷ 0 ∷ 0 ∷ 0 ∷ 0 ∷ 0 ∷ 0 ∷ 0 ∷ 0 ∷ 0 ∷ 0 ∷ 0 ∷ 0 ∷ 0 ∷ 0 ∷ 0 ∷ 0 ∷ 0 ∷ 0 ∷ 14 ∷ 0 ∷ 0 ∷ 1 ∷ 7 ∷ 0 ∷ 0 ∷ 0 ∷ 2 ∷ 0 ∷ 0 ∷ 2 ∷ 3 ∷ 1 ∷ 2 ∷ 0 ∷ 0 ∷ 0 ∷ 0 ∷ 0 ∷ 0 ∷ 0 ∷ 0 ∷ 0 ∷ 0 ∷ 0 ∷ 0 ∷ 6 ∷ 0 ∷ 0 ∷ 5 ∷ 3 ∷ 0 ∷ 1 ∷ 0 ∷ 1 ∷ 0 ∷ 0 ∷ 1 ∷ 20 ∷ 0 ∷ 0 ∷ 0 ∷ 0 ∷ 0 ∷ 0 ∷ 0 ∷ 0 ∷ 0 ∷ 0 ∷ 0 ∷ 0 ∷ 0 ∷ 0 ∷ 20 ∷ 0 ∷ 0 ∷ 1 ∷ 8 ∷ 0 ∷ 0 ∷ 0 ∷ 0 ∷ 0 ∷ 0 ∷ 0 ∷ 0 ∷ 0 ∷ 0 ∷ 0 ∷ 0 ∷ 0 ∷ 0 ∷ 0 ∷ 0 ∷ 0 ∷ 0 ∷ 0 ∷ 0 ∷ 0 ∷ 0 ∷ 6 ∷ 0 ∷ 0 ∷ 7 ∷ 3 ∷ 0 ∷ 1 ∷ 0 ∷ 1 ∷ 0 ∷ 0 ∷ 1 ∷ 30 ∷ 0 ∷ 0 ∷ 0 ∷ 0 ∷ 0 ∷ 0 ∷ 0 ∷ 0 ∷ 0 ∷ 0 ∷ 0 ∷ 0 ∷ 0 ∷ 0 ∷ 22 ∷ 0 ∷ 0 ∷ 1 ∷ 0 ∷ 0 ∷ 0 ∷ 0 ∷ 0 ∷ 0 ∷ 0 ∷ 0 ∷ 0 ∷ 0 ∷ 0 ∷ 0 ∷ 0 ∷ 0 ∷ 0 ∷ 0 ∷ 0 ∷ 0 ∷ 0 ∷ 0 ∷ 0 ∷ 0 ∷ 0 ∷ 13 ∷ 0 ∷ 0 ∷ 1 ∷ 0 ∷ 0 ∷ 1 ∷ 0 ∷ 1 ∷ 0 ∷ 0 ∷ 2 ∷ 3 ∷ 0 ∷ 0 ∷ 0 ∷ 0 ∷ 0 ∷ 0 ∷ 0 ∷ 0 ∷ 0 ∷ 0 ∷ 0 ∷ 0 ∷ 0 ∷ 0 ∷ 2 ∷ 0 ∷ 0 ∷ 0 ∷ 0 ∷ 0 ∷ 0 ∷ 0 ∷ 0 ∷ 0 ∷ 0 ∷ 0 ∷ 0 ∷ 0 ∷ 0 ∷ 0 ∷ 0 ∷ 0 ∷ 0 ∷ 0 ∷ 0 ∷ 0 ∷ 0 ∷ 0 ∷ 0 ∷ 0 ∷ 0 ∷ []; count = 11; labels = 4 ∷ 0 ∷ 0 ∷ 1 ∷ []; labelCount = 1; names = 102 ∷ 0 ∷ 0 ∷ 0 ∷ 0 ∷ 0 ∷ 0 ∷ 0 ∷ 0 ∷ 0 ∷ 0 ∷ 0 ∷ 0 ∷ 0 ∷ 0 ∷ 0 ∷ 0 ∷ 0 ∷ 0 ∷ 0 ∷ 0 ∷ 0 ∷ 0 ∷ 0 ∷ 0 ∷ 0 ∷ 0 ∷ 0 ∷ 0 ∷ 0 ∷ 0 ∷ 0 ∷ 0 ∷ 0 ∷ 0 ∷ 0 ∷ 0 ∷ 0 ∷ 0 ∷ 0 ∷ 0 ∷ 0 ∷ 0 ∷ 0 ∷ 0 ∷ 0 ∷ 0 ∷ 0 ∷ 0 ∷ 0 ∷ 0 ∷ 0 ∷ 0 ∷ 0 ∷ 0 ∷ 0 ∷ 0 ∷ 0 ∷ 0 ∷ 0 ∷ 0 ∷ 0 ∷ 0 ∷ 0 ∷ []; dataLength = 0 }
-
-v6-3 : runOf Bits32 t-v6-3 9 (startLeaves Bits32 t-v6-3 ([]) (102 ∷ []) (3 ∷ []) (record { machine = freshOf 7 7 7; stack = replicate 4 9; memory = replicate 0 8 })) .world .machine .state ≡ Finished 30
-unfolding m1.byteAt m2.ifLt m2.ifEq m2.ifTrue m3.key m3.leastOf m4.sameList m4.clearedFrom m4.overlay m5.walk m6.freshOf m7.words m7.firstOf m7.isNamed m7.isNumber m7.entryNamed m7.entryOf m7.numberOf m7.leastOperands m7.mostOperands m8.wordBytes m9.addOf m9.subOf m9.mulOf m9.divOf m9.modOf m9.shlOf m9.bsrOf m9.asrOf m9.rolOf m9.rorOf m9.andOf m9.orOf m9.xorOf m9.notOf m9.ltOf m9.gtOf m9.geOf m9.leOf m9.eqOf m9.neOf m10.expressionListed m10.inFunction m10.sizeAt m10.operandFault m10.addressListed m10.kindFault m10.targetFault m10.calleeFault m10.sizeFault m10.ownWord m10.hasWord m10.wordFault m10.operandsFault m10.addressFault m10.rowFault m10.labelFault m10.countFault m10.tablesFault m11.labelAt m11.isData m11.isFunctionLabel m12.sizesOf m13.behind m13.openBefore m13.groundIn m13.funcIn m13.scopeIn m13.upIn m13.isListed m13.mayStand m13.followsJump m13.stands m13.allClosed m13.isArm m13.isEndIf m13.nextArm m13.endIfOf m13.pastArm m13.targetOf m13.hasTarget m13.depthOf m13.encloses m14.operandOf m14.operandKind m14.operandNumber m14.hasExpression m14.isTest m14.isOperator m14.isCall m14.expressionUses m14.usedBy m14.operandAt m14.slots m14.rowFrom m14.rowAt m14.slotWords m14.encode m15.all m15.some m15.allOf m15.someOf m15.allBelow m15.someBelow m15.countBelow m15.greatestBelow m15.firstFrom m16.statementIn m16.standsIn m16.rowsOf m16.enters m16.leaves m16.groundOf m16.isFrame m16.kindOfWord m17.byteAddress m17.wordAddress m17.byteGood m17.wordGood m17.wordFrom m17.loadOf m17.storeFrom m18.lower m18.lowest m18.orElse m18.nextBad m18.frameEnds m18.rowsUsed m18.recordGood m18.stepBroken m18.numbersBelow m18.startBroken m19.roundUp m19.reserved m19.answered m19.fetched m19.byteOf m19.applied m19.evalOf m19.holds m20.mark m20.frameWords m20.isFirst m20.isReturnCall m20.isReturn m20.isCalling m20.calledFrom m20.headGood m20.passesOn m20.leavesGood m20.rowsLeft m20.landingOf m21.isAt m21.numberIn m21.fetchOf m21.readOf m21.withWord m21.onRead m21.readAll m22.exportsAs m22.exportOf m22.startAnswer m22.startWorld m22.startBy m22.begunBy m22.startOf m22.startLeaves m23.goingOn m23.movedTo m23.ended m23.stopped m23.goesTo m23.keeps m23.stores m23.blockOf m23.endBlockOf m23.testOf m23.workedOf m23.assigned m23.assignedAt m23.setAtOf m23.setByteBy m23.setWordBy m23.argumentsOf m23.callBy m23.callOf m23.tailCallBy m23.handedTo m23.handedBy m23.returned m23.returnOf m23.effectOf m23.idle m23.effected m23.gated m23.inState m23.stepOf m23.counting m23.runOf
-v6-3 = refl
-
-v6-3-n : runOf Bits32 t-v6-3 9 (startLeaves Bits32 t-v6-3 ([]) (102 ∷ []) (3 ∷ []) (record { machine = freshOf 7 7 7; stack = replicate 4 9; memory = replicate 0 8 })) .count ≡ 5
-unfolding m1.byteAt m2.ifLt m2.ifEq m2.ifTrue m3.key m3.leastOf m4.sameList m4.clearedFrom m4.overlay m5.walk m6.freshOf m7.words m7.firstOf m7.isNamed m7.isNumber m7.entryNamed m7.entryOf m7.numberOf m7.leastOperands m7.mostOperands m8.wordBytes m9.addOf m9.subOf m9.mulOf m9.divOf m9.modOf m9.shlOf m9.bsrOf m9.asrOf m9.rolOf m9.rorOf m9.andOf m9.orOf m9.xorOf m9.notOf m9.ltOf m9.gtOf m9.geOf m9.leOf m9.eqOf m9.neOf m10.expressionListed m10.inFunction m10.sizeAt m10.operandFault m10.addressListed m10.kindFault m10.targetFault m10.calleeFault m10.sizeFault m10.ownWord m10.hasWord m10.wordFault m10.operandsFault m10.addressFault m10.rowFault m10.labelFault m10.countFault m10.tablesFault m11.labelAt m11.isData m11.isFunctionLabel m12.sizesOf m13.behind m13.openBefore m13.groundIn m13.funcIn m13.scopeIn m13.upIn m13.isListed m13.mayStand m13.followsJump m13.stands m13.allClosed m13.isArm m13.isEndIf m13.nextArm m13.endIfOf m13.pastArm m13.targetOf m13.hasTarget m13.depthOf m13.encloses m14.operandOf m14.operandKind m14.operandNumber m14.hasExpression m14.isTest m14.isOperator m14.isCall m14.expressionUses m14.usedBy m14.operandAt m14.slots m14.rowFrom m14.rowAt m14.slotWords m14.encode m15.all m15.some m15.allOf m15.someOf m15.allBelow m15.someBelow m15.countBelow m15.greatestBelow m15.firstFrom m16.statementIn m16.standsIn m16.rowsOf m16.enters m16.leaves m16.groundOf m16.isFrame m16.kindOfWord m17.byteAddress m17.wordAddress m17.byteGood m17.wordGood m17.wordFrom m17.loadOf m17.storeFrom m18.lower m18.lowest m18.orElse m18.nextBad m18.frameEnds m18.rowsUsed m18.recordGood m18.stepBroken m18.numbersBelow m18.startBroken m19.roundUp m19.reserved m19.answered m19.fetched m19.byteOf m19.applied m19.evalOf m19.holds m20.mark m20.frameWords m20.isFirst m20.isReturnCall m20.isReturn m20.isCalling m20.calledFrom m20.headGood m20.passesOn m20.leavesGood m20.rowsLeft m20.landingOf m21.isAt m21.numberIn m21.fetchOf m21.readOf m21.withWord m21.onRead m21.readAll m22.exportsAs m22.exportOf m22.startAnswer m22.startWorld m22.startBy m22.begunBy m22.startOf m22.startLeaves m23.goingOn m23.movedTo m23.ended m23.stopped m23.goesTo m23.keeps m23.stores m23.blockOf m23.endBlockOf m23.testOf m23.workedOf m23.assigned m23.assignedAt m23.setAtOf m23.setByteBy m23.setWordBy m23.argumentsOf m23.callBy m23.callOf m23.tailCallBy m23.handedTo m23.handedBy m23.returned m23.returnOf m23.effectOf m23.idle m23.effected m23.gated m23.inState m23.stepOf m23.counting m23.runOf
-v6-3-n = refl
-
-v6-3-u : runOf Bits32 t-v6-3 9 (startLeaves Bits32 t-v6-3 ([]) (102 ∷ []) (3 ∷ []) (record { machine = freshOf 7 7 7; stack = replicate 4 9; memory = replicate 0 8 })) .world .machine .used ≡ 0
-unfolding m1.byteAt m2.ifLt m2.ifEq m2.ifTrue m3.key m3.leastOf m4.sameList m4.clearedFrom m4.overlay m5.walk m6.freshOf m7.words m7.firstOf m7.isNamed m7.isNumber m7.entryNamed m7.entryOf m7.numberOf m7.leastOperands m7.mostOperands m8.wordBytes m9.addOf m9.subOf m9.mulOf m9.divOf m9.modOf m9.shlOf m9.bsrOf m9.asrOf m9.rolOf m9.rorOf m9.andOf m9.orOf m9.xorOf m9.notOf m9.ltOf m9.gtOf m9.geOf m9.leOf m9.eqOf m9.neOf m10.expressionListed m10.inFunction m10.sizeAt m10.operandFault m10.addressListed m10.kindFault m10.targetFault m10.calleeFault m10.sizeFault m10.ownWord m10.hasWord m10.wordFault m10.operandsFault m10.addressFault m10.rowFault m10.labelFault m10.countFault m10.tablesFault m11.labelAt m11.isData m11.isFunctionLabel m12.sizesOf m13.behind m13.openBefore m13.groundIn m13.funcIn m13.scopeIn m13.upIn m13.isListed m13.mayStand m13.followsJump m13.stands m13.allClosed m13.isArm m13.isEndIf m13.nextArm m13.endIfOf m13.pastArm m13.targetOf m13.hasTarget m13.depthOf m13.encloses m14.operandOf m14.operandKind m14.operandNumber m14.hasExpression m14.isTest m14.isOperator m14.isCall m14.expressionUses m14.usedBy m14.operandAt m14.slots m14.rowFrom m14.rowAt m14.slotWords m14.encode m15.all m15.some m15.allOf m15.someOf m15.allBelow m15.someBelow m15.countBelow m15.greatestBelow m15.firstFrom m16.statementIn m16.standsIn m16.rowsOf m16.enters m16.leaves m16.groundOf m16.isFrame m16.kindOfWord m17.byteAddress m17.wordAddress m17.byteGood m17.wordGood m17.wordFrom m17.loadOf m17.storeFrom m18.lower m18.lowest m18.orElse m18.nextBad m18.frameEnds m18.rowsUsed m18.recordGood m18.stepBroken m18.numbersBelow m18.startBroken m19.roundUp m19.reserved m19.answered m19.fetched m19.byteOf m19.applied m19.evalOf m19.holds m20.mark m20.frameWords m20.isFirst m20.isReturnCall m20.isReturn m20.isCalling m20.calledFrom m20.headGood m20.passesOn m20.leavesGood m20.rowsLeft m20.landingOf m21.isAt m21.numberIn m21.fetchOf m21.readOf m21.withWord m21.onRead m21.readAll m22.exportsAs m22.exportOf m22.startAnswer m22.startWorld m22.startBy m22.begunBy m22.startOf m22.startLeaves m23.goingOn m23.movedTo m23.ended m23.stopped m23.goesTo m23.keeps m23.stores m23.blockOf m23.endBlockOf m23.testOf m23.workedOf m23.assigned m23.assignedAt m23.setAtOf m23.setByteBy m23.setWordBy m23.argumentsOf m23.callBy m23.callOf m23.tailCallBy m23.handedTo m23.handedBy m23.returned m23.returnOf m23.effectOf m23.idle m23.effected m23.gated m23.inState m23.stepOf m23.counting m23.runOf
-v6-3-u = refl
-
-abbrev t-v7 : Tables
-t-v7 = record { statements = 1 ∷ 0 ∷ 0 ∷ 0 ∷ 6 ∷ 0 ∷ 0 ∷ 0 ∷ 0 ∷ 0 ∷ 0 ∷ 0 ∷ 0 ∷ 0 ∷ 0 ∷ 0 ∷ 0 ∷ 0 ∷ 0 ∷ 0 ∷ 0 ∷ 0 ∷ 0 ∷ 0 ∷ 0 ∷ 0 ∷ 0 ∷ 5 ∷ 0 ∷ 0 ∷ 1 ∷ 3 ∷ 0 ∷ 1 ∷ 0 ∷ 1 ∷ 0 ∷ 0 ∷ 1 ∷ 0 ∷ 0 ∷ 0 ∷ 0 ∷ 0 ∷ 0 ∷ 0 ∷ 0 ∷ 0 ∷ 0 ∷ 0 ∷ 0 ∷ 0 ∷ 0 ∷ 0 ∷ 3 ∷ 0 ∷ 0 ∷ 1 ∷ 4 ∷ 1 ∷ 0 ∷ 1 ∷ 0 ∷ 0 ∷ 0 ∷ 0 ∷ 0 ∷ 0 ∷ 0 ∷ 0 ∷ 0 ∷ 0 ∷ 0 ∷ 0 ∷ 0 ∷ 0 ∷ 0 ∷ 0 ∷ 0 ∷ 0 ∷ 0 ∷ 15 ∷ 0 ∷ 2 ∷ 3 ∷ 5 ∷ 0 ∷ 0 ∷ 0 ∷ 2 ∷ 0 ∷ 0 ∷ 2 ∷ 3 ∷ 1 ∷ 1 ∷ 0 ∷ 0 ∷ 0 ∷ 0 ∷ 0 ∷ 0 ∷ 0 ∷ 0 ∷ 0 ∷ 0 ∷ 0 ∷ 0 ∷ 10 ∷ 0 ∷ 2 ∷ 4 ∷ 7 ∷ 0 ∷ 0 ∷ 0 ∷ 0 ∷ 0 ∷ 0 ∷ 0 ∷ 0 ∷ 0 ∷ 0 ∷ 0 ∷ 0 ∷ 0 ∷ 0 ∷ 0 ∷ 0 ∷ 0 ∷ 0 ∷ 0 ∷ 0 ∷ 0 ∷ 0 ∷ 22 ∷ 0 ∷ 2 ∷ 3 ∷ 0 ∷ 0 ∷ 0 ∷ 0 ∷ 0 ∷ 0 ∷ 0 ∷ 0 ∷ 0 ∷ 0 ∷ 0 ∷ 0 ∷ 0 ∷ 0 ∷ 0 ∷ 0 ∷ 0 ∷ 0 ∷ 0 ∷ 0 ∷ 0 ∷ 0 ∷ 0 ∷ 5 ∷ 0 ∷ 2 ∷ 3 ∷ 5 ∷ 0 ∷ 1 ∷ 0 ∷ 1 ∷ 0 ∷ 0 ∷ 1 ∷ 7 ∷ 0 ∷ 0 ∷ 0 ∷ 0 ∷ 0 ∷ 0 ∷ 0 ∷ 0 ∷ 0 ∷ 0 ∷ 0 ∷ 0 ∷ 0 ∷ 0 ∷ 6 ∷ 0 ∷ 2 ∷ 3 ∷ 3 ∷ 0 ∷ 33 ∷ 0 ∷ 2 ∷ 0 ∷ 0 ∷ 2 ∷ 3 ∷ 1 ∷ 1 ∷ 0 ∷ 0 ∷ 0 ∷ 0 ∷ 0 ∷ 0 ∷ 0 ∷ 0 ∷ 0 ∷ 0 ∷ 0 ∷ 0 ∷ 6 ∷ 0 ∷ 2 ∷ 3 ∷ 3 ∷ 0 ∷ 33 ∷ 0 ∷ 2 ∷ 0 ∷ 0 ∷ 2 ∷ 3 ∷ 2 ∷ 5 ∷ 0 ∷ 0 ∷ 0 ∷ 0 ∷ 0 ∷ 0 ∷ 0 ∷ 0 ∷ 0 ∷ 0 ∷ 0 ∷ 0 ∷ 4 ∷ 0 ∷ 2 ∷ 1 ∷ 4 ∷ 0 ∷ 0 ∷ 0 ∷ 0 ∷ 0 ∷ 0 ∷ 0 ∷ 0 ∷ 0 ∷ 0 ∷ 0 ∷ 0 ∷ 0 ∷ 0 ∷ 0 ∷ 0 ∷ 0 ∷ 0 ∷ 0 ∷ 0 ∷ 0 ∷ 0 ∷ 18 ∷ 0 ∷ 0 ∷ 1 ∷ 12 ∷ 0 ∷ 0 ∷ 0 ∷ 2 ∷ 0 ∷ 0 ∷ 2 ∷ 3 ∷ 1 ∷ 20 ∷ 0 ∷ 0 ∷ 0 ∷ 0 ∷ 0 ∷ 0 ∷ 0 ∷ 0 ∷ 0 ∷ 0 ∷ 0 ∷ 0 ∷ 10 ∷ 0 ∷ 0 ∷ 11 ∷ 2 ∷ 0 ∷ 0 ∷ 0 ∷ 0 ∷ 0 ∷ 0 ∷ 0 ∷ 0 ∷ 0 ∷ 0 ∷ 0 ∷ 0 ∷ 0 ∷ 0 ∷ 0 ∷ 0 ∷ 0 ∷ 0 ∷ 0 ∷ 0 ∷ 0 ∷ 0 ∷ 22 ∷ 0 ∷ 0 ∷ 1 ∷ 0 ∷ 0 ∷ 0 ∷ 0 ∷ 0 ∷ 0 ∷ 0 ∷ 0 ∷ 0 ∷ 0 ∷ 0 ∷ 0 ∷ 0 ∷ 0 ∷ 0 ∷ 0 ∷ 0 ∷ 0 ∷ 0 ∷ 0 ∷ 0 ∷ 0 ∷ 0 ∷ 13 ∷ 0 ∷ 0 ∷ 1 ∷ 0 ∷ 0 ∷ 1 ∷ 0 ∷ 1 ∷ 0 ∷ 0 ∷ 2 ∷ 3 ∷ 0 ∷ 0 ∷ 0 ∷ 0 ∷ 0 ∷ 0 ∷ 0 ∷ 0 ∷ 0 ∷ 0 ∷ 0 ∷ 0 ∷ 0 ∷ 0 ∷ 2 ∷ 0 ∷ 0 ∷ 0 ∷ 0 ∷ 0 ∷ 0 ∷ 0 ∷ 0 ∷ 0 ∷ 0 ∷ 0 ∷ 0 ∷ 0 ∷ 0 ∷ 0 ∷ 0 ∷ 0 ∷ 0 ∷ 0 ∷ 0 ∷ 0 ∷ 0 ∷ 0 ∷ 0 ∷ 0 ∷ 0 ∷ []; count = 15; labels = 4 ∷ 0 ∷ 0 ∷ 1 ∷ 5 ∷ 2 ∷ 0 ∷ 1 ∷ 5 ∷ 7 ∷ 0 ∷ 1 ∷ []; labelCount = 3; names = 102 ∷ 0 ∷ 0 ∷ 0 ∷ 0 ∷ 0 ∷ 0 ∷ 0 ∷ 0 ∷ 0 ∷ 0 ∷ 0 ∷ 0 ∷ 0 ∷ 0 ∷ 0 ∷ 0 ∷ 0 ∷ 0 ∷ 0 ∷ 0 ∷ 0 ∷ 0 ∷ 0 ∷ 0 ∷ 0 ∷ 0 ∷ 0 ∷ 0 ∷ 0 ∷ 0 ∷ 0 ∷ 0 ∷ 0 ∷ 0 ∷ 0 ∷ 0 ∷ 0 ∷ 0 ∷ 0 ∷ 0 ∷ 0 ∷ 0 ∷ 0 ∷ 0 ∷ 0 ∷ 0 ∷ 0 ∷ 0 ∷ 0 ∷ 0 ∷ 0 ∷ 0 ∷ 0 ∷ 0 ∷ 0 ∷ 0 ∷ 0 ∷ 0 ∷ 0 ∷ 0 ∷ 0 ∷ 0 ∷ 0 ∷ 108 ∷ 0 ∷ 0 ∷ 0 ∷ 0 ∷ 0 ∷ 0 ∷ 0 ∷ 0 ∷ 0 ∷ 0 ∷ 0 ∷ 0 ∷ 0 ∷ 0 ∷ 0 ∷ 0 ∷ 0 ∷ 0 ∷ 0 ∷ 0 ∷ 0 ∷ 0 ∷ 0 ∷ 0 ∷ 0 ∷ 0 ∷ 0 ∷ 0 ∷ 0 ∷ 0 ∷ 0 ∷ 0 ∷ 0 ∷ 0 ∷ 0 ∷ 0 ∷ 0 ∷ 0 ∷ 0 ∷ 0 ∷ 0 ∷ 0 ∷ 0 ∷ 0 ∷ 0 ∷ 0 ∷ 0 ∷ 0 ∷ 0 ∷ 0 ∷ 0 ∷ 0 ∷ 0 ∷ 0 ∷ 0 ∷ 0 ∷ 0 ∷ 0 ∷ 0 ∷ 0 ∷ 0 ∷ 0 ∷ 0 ∷ 109 ∷ 0 ∷ 0 ∷ 0 ∷ 0 ∷ 0 ∷ 0 ∷ 0 ∷ 0 ∷ 0 ∷ 0 ∷ 0 ∷ 0 ∷ 0 ∷ 0 ∷ 0 ∷ 0 ∷ 0 ∷ 0 ∷ 0 ∷ 0 ∷ 0 ∷ 0 ∷ 0 ∷ 0 ∷ 0 ∷ 0 ∷ 0 ∷ 0 ∷ 0 ∷ 0 ∷ 0 ∷ 0 ∷ 0 ∷ 0 ∷ 0 ∷ 0 ∷ 0 ∷ 0 ∷ 0 ∷ 0 ∷ 0 ∷ 0 ∷ 0 ∷ 0 ∷ 0 ∷ 0 ∷ 0 ∷ 0 ∷ 0 ∷ 0 ∷ 0 ∷ 0 ∷ 0 ∷ 0 ∷ 0 ∷ 0 ∷ 0 ∷ 0 ∷ 0 ∷ 0 ∷ 0 ∷ 0 ∷ 0 ∷ []; dataLength = 0 }
-
-v7 : runOf Bits32 t-v7 200 (startLeaves Bits32 t-v7 ([]) (102 ∷ []) ([]) (record { machine = freshOf 7 7 7; stack = replicate 6 9; memory = replicate 0 8 })) .world .machine .state ≡ Finished 20
-unfolding m1.byteAt m2.ifLt m2.ifEq m2.ifTrue m3.key m3.leastOf m4.sameList m4.clearedFrom m4.overlay m5.walk m6.freshOf m7.words m7.firstOf m7.isNamed m7.isNumber m7.entryNamed m7.entryOf m7.numberOf m7.leastOperands m7.mostOperands m8.wordBytes m9.addOf m9.subOf m9.mulOf m9.divOf m9.modOf m9.shlOf m9.bsrOf m9.asrOf m9.rolOf m9.rorOf m9.andOf m9.orOf m9.xorOf m9.notOf m9.ltOf m9.gtOf m9.geOf m9.leOf m9.eqOf m9.neOf m10.expressionListed m10.inFunction m10.sizeAt m10.operandFault m10.addressListed m10.kindFault m10.targetFault m10.calleeFault m10.sizeFault m10.ownWord m10.hasWord m10.wordFault m10.operandsFault m10.addressFault m10.rowFault m10.labelFault m10.countFault m10.tablesFault m11.labelAt m11.isData m11.isFunctionLabel m12.sizesOf m13.behind m13.openBefore m13.groundIn m13.funcIn m13.scopeIn m13.upIn m13.isListed m13.mayStand m13.followsJump m13.stands m13.allClosed m13.isArm m13.isEndIf m13.nextArm m13.endIfOf m13.pastArm m13.targetOf m13.hasTarget m13.depthOf m13.encloses m14.operandOf m14.operandKind m14.operandNumber m14.hasExpression m14.isTest m14.isOperator m14.isCall m14.expressionUses m14.usedBy m14.operandAt m14.slots m14.rowFrom m14.rowAt m14.slotWords m14.encode m15.all m15.some m15.allOf m15.someOf m15.allBelow m15.someBelow m15.countBelow m15.greatestBelow m15.firstFrom m16.statementIn m16.standsIn m16.rowsOf m16.enters m16.leaves m16.groundOf m16.isFrame m16.kindOfWord m17.byteAddress m17.wordAddress m17.byteGood m17.wordGood m17.wordFrom m17.loadOf m17.storeFrom m18.lower m18.lowest m18.orElse m18.nextBad m18.frameEnds m18.rowsUsed m18.recordGood m18.stepBroken m18.numbersBelow m18.startBroken m19.roundUp m19.reserved m19.answered m19.fetched m19.byteOf m19.applied m19.evalOf m19.holds m20.mark m20.frameWords m20.isFirst m20.isReturnCall m20.isReturn m20.isCalling m20.calledFrom m20.headGood m20.passesOn m20.leavesGood m20.rowsLeft m20.landingOf m21.isAt m21.numberIn m21.fetchOf m21.readOf m21.withWord m21.onRead m21.readAll m22.exportsAs m22.exportOf m22.startAnswer m22.startWorld m22.startBy m22.begunBy m22.startOf m22.startLeaves m23.goingOn m23.movedTo m23.ended m23.stopped m23.goesTo m23.keeps m23.stores m23.blockOf m23.endBlockOf m23.testOf m23.workedOf m23.assigned m23.assignedAt m23.setAtOf m23.setByteBy m23.setWordBy m23.argumentsOf m23.callBy m23.callOf m23.tailCallBy m23.handedTo m23.handedBy m23.returned m23.returnOf m23.effectOf m23.idle m23.effected m23.gated m23.inState m23.stepOf m23.counting m23.runOf
-v7 = refl
-
-abbrev t-v80 : Tables
-t-v80 = record { statements = 1 ∷ 0 ∷ 0 ∷ 0 ∷ 4 ∷ 0 ∷ 0 ∷ 0 ∷ 0 ∷ 0 ∷ 0 ∷ 0 ∷ 0 ∷ 0 ∷ 0 ∷ 0 ∷ 0 ∷ 0 ∷ 0 ∷ 0 ∷ 0 ∷ 0 ∷ 0 ∷ 0 ∷ 0 ∷ 0 ∷ 0 ∷ 5 ∷ 0 ∷ 0 ∷ 1 ∷ 3 ∷ 0 ∷ 42 ∷ 0 ∷ 2 ∷ 0 ∷ 0 ∷ 1 ∷ 2147483648 ∷ 1 ∷ 4294967295 ∷ 0 ∷ 0 ∷ 0 ∷ 0 ∷ 0 ∷ 0 ∷ 0 ∷ 0 ∷ 0 ∷ 0 ∷ 0 ∷ 0 ∷ 13 ∷ 0 ∷ 0 ∷ 1 ∷ 0 ∷ 0 ∷ 1 ∷ 0 ∷ 1 ∷ 0 ∷ 0 ∷ 2 ∷ 3 ∷ 0 ∷ 0 ∷ 0 ∷ 0 ∷ 0 ∷ 0 ∷ 0 ∷ 0 ∷ 0 ∷ 0 ∷ 0 ∷ 0 ∷ 0 ∷ 0 ∷ 2 ∷ 0 ∷ 0 ∷ 0 ∷ 0 ∷ 0 ∷ 0 ∷ 0 ∷ 0 ∷ 0 ∷ 0 ∷ 0 ∷ 0 ∷ 0 ∷ 0 ∷ 0 ∷ 0 ∷ 0 ∷ 0 ∷ 0 ∷ 0 ∷ 0 ∷ 0 ∷ 0 ∷ 0 ∷ 0 ∷ 0 ∷ []; count = 4; labels = 4 ∷ 0 ∷ 0 ∷ 1 ∷ []; labelCount = 1; names = 102 ∷ 0 ∷ 0 ∷ 0 ∷ 0 ∷ 0 ∷ 0 ∷ 0 ∷ 0 ∷ 0 ∷ 0 ∷ 0 ∷ 0 ∷ 0 ∷ 0 ∷ 0 ∷ 0 ∷ 0 ∷ 0 ∷ 0 ∷ 0 ∷ 0 ∷ 0 ∷ 0 ∷ 0 ∷ 0 ∷ 0 ∷ 0 ∷ 0 ∷ 0 ∷ 0 ∷ 0 ∷ 0 ∷ 0 ∷ 0 ∷ 0 ∷ 0 ∷ 0 ∷ 0 ∷ 0 ∷ 0 ∷ 0 ∷ 0 ∷ 0 ∷ 0 ∷ 0 ∷ 0 ∷ 0 ∷ 0 ∷ 0 ∷ 0 ∷ 0 ∷ 0 ∷ 0 ∷ 0 ∷ 0 ∷ 0 ∷ 0 ∷ 0 ∷ 0 ∷ 0 ∷ 0 ∷ 0 ∷ 0 ∷ []; dataLength = 0 }
-
-v80 : runOf Bits32 t-v80 9 (startLeaves Bits32 t-v80 ([]) (102 ∷ []) ([]) (record { machine = freshOf 7 7 7; stack = replicate 4 9; memory = replicate 8 8 })) .world .machine .state ≡ Finished 0
-unfolding m1.byteAt m2.ifLt m2.ifEq m2.ifTrue m3.key m3.leastOf m4.sameList m4.clearedFrom m4.overlay m5.walk m6.freshOf m7.words m7.firstOf m7.isNamed m7.isNumber m7.entryNamed m7.entryOf m7.numberOf m7.leastOperands m7.mostOperands m8.wordBytes m9.addOf m9.subOf m9.mulOf m9.divOf m9.modOf m9.shlOf m9.bsrOf m9.asrOf m9.rolOf m9.rorOf m9.andOf m9.orOf m9.xorOf m9.notOf m9.ltOf m9.gtOf m9.geOf m9.leOf m9.eqOf m9.neOf m10.expressionListed m10.inFunction m10.sizeAt m10.operandFault m10.addressListed m10.kindFault m10.targetFault m10.calleeFault m10.sizeFault m10.ownWord m10.hasWord m10.wordFault m10.operandsFault m10.addressFault m10.rowFault m10.labelFault m10.countFault m10.tablesFault m11.labelAt m11.isData m11.isFunctionLabel m12.sizesOf m13.behind m13.openBefore m13.groundIn m13.funcIn m13.scopeIn m13.upIn m13.isListed m13.mayStand m13.followsJump m13.stands m13.allClosed m13.isArm m13.isEndIf m13.nextArm m13.endIfOf m13.pastArm m13.targetOf m13.hasTarget m13.depthOf m13.encloses m14.operandOf m14.operandKind m14.operandNumber m14.hasExpression m14.isTest m14.isOperator m14.isCall m14.expressionUses m14.usedBy m14.operandAt m14.slots m14.rowFrom m14.rowAt m14.slotWords m14.encode m15.all m15.some m15.allOf m15.someOf m15.allBelow m15.someBelow m15.countBelow m15.greatestBelow m15.firstFrom m16.statementIn m16.standsIn m16.rowsOf m16.enters m16.leaves m16.groundOf m16.isFrame m16.kindOfWord m17.byteAddress m17.wordAddress m17.byteGood m17.wordGood m17.wordFrom m17.loadOf m17.storeFrom m18.lower m18.lowest m18.orElse m18.nextBad m18.frameEnds m18.rowsUsed m18.recordGood m18.stepBroken m18.numbersBelow m18.startBroken m19.roundUp m19.reserved m19.answered m19.fetched m19.byteOf m19.applied m19.evalOf m19.holds m20.mark m20.frameWords m20.isFirst m20.isReturnCall m20.isReturn m20.isCalling m20.calledFrom m20.headGood m20.passesOn m20.leavesGood m20.rowsLeft m20.landingOf m21.isAt m21.numberIn m21.fetchOf m21.readOf m21.withWord m21.onRead m21.readAll m22.exportsAs m22.exportOf m22.startAnswer m22.startWorld m22.startBy m22.begunBy m22.startOf m22.startLeaves m23.goingOn m23.movedTo m23.ended m23.stopped m23.goesTo m23.keeps m23.stores m23.blockOf m23.endBlockOf m23.testOf m23.workedOf m23.assigned m23.assignedAt m23.setAtOf m23.setByteBy m23.setWordBy m23.argumentsOf m23.callBy m23.callOf m23.tailCallBy m23.handedTo m23.handedBy m23.returned m23.returnOf m23.effectOf m23.idle m23.effected m23.gated m23.inState m23.stepOf m23.counting m23.runOf
-v80 = refl
-
-v80-n : runOf Bits32 t-v80 9 (startLeaves Bits32 t-v80 ([]) (102 ∷ []) ([]) (record { machine = freshOf 7 7 7; stack = replicate 4 9; memory = replicate 8 8 })) .count ≡ 2
-unfolding m1.byteAt m2.ifLt m2.ifEq m2.ifTrue m3.key m3.leastOf m4.sameList m4.clearedFrom m4.overlay m5.walk m6.freshOf m7.words m7.firstOf m7.isNamed m7.isNumber m7.entryNamed m7.entryOf m7.numberOf m7.leastOperands m7.mostOperands m8.wordBytes m9.addOf m9.subOf m9.mulOf m9.divOf m9.modOf m9.shlOf m9.bsrOf m9.asrOf m9.rolOf m9.rorOf m9.andOf m9.orOf m9.xorOf m9.notOf m9.ltOf m9.gtOf m9.geOf m9.leOf m9.eqOf m9.neOf m10.expressionListed m10.inFunction m10.sizeAt m10.operandFault m10.addressListed m10.kindFault m10.targetFault m10.calleeFault m10.sizeFault m10.ownWord m10.hasWord m10.wordFault m10.operandsFault m10.addressFault m10.rowFault m10.labelFault m10.countFault m10.tablesFault m11.labelAt m11.isData m11.isFunctionLabel m12.sizesOf m13.behind m13.openBefore m13.groundIn m13.funcIn m13.scopeIn m13.upIn m13.isListed m13.mayStand m13.followsJump m13.stands m13.allClosed m13.isArm m13.isEndIf m13.nextArm m13.endIfOf m13.pastArm m13.targetOf m13.hasTarget m13.depthOf m13.encloses m14.operandOf m14.operandKind m14.operandNumber m14.hasExpression m14.isTest m14.isOperator m14.isCall m14.expressionUses m14.usedBy m14.operandAt m14.slots m14.rowFrom m14.rowAt m14.slotWords m14.encode m15.all m15.some m15.allOf m15.someOf m15.allBelow m15.someBelow m15.countBelow m15.greatestBelow m15.firstFrom m16.statementIn m16.standsIn m16.rowsOf m16.enters m16.leaves m16.groundOf m16.isFrame m16.kindOfWord m17.byteAddress m17.wordAddress m17.byteGood m17.wordGood m17.wordFrom m17.loadOf m17.storeFrom m18.lower m18.lowest m18.orElse m18.nextBad m18.frameEnds m18.rowsUsed m18.recordGood m18.stepBroken m18.numbersBelow m18.startBroken m19.roundUp m19.reserved m19.answered m19.fetched m19.byteOf m19.applied m19.evalOf m19.holds m20.mark m20.frameWords m20.isFirst m20.isReturnCall m20.isReturn m20.isCalling m20.calledFrom m20.headGood m20.passesOn m20.leavesGood m20.rowsLeft m20.landingOf m21.isAt m21.numberIn m21.fetchOf m21.readOf m21.withWord m21.onRead m21.readAll m22.exportsAs m22.exportOf m22.startAnswer m22.startWorld m22.startBy m22.begunBy m22.startOf m22.startLeaves m23.goingOn m23.movedTo m23.ended m23.stopped m23.goesTo m23.keeps m23.stores m23.blockOf m23.endBlockOf m23.testOf m23.workedOf m23.assigned m23.assignedAt m23.setAtOf m23.setByteBy m23.setWordBy m23.argumentsOf m23.callBy m23.callOf m23.tailCallBy m23.handedTo m23.handedBy m23.returned m23.returnOf m23.effectOf m23.idle m23.effected m23.gated m23.inState m23.stepOf m23.counting m23.runOf
-v80-n = refl
-
-v80-u : runOf Bits32 t-v80 9 (startLeaves Bits32 t-v80 ([]) (102 ∷ []) ([]) (record { machine = freshOf 7 7 7; stack = replicate 4 9; memory = replicate 8 8 })) .world .machine .used ≡ 0
-unfolding m1.byteAt m2.ifLt m2.ifEq m2.ifTrue m3.key m3.leastOf m4.sameList m4.clearedFrom m4.overlay m5.walk m6.freshOf m7.words m7.firstOf m7.isNamed m7.isNumber m7.entryNamed m7.entryOf m7.numberOf m7.leastOperands m7.mostOperands m8.wordBytes m9.addOf m9.subOf m9.mulOf m9.divOf m9.modOf m9.shlOf m9.bsrOf m9.asrOf m9.rolOf m9.rorOf m9.andOf m9.orOf m9.xorOf m9.notOf m9.ltOf m9.gtOf m9.geOf m9.leOf m9.eqOf m9.neOf m10.expressionListed m10.inFunction m10.sizeAt m10.operandFault m10.addressListed m10.kindFault m10.targetFault m10.calleeFault m10.sizeFault m10.ownWord m10.hasWord m10.wordFault m10.operandsFault m10.addressFault m10.rowFault m10.labelFault m10.countFault m10.tablesFault m11.labelAt m11.isData m11.isFunctionLabel m12.sizesOf m13.behind m13.openBefore m13.groundIn m13.funcIn m13.scopeIn m13.upIn m13.isListed m13.mayStand m13.followsJump m13.stands m13.allClosed m13.isArm m13.isEndIf m13.nextArm m13.endIfOf m13.pastArm m13.targetOf m13.hasTarget m13.depthOf m13.encloses m14.operandOf m14.operandKind m14.operandNumber m14.hasExpression m14.isTest m14.isOperator m14.isCall m14.expressionUses m14.usedBy m14.operandAt m14.slots m14.rowFrom m14.rowAt m14.slotWords m14.encode m15.all m15.some m15.allOf m15.someOf m15.allBelow m15.someBelow m15.countBelow m15.greatestBelow m15.firstFrom m16.statementIn m16.standsIn m16.rowsOf m16.enters m16.leaves m16.groundOf m16.isFrame m16.kindOfWord m17.byteAddress m17.wordAddress m17.byteGood m17.wordGood m17.wordFrom m17.loadOf m17.storeFrom m18.lower m18.lowest m18.orElse m18.nextBad m18.frameEnds m18.rowsUsed m18.recordGood m18.stepBroken m18.numbersBelow m18.startBroken m19.roundUp m19.reserved m19.answered m19.fetched m19.byteOf m19.applied m19.evalOf m19.holds m20.mark m20.frameWords m20.isFirst m20.isReturnCall m20.isReturn m20.isCalling m20.calledFrom m20.headGood m20.passesOn m20.leavesGood m20.rowsLeft m20.landingOf m21.isAt m21.numberIn m21.fetchOf m21.readOf m21.withWord m21.onRead m21.readAll m22.exportsAs m22.exportOf m22.startAnswer m22.startWorld m22.startBy m22.begunBy m22.startOf m22.startLeaves m23.goingOn m23.movedTo m23.ended m23.stopped m23.goesTo m23.keeps m23.stores m23.blockOf m23.endBlockOf m23.testOf m23.workedOf m23.assigned m23.assignedAt m23.setAtOf m23.setByteBy m23.setWordBy m23.argumentsOf m23.callBy m23.callOf m23.tailCallBy m23.handedTo m23.handedBy m23.returned m23.returnOf m23.effectOf m23.idle m23.effected m23.gated m23.inState m23.stepOf m23.counting m23.runOf
-v80-u = refl
-
-abbrev t-v81 : Tables
-t-v81 = record { statements = 1 ∷ 0 ∷ 0 ∷ 0 ∷ 4 ∷ 0 ∷ 0 ∷ 0 ∷ 0 ∷ 0 ∷ 0 ∷ 0 ∷ 0 ∷ 0 ∷ 0 ∷ 0 ∷ 0 ∷ 0 ∷ 0 ∷ 0 ∷ 0 ∷ 0 ∷ 0 ∷ 0 ∷ 0 ∷ 0 ∷ 0 ∷ 5 ∷ 0 ∷ 0 ∷ 1 ∷ 3 ∷ 0 ∷ 39 ∷ 0 ∷ 2 ∷ 0 ∷ 0 ∷ 1 ∷ 2147483648 ∷ 1 ∷ 4294967295 ∷ 0 ∷ 0 ∷ 0 ∷ 0 ∷ 0 ∷ 0 ∷ 0 ∷ 0 ∷ 0 ∷ 0 ∷ 0 ∷ 0 ∷ 13 ∷ 0 ∷ 0 ∷ 1 ∷ 0 ∷ 0 ∷ 1 ∷ 0 ∷ 1 ∷ 0 ∷ 0 ∷ 2 ∷ 3 ∷ 0 ∷ 0 ∷ 0 ∷ 0 ∷ 0 ∷ 0 ∷ 0 ∷ 0 ∷ 0 ∷ 0 ∷ 0 ∷ 0 ∷ 0 ∷ 0 ∷ 2 ∷ 0 ∷ 0 ∷ 0 ∷ 0 ∷ 0 ∷ 0 ∷ 0 ∷ 0 ∷ 0 ∷ 0 ∷ 0 ∷ 0 ∷ 0 ∷ 0 ∷ 0 ∷ 0 ∷ 0 ∷ 0 ∷ 0 ∷ 0 ∷ 0 ∷ 0 ∷ 0 ∷ 0 ∷ 0 ∷ 0 ∷ []; count = 4; labels = 4 ∷ 0 ∷ 0 ∷ 1 ∷ []; labelCount = 1; names = 102 ∷ 0 ∷ 0 ∷ 0 ∷ 0 ∷ 0 ∷ 0 ∷ 0 ∷ 0 ∷ 0 ∷ 0 ∷ 0 ∷ 0 ∷ 0 ∷ 0 ∷ 0 ∷ 0 ∷ 0 ∷ 0 ∷ 0 ∷ 0 ∷ 0 ∷ 0 ∷ 0 ∷ 0 ∷ 0 ∷ 0 ∷ 0 ∷ 0 ∷ 0 ∷ 0 ∷ 0 ∷ 0 ∷ 0 ∷ 0 ∷ 0 ∷ 0 ∷ 0 ∷ 0 ∷ 0 ∷ 0 ∷ 0 ∷ 0 ∷ 0 ∷ 0 ∷ 0 ∷ 0 ∷ 0 ∷ 0 ∷ 0 ∷ 0 ∷ 0 ∷ 0 ∷ 0 ∷ 0 ∷ 0 ∷ 0 ∷ 0 ∷ 0 ∷ 0 ∷ 0 ∷ 0 ∷ 0 ∷ 0 ∷ []; dataLength = 0 }
-
-v81 : runOf Bits32 t-v81 9 (startLeaves Bits32 t-v81 ([]) (102 ∷ []) ([]) (record { machine = freshOf 7 7 7; stack = replicate 4 9; memory = replicate 8 8 })) .world .machine .state ≡ Stopped 30 1
-unfolding m1.byteAt m2.ifLt m2.ifEq m2.ifTrue m3.key m3.leastOf m4.sameList m4.clearedFrom m4.overlay m5.walk m6.freshOf m7.words m7.firstOf m7.isNamed m7.isNumber m7.entryNamed m7.entryOf m7.numberOf m7.leastOperands m7.mostOperands m8.wordBytes m9.addOf m9.subOf m9.mulOf m9.divOf m9.modOf m9.shlOf m9.bsrOf m9.asrOf m9.rolOf m9.rorOf m9.andOf m9.orOf m9.xorOf m9.notOf m9.ltOf m9.gtOf m9.geOf m9.leOf m9.eqOf m9.neOf m10.expressionListed m10.inFunction m10.sizeAt m10.operandFault m10.addressListed m10.kindFault m10.targetFault m10.calleeFault m10.sizeFault m10.ownWord m10.hasWord m10.wordFault m10.operandsFault m10.addressFault m10.rowFault m10.labelFault m10.countFault m10.tablesFault m11.labelAt m11.isData m11.isFunctionLabel m12.sizesOf m13.behind m13.openBefore m13.groundIn m13.funcIn m13.scopeIn m13.upIn m13.isListed m13.mayStand m13.followsJump m13.stands m13.allClosed m13.isArm m13.isEndIf m13.nextArm m13.endIfOf m13.pastArm m13.targetOf m13.hasTarget m13.depthOf m13.encloses m14.operandOf m14.operandKind m14.operandNumber m14.hasExpression m14.isTest m14.isOperator m14.isCall m14.expressionUses m14.usedBy m14.operandAt m14.slots m14.rowFrom m14.rowAt m14.slotWords m14.encode m15.all m15.some m15.allOf m15.someOf m15.allBelow m15.someBelow m15.countBelow m15.greatestBelow m15.firstFrom m16.statementIn m16.standsIn m16.rowsOf m16.enters m16.leaves m16.groundOf m16.isFrame m16.kindOfWord m17.byteAddress m17.wordAddress m17.byteGood m17.wordGood m17.wordFrom m17.loadOf m17.storeFrom m18.lower m18.lowest m18.orElse m18.nextBad m18.frameEnds m18.rowsUsed m18.recordGood m18.stepBroken m18.numbersBelow m18.startBroken m19.roundUp m19.reserved m19.answered m19.fetched m19.byteOf m19.applied m19.evalOf m19.holds m20.mark m20.frameWords m20.isFirst m20.isReturnCall m20.isReturn m20.isCalling m20.calledFrom m20.headGood m20.passesOn m20.leavesGood m20.rowsLeft m20.landingOf m21.isAt m21.numberIn m21.fetchOf m21.readOf m21.withWord m21.onRead m21.readAll m22.exportsAs m22.exportOf m22.startAnswer m22.startWorld m22.startBy m22.begunBy m22.startOf m22.startLeaves m23.goingOn m23.movedTo m23.ended m23.stopped m23.goesTo m23.keeps m23.stores m23.blockOf m23.endBlockOf m23.testOf m23.workedOf m23.assigned m23.assignedAt m23.setAtOf m23.setByteBy m23.setWordBy m23.argumentsOf m23.callBy m23.callOf m23.tailCallBy m23.handedTo m23.handedBy m23.returned m23.returnOf m23.effectOf m23.idle m23.effected m23.gated m23.inState m23.stepOf m23.counting m23.runOf
-v81 = refl
-
-v81-n : runOf Bits32 t-v81 9 (startLeaves Bits32 t-v81 ([]) (102 ∷ []) ([]) (record { machine = freshOf 7 7 7; stack = replicate 4 9; memory = replicate 8 8 })) .count ≡ 0
-unfolding m1.byteAt m2.ifLt m2.ifEq m2.ifTrue m3.key m3.leastOf m4.sameList m4.clearedFrom m4.overlay m5.walk m6.freshOf m7.words m7.firstOf m7.isNamed m7.isNumber m7.entryNamed m7.entryOf m7.numberOf m7.leastOperands m7.mostOperands m8.wordBytes m9.addOf m9.subOf m9.mulOf m9.divOf m9.modOf m9.shlOf m9.bsrOf m9.asrOf m9.rolOf m9.rorOf m9.andOf m9.orOf m9.xorOf m9.notOf m9.ltOf m9.gtOf m9.geOf m9.leOf m9.eqOf m9.neOf m10.expressionListed m10.inFunction m10.sizeAt m10.operandFault m10.addressListed m10.kindFault m10.targetFault m10.calleeFault m10.sizeFault m10.ownWord m10.hasWord m10.wordFault m10.operandsFault m10.addressFault m10.rowFault m10.labelFault m10.countFault m10.tablesFault m11.labelAt m11.isData m11.isFunctionLabel m12.sizesOf m13.behind m13.openBefore m13.groundIn m13.funcIn m13.scopeIn m13.upIn m13.isListed m13.mayStand m13.followsJump m13.stands m13.allClosed m13.isArm m13.isEndIf m13.nextArm m13.endIfOf m13.pastArm m13.targetOf m13.hasTarget m13.depthOf m13.encloses m14.operandOf m14.operandKind m14.operandNumber m14.hasExpression m14.isTest m14.isOperator m14.isCall m14.expressionUses m14.usedBy m14.operandAt m14.slots m14.rowFrom m14.rowAt m14.slotWords m14.encode m15.all m15.some m15.allOf m15.someOf m15.allBelow m15.someBelow m15.countBelow m15.greatestBelow m15.firstFrom m16.statementIn m16.standsIn m16.rowsOf m16.enters m16.leaves m16.groundOf m16.isFrame m16.kindOfWord m17.byteAddress m17.wordAddress m17.byteGood m17.wordGood m17.wordFrom m17.loadOf m17.storeFrom m18.lower m18.lowest m18.orElse m18.nextBad m18.frameEnds m18.rowsUsed m18.recordGood m18.stepBroken m18.numbersBelow m18.startBroken m19.roundUp m19.reserved m19.answered m19.fetched m19.byteOf m19.applied m19.evalOf m19.holds m20.mark m20.frameWords m20.isFirst m20.isReturnCall m20.isReturn m20.isCalling m20.calledFrom m20.headGood m20.passesOn m20.leavesGood m20.rowsLeft m20.landingOf m21.isAt m21.numberIn m21.fetchOf m21.readOf m21.withWord m21.onRead m21.readAll m22.exportsAs m22.exportOf m22.startAnswer m22.startWorld m22.startBy m22.begunBy m22.startOf m22.startLeaves m23.goingOn m23.movedTo m23.ended m23.stopped m23.goesTo m23.keeps m23.stores m23.blockOf m23.endBlockOf m23.testOf m23.workedOf m23.assigned m23.assignedAt m23.setAtOf m23.setByteBy m23.setWordBy m23.argumentsOf m23.callBy m23.callOf m23.tailCallBy m23.handedTo m23.handedBy m23.returned m23.returnOf m23.effectOf m23.idle m23.effected m23.gated m23.inState m23.stepOf m23.counting m23.runOf
-v81-n = refl
-
-v81-b : runOf Bits32 t-v81 9 (startLeaves Bits32 t-v81 ([]) (102 ∷ []) ([]) (record { machine = freshOf 7 7 7; stack = replicate 4 9; memory = replicate 8 8 })) .broken ≡ No
-unfolding m1.byteAt m2.ifLt m2.ifEq m2.ifTrue m3.key m3.leastOf m4.sameList m4.clearedFrom m4.overlay m5.walk m6.freshOf m7.words m7.firstOf m7.isNamed m7.isNumber m7.entryNamed m7.entryOf m7.numberOf m7.leastOperands m7.mostOperands m8.wordBytes m9.addOf m9.subOf m9.mulOf m9.divOf m9.modOf m9.shlOf m9.bsrOf m9.asrOf m9.rolOf m9.rorOf m9.andOf m9.orOf m9.xorOf m9.notOf m9.ltOf m9.gtOf m9.geOf m9.leOf m9.eqOf m9.neOf m10.expressionListed m10.inFunction m10.sizeAt m10.operandFault m10.addressListed m10.kindFault m10.targetFault m10.calleeFault m10.sizeFault m10.ownWord m10.hasWord m10.wordFault m10.operandsFault m10.addressFault m10.rowFault m10.labelFault m10.countFault m10.tablesFault m11.labelAt m11.isData m11.isFunctionLabel m12.sizesOf m13.behind m13.openBefore m13.groundIn m13.funcIn m13.scopeIn m13.upIn m13.isListed m13.mayStand m13.followsJump m13.stands m13.allClosed m13.isArm m13.isEndIf m13.nextArm m13.endIfOf m13.pastArm m13.targetOf m13.hasTarget m13.depthOf m13.encloses m14.operandOf m14.operandKind m14.operandNumber m14.hasExpression m14.isTest m14.isOperator m14.isCall m14.expressionUses m14.usedBy m14.operandAt m14.slots m14.rowFrom m14.rowAt m14.slotWords m14.encode m15.all m15.some m15.allOf m15.someOf m15.allBelow m15.someBelow m15.countBelow m15.greatestBelow m15.firstFrom m16.statementIn m16.standsIn m16.rowsOf m16.enters m16.leaves m16.groundOf m16.isFrame m16.kindOfWord m17.byteAddress m17.wordAddress m17.byteGood m17.wordGood m17.wordFrom m17.loadOf m17.storeFrom m18.lower m18.lowest m18.orElse m18.nextBad m18.frameEnds m18.rowsUsed m18.recordGood m18.stepBroken m18.numbersBelow m18.startBroken m19.roundUp m19.reserved m19.answered m19.fetched m19.byteOf m19.applied m19.evalOf m19.holds m20.mark m20.frameWords m20.isFirst m20.isReturnCall m20.isReturn m20.isCalling m20.calledFrom m20.headGood m20.passesOn m20.leavesGood m20.rowsLeft m20.landingOf m21.isAt m21.numberIn m21.fetchOf m21.readOf m21.withWord m21.onRead m21.readAll m22.exportsAs m22.exportOf m22.startAnswer m22.startWorld m22.startBy m22.begunBy m22.startOf m22.startLeaves m23.goingOn m23.movedTo m23.ended m23.stopped m23.goesTo m23.keeps m23.stores m23.blockOf m23.endBlockOf m23.testOf m23.workedOf m23.assigned m23.assignedAt m23.setAtOf m23.setByteBy m23.setWordBy m23.argumentsOf m23.callBy m23.callOf m23.tailCallBy m23.handedTo m23.handedBy m23.returned m23.returnOf m23.effectOf m23.idle m23.effected m23.gated m23.inState m23.stepOf m23.counting m23.runOf
-v81-b = refl
-
-abbrev t-v82 : Tables
-t-v82 = record { statements = 1 ∷ 0 ∷ 0 ∷ 0 ∷ 4 ∷ 0 ∷ 0 ∷ 0 ∷ 0 ∷ 0 ∷ 0 ∷ 0 ∷ 0 ∷ 0 ∷ 0 ∷ 0 ∷ 0 ∷ 0 ∷ 0 ∷ 0 ∷ 0 ∷ 0 ∷ 0 ∷ 0 ∷ 0 ∷ 0 ∷ 0 ∷ 5 ∷ 0 ∷ 0 ∷ 1 ∷ 3 ∷ 0 ∷ 42 ∷ 0 ∷ 2 ∷ 0 ∷ 0 ∷ 1 ∷ 7 ∷ 1 ∷ 4294967294 ∷ 0 ∷ 0 ∷ 0 ∷ 0 ∷ 0 ∷ 0 ∷ 0 ∷ 0 ∷ 0 ∷ 0 ∷ 0 ∷ 0 ∷ 13 ∷ 0 ∷ 0 ∷ 1 ∷ 0 ∷ 0 ∷ 1 ∷ 0 ∷ 1 ∷ 0 ∷ 0 ∷ 2 ∷ 3 ∷ 0 ∷ 0 ∷ 0 ∷ 0 ∷ 0 ∷ 0 ∷ 0 ∷ 0 ∷ 0 ∷ 0 ∷ 0 ∷ 0 ∷ 0 ∷ 0 ∷ 2 ∷ 0 ∷ 0 ∷ 0 ∷ 0 ∷ 0 ∷ 0 ∷ 0 ∷ 0 ∷ 0 ∷ 0 ∷ 0 ∷ 0 ∷ 0 ∷ 0 ∷ 0 ∷ 0 ∷ 0 ∷ 0 ∷ 0 ∷ 0 ∷ 0 ∷ 0 ∷ 0 ∷ 0 ∷ 0 ∷ 0 ∷ []; count = 4; labels = 4 ∷ 0 ∷ 0 ∷ 1 ∷ []; labelCount = 1; names = 102 ∷ 0 ∷ 0 ∷ 0 ∷ 0 ∷ 0 ∷ 0 ∷ 0 ∷ 0 ∷ 0 ∷ 0 ∷ 0 ∷ 0 ∷ 0 ∷ 0 ∷ 0 ∷ 0 ∷ 0 ∷ 0 ∷ 0 ∷ 0 ∷ 0 ∷ 0 ∷ 0 ∷ 0 ∷ 0 ∷ 0 ∷ 0 ∷ 0 ∷ 0 ∷ 0 ∷ 0 ∷ 0 ∷ 0 ∷ 0 ∷ 0 ∷ 0 ∷ 0 ∷ 0 ∷ 0 ∷ 0 ∷ 0 ∷ 0 ∷ 0 ∷ 0 ∷ 0 ∷ 0 ∷ 0 ∷ 0 ∷ 0 ∷ 0 ∷ 0 ∷ 0 ∷ 0 ∷ 0 ∷ 0 ∷ 0 ∷ 0 ∷ 0 ∷ 0 ∷ 0 ∷ 0 ∷ 0 ∷ 0 ∷ []; dataLength = 0 }
-
-v82 : runOf Bits32 t-v82 9 (startLeaves Bits32 t-v82 ([]) (102 ∷ []) ([]) (record { machine = freshOf 7 7 7; stack = replicate 4 9; memory = replicate 8 8 })) .world .machine .state ≡ Finished 1
-unfolding m1.byteAt m2.ifLt m2.ifEq m2.ifTrue m3.key m3.leastOf m4.sameList m4.clearedFrom m4.overlay m5.walk m6.freshOf m7.words m7.firstOf m7.isNamed m7.isNumber m7.entryNamed m7.entryOf m7.numberOf m7.leastOperands m7.mostOperands m8.wordBytes m9.addOf m9.subOf m9.mulOf m9.divOf m9.modOf m9.shlOf m9.bsrOf m9.asrOf m9.rolOf m9.rorOf m9.andOf m9.orOf m9.xorOf m9.notOf m9.ltOf m9.gtOf m9.geOf m9.leOf m9.eqOf m9.neOf m10.expressionListed m10.inFunction m10.sizeAt m10.operandFault m10.addressListed m10.kindFault m10.targetFault m10.calleeFault m10.sizeFault m10.ownWord m10.hasWord m10.wordFault m10.operandsFault m10.addressFault m10.rowFault m10.labelFault m10.countFault m10.tablesFault m11.labelAt m11.isData m11.isFunctionLabel m12.sizesOf m13.behind m13.openBefore m13.groundIn m13.funcIn m13.scopeIn m13.upIn m13.isListed m13.mayStand m13.followsJump m13.stands m13.allClosed m13.isArm m13.isEndIf m13.nextArm m13.endIfOf m13.pastArm m13.targetOf m13.hasTarget m13.depthOf m13.encloses m14.operandOf m14.operandKind m14.operandNumber m14.hasExpression m14.isTest m14.isOperator m14.isCall m14.expressionUses m14.usedBy m14.operandAt m14.slots m14.rowFrom m14.rowAt m14.slotWords m14.encode m15.all m15.some m15.allOf m15.someOf m15.allBelow m15.someBelow m15.countBelow m15.greatestBelow m15.firstFrom m16.statementIn m16.standsIn m16.rowsOf m16.enters m16.leaves m16.groundOf m16.isFrame m16.kindOfWord m17.byteAddress m17.wordAddress m17.byteGood m17.wordGood m17.wordFrom m17.loadOf m17.storeFrom m18.lower m18.lowest m18.orElse m18.nextBad m18.frameEnds m18.rowsUsed m18.recordGood m18.stepBroken m18.numbersBelow m18.startBroken m19.roundUp m19.reserved m19.answered m19.fetched m19.byteOf m19.applied m19.evalOf m19.holds m20.mark m20.frameWords m20.isFirst m20.isReturnCall m20.isReturn m20.isCalling m20.calledFrom m20.headGood m20.passesOn m20.leavesGood m20.rowsLeft m20.landingOf m21.isAt m21.numberIn m21.fetchOf m21.readOf m21.withWord m21.onRead m21.readAll m22.exportsAs m22.exportOf m22.startAnswer m22.startWorld m22.startBy m22.begunBy m22.startOf m22.startLeaves m23.goingOn m23.movedTo m23.ended m23.stopped m23.goesTo m23.keeps m23.stores m23.blockOf m23.endBlockOf m23.testOf m23.workedOf m23.assigned m23.assignedAt m23.setAtOf m23.setByteBy m23.setWordBy m23.argumentsOf m23.callBy m23.callOf m23.tailCallBy m23.handedTo m23.handedBy m23.returned m23.returnOf m23.effectOf m23.idle m23.effected m23.gated m23.inState m23.stepOf m23.counting m23.runOf
-v82 = refl
-
-v82-n : runOf Bits32 t-v82 9 (startLeaves Bits32 t-v82 ([]) (102 ∷ []) ([]) (record { machine = freshOf 7 7 7; stack = replicate 4 9; memory = replicate 8 8 })) .count ≡ 2
-unfolding m1.byteAt m2.ifLt m2.ifEq m2.ifTrue m3.key m3.leastOf m4.sameList m4.clearedFrom m4.overlay m5.walk m6.freshOf m7.words m7.firstOf m7.isNamed m7.isNumber m7.entryNamed m7.entryOf m7.numberOf m7.leastOperands m7.mostOperands m8.wordBytes m9.addOf m9.subOf m9.mulOf m9.divOf m9.modOf m9.shlOf m9.bsrOf m9.asrOf m9.rolOf m9.rorOf m9.andOf m9.orOf m9.xorOf m9.notOf m9.ltOf m9.gtOf m9.geOf m9.leOf m9.eqOf m9.neOf m10.expressionListed m10.inFunction m10.sizeAt m10.operandFault m10.addressListed m10.kindFault m10.targetFault m10.calleeFault m10.sizeFault m10.ownWord m10.hasWord m10.wordFault m10.operandsFault m10.addressFault m10.rowFault m10.labelFault m10.countFault m10.tablesFault m11.labelAt m11.isData m11.isFunctionLabel m12.sizesOf m13.behind m13.openBefore m13.groundIn m13.funcIn m13.scopeIn m13.upIn m13.isListed m13.mayStand m13.followsJump m13.stands m13.allClosed m13.isArm m13.isEndIf m13.nextArm m13.endIfOf m13.pastArm m13.targetOf m13.hasTarget m13.depthOf m13.encloses m14.operandOf m14.operandKind m14.operandNumber m14.hasExpression m14.isTest m14.isOperator m14.isCall m14.expressionUses m14.usedBy m14.operandAt m14.slots m14.rowFrom m14.rowAt m14.slotWords m14.encode m15.all m15.some m15.allOf m15.someOf m15.allBelow m15.someBelow m15.countBelow m15.greatestBelow m15.firstFrom m16.statementIn m16.standsIn m16.rowsOf m16.enters m16.leaves m16.groundOf m16.isFrame m16.kindOfWord m17.byteAddress m17.wordAddress m17.byteGood m17.wordGood m17.wordFrom m17.loadOf m17.storeFrom m18.lower m18.lowest m18.orElse m18.nextBad m18.frameEnds m18.rowsUsed m18.recordGood m18.stepBroken m18.numbersBelow m18.startBroken m19.roundUp m19.reserved m19.answered m19.fetched m19.byteOf m19.applied m19.evalOf m19.holds m20.mark m20.frameWords m20.isFirst m20.isReturnCall m20.isReturn m20.isCalling m20.calledFrom m20.headGood m20.passesOn m20.leavesGood m20.rowsLeft m20.landingOf m21.isAt m21.numberIn m21.fetchOf m21.readOf m21.withWord m21.onRead m21.readAll m22.exportsAs m22.exportOf m22.startAnswer m22.startWorld m22.startBy m22.begunBy m22.startOf m22.startLeaves m23.goingOn m23.movedTo m23.ended m23.stopped m23.goesTo m23.keeps m23.stores m23.blockOf m23.endBlockOf m23.testOf m23.workedOf m23.assigned m23.assignedAt m23.setAtOf m23.setByteBy m23.setWordBy m23.argumentsOf m23.callBy m23.callOf m23.tailCallBy m23.handedTo m23.handedBy m23.returned m23.returnOf m23.effectOf m23.idle m23.effected m23.gated m23.inState m23.stepOf m23.counting m23.runOf
-v82-n = refl
-
-v82-u : runOf Bits32 t-v82 9 (startLeaves Bits32 t-v82 ([]) (102 ∷ []) ([]) (record { machine = freshOf 7 7 7; stack = replicate 4 9; memory = replicate 8 8 })) .world .machine .used ≡ 0
-unfolding m1.byteAt m2.ifLt m2.ifEq m2.ifTrue m3.key m3.leastOf m4.sameList m4.clearedFrom m4.overlay m5.walk m6.freshOf m7.words m7.firstOf m7.isNamed m7.isNumber m7.entryNamed m7.entryOf m7.numberOf m7.leastOperands m7.mostOperands m8.wordBytes m9.addOf m9.subOf m9.mulOf m9.divOf m9.modOf m9.shlOf m9.bsrOf m9.asrOf m9.rolOf m9.rorOf m9.andOf m9.orOf m9.xorOf m9.notOf m9.ltOf m9.gtOf m9.geOf m9.leOf m9.eqOf m9.neOf m10.expressionListed m10.inFunction m10.sizeAt m10.operandFault m10.addressListed m10.kindFault m10.targetFault m10.calleeFault m10.sizeFault m10.ownWord m10.hasWord m10.wordFault m10.operandsFault m10.addressFault m10.rowFault m10.labelFault m10.countFault m10.tablesFault m11.labelAt m11.isData m11.isFunctionLabel m12.sizesOf m13.behind m13.openBefore m13.groundIn m13.funcIn m13.scopeIn m13.upIn m13.isListed m13.mayStand m13.followsJump m13.stands m13.allClosed m13.isArm m13.isEndIf m13.nextArm m13.endIfOf m13.pastArm m13.targetOf m13.hasTarget m13.depthOf m13.encloses m14.operandOf m14.operandKind m14.operandNumber m14.hasExpression m14.isTest m14.isOperator m14.isCall m14.expressionUses m14.usedBy m14.operandAt m14.slots m14.rowFrom m14.rowAt m14.slotWords m14.encode m15.all m15.some m15.allOf m15.someOf m15.allBelow m15.someBelow m15.countBelow m15.greatestBelow m15.firstFrom m16.statementIn m16.standsIn m16.rowsOf m16.enters m16.leaves m16.groundOf m16.isFrame m16.kindOfWord m17.byteAddress m17.wordAddress m17.byteGood m17.wordGood m17.wordFrom m17.loadOf m17.storeFrom m18.lower m18.lowest m18.orElse m18.nextBad m18.frameEnds m18.rowsUsed m18.recordGood m18.stepBroken m18.numbersBelow m18.startBroken m19.roundUp m19.reserved m19.answered m19.fetched m19.byteOf m19.applied m19.evalOf m19.holds m20.mark m20.frameWords m20.isFirst m20.isReturnCall m20.isReturn m20.isCalling m20.calledFrom m20.headGood m20.passesOn m20.leavesGood m20.rowsLeft m20.landingOf m21.isAt m21.numberIn m21.fetchOf m21.readOf m21.withWord m21.onRead m21.readAll m22.exportsAs m22.exportOf m22.startAnswer m22.startWorld m22.startBy m22.begunBy m22.startOf m22.startLeaves m23.goingOn m23.movedTo m23.ended m23.stopped m23.goesTo m23.keeps m23.stores m23.blockOf m23.endBlockOf m23.testOf m23.workedOf m23.assigned m23.assignedAt m23.setAtOf m23.setByteBy m23.setWordBy m23.argumentsOf m23.callBy m23.callOf m23.tailCallBy m23.handedTo m23.handedBy m23.returned m23.returnOf m23.effectOf m23.idle m23.effected m23.gated m23.inState m23.stepOf m23.counting m23.runOf
-v82-u = refl
-
-abbrev t-v83 : Tables
-t-v83 = record { statements = 1 ∷ 0 ∷ 0 ∷ 0 ∷ 4 ∷ 0 ∷ 0 ∷ 0 ∷ 0 ∷ 0 ∷ 0 ∷ 0 ∷ 0 ∷ 0 ∷ 0 ∷ 0 ∷ 0 ∷ 0 ∷ 0 ∷ 0 ∷ 0 ∷ 0 ∷ 0 ∷ 0 ∷ 0 ∷ 0 ∷ 0 ∷ 5 ∷ 0 ∷ 0 ∷ 1 ∷ 3 ∷ 0 ∷ 37 ∷ 0 ∷ 1 ∷ 0 ∷ 0 ∷ 1 ∷ 1073741824 ∷ 0 ∷ 0 ∷ 0 ∷ 0 ∷ 0 ∷ 0 ∷ 0 ∷ 0 ∷ 0 ∷ 0 ∷ 0 ∷ 0 ∷ 0 ∷ 0 ∷ 13 ∷ 0 ∷ 0 ∷ 1 ∷ 0 ∷ 0 ∷ 1 ∷ 0 ∷ 1 ∷ 0 ∷ 0 ∷ 2 ∷ 3 ∷ 0 ∷ 0 ∷ 0 ∷ 0 ∷ 0 ∷ 0 ∷ 0 ∷ 0 ∷ 0 ∷ 0 ∷ 0 ∷ 0 ∷ 0 ∷ 0 ∷ 2 ∷ 0 ∷ 0 ∷ 0 ∷ 0 ∷ 0 ∷ 0 ∷ 0 ∷ 0 ∷ 0 ∷ 0 ∷ 0 ∷ 0 ∷ 0 ∷ 0 ∷ 0 ∷ 0 ∷ 0 ∷ 0 ∷ 0 ∷ 0 ∷ 0 ∷ 0 ∷ 0 ∷ 0 ∷ 0 ∷ 0 ∷ []; count = 4; labels = 4 ∷ 0 ∷ 0 ∷ 1 ∷ []; labelCount = 1; names = 102 ∷ 0 ∷ 0 ∷ 0 ∷ 0 ∷ 0 ∷ 0 ∷ 0 ∷ 0 ∷ 0 ∷ 0 ∷ 0 ∷ 0 ∷ 0 ∷ 0 ∷ 0 ∷ 0 ∷ 0 ∷ 0 ∷ 0 ∷ 0 ∷ 0 ∷ 0 ∷ 0 ∷ 0 ∷ 0 ∷ 0 ∷ 0 ∷ 0 ∷ 0 ∷ 0 ∷ 0 ∷ 0 ∷ 0 ∷ 0 ∷ 0 ∷ 0 ∷ 0 ∷ 0 ∷ 0 ∷ 0 ∷ 0 ∷ 0 ∷ 0 ∷ 0 ∷ 0 ∷ 0 ∷ 0 ∷ 0 ∷ 0 ∷ 0 ∷ 0 ∷ 0 ∷ 0 ∷ 0 ∷ 0 ∷ 0 ∷ 0 ∷ 0 ∷ 0 ∷ 0 ∷ 0 ∷ 0 ∷ 0 ∷ []; dataLength = 0 }
-
-v83 : runOf Bits32 t-v83 9 (startLeaves Bits32 t-v83 ([]) (102 ∷ []) ([]) (record { machine = freshOf 7 7 7; stack = replicate 4 9; memory = replicate 8 8 })) .world .machine .state ≡ Stopped 34 1
-unfolding m1.byteAt m2.ifLt m2.ifEq m2.ifTrue m3.key m3.leastOf m4.sameList m4.clearedFrom m4.overlay m5.walk m6.freshOf m7.words m7.firstOf m7.isNamed m7.isNumber m7.entryNamed m7.entryOf m7.numberOf m7.leastOperands m7.mostOperands m8.wordBytes m9.addOf m9.subOf m9.mulOf m9.divOf m9.modOf m9.shlOf m9.bsrOf m9.asrOf m9.rolOf m9.rorOf m9.andOf m9.orOf m9.xorOf m9.notOf m9.ltOf m9.gtOf m9.geOf m9.leOf m9.eqOf m9.neOf m10.expressionListed m10.inFunction m10.sizeAt m10.operandFault m10.addressListed m10.kindFault m10.targetFault m10.calleeFault m10.sizeFault m10.ownWord m10.hasWord m10.wordFault m10.operandsFault m10.addressFault m10.rowFault m10.labelFault m10.countFault m10.tablesFault m11.labelAt m11.isData m11.isFunctionLabel m12.sizesOf m13.behind m13.openBefore m13.groundIn m13.funcIn m13.scopeIn m13.upIn m13.isListed m13.mayStand m13.followsJump m13.stands m13.allClosed m13.isArm m13.isEndIf m13.nextArm m13.endIfOf m13.pastArm m13.targetOf m13.hasTarget m13.depthOf m13.encloses m14.operandOf m14.operandKind m14.operandNumber m14.hasExpression m14.isTest m14.isOperator m14.isCall m14.expressionUses m14.usedBy m14.operandAt m14.slots m14.rowFrom m14.rowAt m14.slotWords m14.encode m15.all m15.some m15.allOf m15.someOf m15.allBelow m15.someBelow m15.countBelow m15.greatestBelow m15.firstFrom m16.statementIn m16.standsIn m16.rowsOf m16.enters m16.leaves m16.groundOf m16.isFrame m16.kindOfWord m17.byteAddress m17.wordAddress m17.byteGood m17.wordGood m17.wordFrom m17.loadOf m17.storeFrom m18.lower m18.lowest m18.orElse m18.nextBad m18.frameEnds m18.rowsUsed m18.recordGood m18.stepBroken m18.numbersBelow m18.startBroken m19.roundUp m19.reserved m19.answered m19.fetched m19.byteOf m19.applied m19.evalOf m19.holds m20.mark m20.frameWords m20.isFirst m20.isReturnCall m20.isReturn m20.isCalling m20.calledFrom m20.headGood m20.passesOn m20.leavesGood m20.rowsLeft m20.landingOf m21.isAt m21.numberIn m21.fetchOf m21.readOf m21.withWord m21.onRead m21.readAll m22.exportsAs m22.exportOf m22.startAnswer m22.startWorld m22.startBy m22.begunBy m22.startOf m22.startLeaves m23.goingOn m23.movedTo m23.ended m23.stopped m23.goesTo m23.keeps m23.stores m23.blockOf m23.endBlockOf m23.testOf m23.workedOf m23.assigned m23.assignedAt m23.setAtOf m23.setByteBy m23.setWordBy m23.argumentsOf m23.callBy m23.callOf m23.tailCallBy m23.handedTo m23.handedBy m23.returned m23.returnOf m23.effectOf m23.idle m23.effected m23.gated m23.inState m23.stepOf m23.counting m23.runOf
-v83 = refl
-
-v83-n : runOf Bits32 t-v83 9 (startLeaves Bits32 t-v83 ([]) (102 ∷ []) ([]) (record { machine = freshOf 7 7 7; stack = replicate 4 9; memory = replicate 8 8 })) .count ≡ 0
-unfolding m1.byteAt m2.ifLt m2.ifEq m2.ifTrue m3.key m3.leastOf m4.sameList m4.clearedFrom m4.overlay m5.walk m6.freshOf m7.words m7.firstOf m7.isNamed m7.isNumber m7.entryNamed m7.entryOf m7.numberOf m7.leastOperands m7.mostOperands m8.wordBytes m9.addOf m9.subOf m9.mulOf m9.divOf m9.modOf m9.shlOf m9.bsrOf m9.asrOf m9.rolOf m9.rorOf m9.andOf m9.orOf m9.xorOf m9.notOf m9.ltOf m9.gtOf m9.geOf m9.leOf m9.eqOf m9.neOf m10.expressionListed m10.inFunction m10.sizeAt m10.operandFault m10.addressListed m10.kindFault m10.targetFault m10.calleeFault m10.sizeFault m10.ownWord m10.hasWord m10.wordFault m10.operandsFault m10.addressFault m10.rowFault m10.labelFault m10.countFault m10.tablesFault m11.labelAt m11.isData m11.isFunctionLabel m12.sizesOf m13.behind m13.openBefore m13.groundIn m13.funcIn m13.scopeIn m13.upIn m13.isListed m13.mayStand m13.followsJump m13.stands m13.allClosed m13.isArm m13.isEndIf m13.nextArm m13.endIfOf m13.pastArm m13.targetOf m13.hasTarget m13.depthOf m13.encloses m14.operandOf m14.operandKind m14.operandNumber m14.hasExpression m14.isTest m14.isOperator m14.isCall m14.expressionUses m14.usedBy m14.operandAt m14.slots m14.rowFrom m14.rowAt m14.slotWords m14.encode m15.all m15.some m15.allOf m15.someOf m15.allBelow m15.someBelow m15.countBelow m15.greatestBelow m15.firstFrom m16.statementIn m16.standsIn m16.rowsOf m16.enters m16.leaves m16.groundOf m16.isFrame m16.kindOfWord m17.byteAddress m17.wordAddress m17.byteGood m17.wordGood m17.wordFrom m17.loadOf m17.storeFrom m18.lower m18.lowest m18.orElse m18.nextBad m18.frameEnds m18.rowsUsed m18.recordGood m18.stepBroken m18.numbersBelow m18.startBroken m19.roundUp m19.reserved m19.answered m19.fetched m19.byteOf m19.applied m19.evalOf m19.holds m20.mark m20.frameWords m20.isFirst m20.isReturnCall m20.isReturn m20.isCalling m20.calledFrom m20.headGood m20.passesOn m20.leavesGood m20.rowsLeft m20.landingOf m21.isAt m21.numberIn m21.fetchOf m21.readOf m21.withWord m21.onRead m21.readAll m22.exportsAs m22.exportOf m22.startAnswer m22.startWorld m22.startBy m22.begunBy m22.startOf m22.startLeaves m23.goingOn m23.movedTo m23.ended m23.stopped m23.goesTo m23.keeps m23.stores m23.blockOf m23.endBlockOf m23.testOf m23.workedOf m23.assigned m23.assignedAt m23.setAtOf m23.setByteBy m23.setWordBy m23.argumentsOf m23.callBy m23.callOf m23.tailCallBy m23.handedTo m23.handedBy m23.returned m23.returnOf m23.effectOf m23.idle m23.effected m23.gated m23.inState m23.stepOf m23.counting m23.runOf
-v83-n = refl
-
-v83-b : runOf Bits32 t-v83 9 (startLeaves Bits32 t-v83 ([]) (102 ∷ []) ([]) (record { machine = freshOf 7 7 7; stack = replicate 4 9; memory = replicate 8 8 })) .broken ≡ No
-unfolding m1.byteAt m2.ifLt m2.ifEq m2.ifTrue m3.key m3.leastOf m4.sameList m4.clearedFrom m4.overlay m5.walk m6.freshOf m7.words m7.firstOf m7.isNamed m7.isNumber m7.entryNamed m7.entryOf m7.numberOf m7.leastOperands m7.mostOperands m8.wordBytes m9.addOf m9.subOf m9.mulOf m9.divOf m9.modOf m9.shlOf m9.bsrOf m9.asrOf m9.rolOf m9.rorOf m9.andOf m9.orOf m9.xorOf m9.notOf m9.ltOf m9.gtOf m9.geOf m9.leOf m9.eqOf m9.neOf m10.expressionListed m10.inFunction m10.sizeAt m10.operandFault m10.addressListed m10.kindFault m10.targetFault m10.calleeFault m10.sizeFault m10.ownWord m10.hasWord m10.wordFault m10.operandsFault m10.addressFault m10.rowFault m10.labelFault m10.countFault m10.tablesFault m11.labelAt m11.isData m11.isFunctionLabel m12.sizesOf m13.behind m13.openBefore m13.groundIn m13.funcIn m13.scopeIn m13.upIn m13.isListed m13.mayStand m13.followsJump m13.stands m13.allClosed m13.isArm m13.isEndIf m13.nextArm m13.endIfOf m13.pastArm m13.targetOf m13.hasTarget m13.depthOf m13.encloses m14.operandOf m14.operandKind m14.operandNumber m14.hasExpression m14.isTest m14.isOperator m14.isCall m14.expressionUses m14.usedBy m14.operandAt m14.slots m14.rowFrom m14.rowAt m14.slotWords m14.encode m15.all m15.some m15.allOf m15.someOf m15.allBelow m15.someBelow m15.countBelow m15.greatestBelow m15.firstFrom m16.statementIn m16.standsIn m16.rowsOf m16.enters m16.leaves m16.groundOf m16.isFrame m16.kindOfWord m17.byteAddress m17.wordAddress m17.byteGood m17.wordGood m17.wordFrom m17.loadOf m17.storeFrom m18.lower m18.lowest m18.orElse m18.nextBad m18.frameEnds m18.rowsUsed m18.recordGood m18.stepBroken m18.numbersBelow m18.startBroken m19.roundUp m19.reserved m19.answered m19.fetched m19.byteOf m19.applied m19.evalOf m19.holds m20.mark m20.frameWords m20.isFirst m20.isReturnCall m20.isReturn m20.isCalling m20.calledFrom m20.headGood m20.passesOn m20.leavesGood m20.rowsLeft m20.landingOf m21.isAt m21.numberIn m21.fetchOf m21.readOf m21.withWord m21.onRead m21.readAll m22.exportsAs m22.exportOf m22.startAnswer m22.startWorld m22.startBy m22.begunBy m22.startOf m22.startLeaves m23.goingOn m23.movedTo m23.ended m23.stopped m23.goesTo m23.keeps m23.stores m23.blockOf m23.endBlockOf m23.testOf m23.workedOf m23.assigned m23.assignedAt m23.setAtOf m23.setByteBy m23.setWordBy m23.argumentsOf m23.callBy m23.callOf m23.tailCallBy m23.handedTo m23.handedBy m23.returned m23.returnOf m23.effectOf m23.idle m23.effected m23.gated m23.inState m23.stepOf m23.counting m23.runOf
-v83-b = refl
-
-abbrev t-v8-byte : Tables
-t-v8-byte = record { statements = 1 ∷ 0 ∷ 0 ∷ 0 ∷ 4 ∷ 0 ∷ 0 ∷ 0 ∷ 0 ∷ 0 ∷ 0 ∷ 0 ∷ 0 ∷ 0 ∷ 0 ∷ 0 ∷ 0 ∷ 0 ∷ 0 ∷ 0 ∷ 0 ∷ 0 ∷ 0 ∷ 0 ∷ 0 ∷ 0 ∷ 0 ∷ 8 ∷ 0 ∷ 0 ∷ 1 ∷ 0 ∷ 0 ∷ 0 ∷ 0 ∷ 3 ∷ 0 ∷ 0 ∷ 1 ∷ 0 ∷ 1 ∷ 0 ∷ 1 ∷ 511 ∷ 0 ∷ 0 ∷ 0 ∷ 0 ∷ 0 ∷ 0 ∷ 0 ∷ 0 ∷ 0 ∷ 0 ∷ 5 ∷ 0 ∷ 0 ∷ 1 ∷ 3 ∷ 0 ∷ 40 ∷ 0 ∷ 2 ∷ 0 ∷ 0 ∷ 1 ∷ 0 ∷ 1 ∷ 0 ∷ 0 ∷ 0 ∷ 0 ∷ 0 ∷ 0 ∷ 0 ∷ 0 ∷ 0 ∷ 0 ∷ 0 ∷ 0 ∷ 0 ∷ 13 ∷ 0 ∷ 0 ∷ 1 ∷ 0 ∷ 0 ∷ 1 ∷ 0 ∷ 1 ∷ 0 ∷ 0 ∷ 2 ∷ 3 ∷ 0 ∷ 0 ∷ 0 ∷ 0 ∷ 0 ∷ 0 ∷ 0 ∷ 0 ∷ 0 ∷ 0 ∷ 0 ∷ 0 ∷ 0 ∷ 0 ∷ 2 ∷ 0 ∷ 0 ∷ 0 ∷ 0 ∷ 0 ∷ 0 ∷ 0 ∷ 0 ∷ 0 ∷ 0 ∷ 0 ∷ 0 ∷ 0 ∷ 0 ∷ 0 ∷ 0 ∷ 0 ∷ 0 ∷ 0 ∷ 0 ∷ 0 ∷ 0 ∷ 0 ∷ 0 ∷ 0 ∷ 0 ∷ []; count = 5; labels = 4 ∷ 0 ∷ 0 ∷ 1 ∷ []; labelCount = 1; names = 102 ∷ 0 ∷ 0 ∷ 0 ∷ 0 ∷ 0 ∷ 0 ∷ 0 ∷ 0 ∷ 0 ∷ 0 ∷ 0 ∷ 0 ∷ 0 ∷ 0 ∷ 0 ∷ 0 ∷ 0 ∷ 0 ∷ 0 ∷ 0 ∷ 0 ∷ 0 ∷ 0 ∷ 0 ∷ 0 ∷ 0 ∷ 0 ∷ 0 ∷ 0 ∷ 0 ∷ 0 ∷ 0 ∷ 0 ∷ 0 ∷ 0 ∷ 0 ∷ 0 ∷ 0 ∷ 0 ∷ 0 ∷ 0 ∷ 0 ∷ 0 ∷ 0 ∷ 0 ∷ 0 ∷ 0 ∷ 0 ∷ 0 ∷ 0 ∷ 0 ∷ 0 ∷ 0 ∷ 0 ∷ 0 ∷ 0 ∷ 0 ∷ 0 ∷ 0 ∷ 0 ∷ 0 ∷ 0 ∷ 0 ∷ []; dataLength = 0 }
-
-v8-byte : runOf Bits32 t-v8-byte 9 (startLeaves Bits32 t-v8-byte ([]) (102 ∷ []) ([]) (record { machine = freshOf 7 7 7; stack = replicate 4 9; memory = replicate 8 8 })) .world .machine .state ≡ Finished 255
-unfolding m1.byteAt m2.ifLt m2.ifEq m2.ifTrue m3.key m3.leastOf m4.sameList m4.clearedFrom m4.overlay m5.walk m6.freshOf m7.words m7.firstOf m7.isNamed m7.isNumber m7.entryNamed m7.entryOf m7.numberOf m7.leastOperands m7.mostOperands m8.wordBytes m9.addOf m9.subOf m9.mulOf m9.divOf m9.modOf m9.shlOf m9.bsrOf m9.asrOf m9.rolOf m9.rorOf m9.andOf m9.orOf m9.xorOf m9.notOf m9.ltOf m9.gtOf m9.geOf m9.leOf m9.eqOf m9.neOf m10.expressionListed m10.inFunction m10.sizeAt m10.operandFault m10.addressListed m10.kindFault m10.targetFault m10.calleeFault m10.sizeFault m10.ownWord m10.hasWord m10.wordFault m10.operandsFault m10.addressFault m10.rowFault m10.labelFault m10.countFault m10.tablesFault m11.labelAt m11.isData m11.isFunctionLabel m12.sizesOf m13.behind m13.openBefore m13.groundIn m13.funcIn m13.scopeIn m13.upIn m13.isListed m13.mayStand m13.followsJump m13.stands m13.allClosed m13.isArm m13.isEndIf m13.nextArm m13.endIfOf m13.pastArm m13.targetOf m13.hasTarget m13.depthOf m13.encloses m14.operandOf m14.operandKind m14.operandNumber m14.hasExpression m14.isTest m14.isOperator m14.isCall m14.expressionUses m14.usedBy m14.operandAt m14.slots m14.rowFrom m14.rowAt m14.slotWords m14.encode m15.all m15.some m15.allOf m15.someOf m15.allBelow m15.someBelow m15.countBelow m15.greatestBelow m15.firstFrom m16.statementIn m16.standsIn m16.rowsOf m16.enters m16.leaves m16.groundOf m16.isFrame m16.kindOfWord m17.byteAddress m17.wordAddress m17.byteGood m17.wordGood m17.wordFrom m17.loadOf m17.storeFrom m18.lower m18.lowest m18.orElse m18.nextBad m18.frameEnds m18.rowsUsed m18.recordGood m18.stepBroken m18.numbersBelow m18.startBroken m19.roundUp m19.reserved m19.answered m19.fetched m19.byteOf m19.applied m19.evalOf m19.holds m20.mark m20.frameWords m20.isFirst m20.isReturnCall m20.isReturn m20.isCalling m20.calledFrom m20.headGood m20.passesOn m20.leavesGood m20.rowsLeft m20.landingOf m21.isAt m21.numberIn m21.fetchOf m21.readOf m21.withWord m21.onRead m21.readAll m22.exportsAs m22.exportOf m22.startAnswer m22.startWorld m22.startBy m22.begunBy m22.startOf m22.startLeaves m23.goingOn m23.movedTo m23.ended m23.stopped m23.goesTo m23.keeps m23.stores m23.blockOf m23.endBlockOf m23.testOf m23.workedOf m23.assigned m23.assignedAt m23.setAtOf m23.setByteBy m23.setWordBy m23.argumentsOf m23.callBy m23.callOf m23.tailCallBy m23.handedTo m23.handedBy m23.returned m23.returnOf m23.effectOf m23.idle m23.effected m23.gated m23.inState m23.stepOf m23.counting m23.runOf
-v8-byte = refl
-
-v8-byte-n : runOf Bits32 t-v8-byte 9 (startLeaves Bits32 t-v8-byte ([]) (102 ∷ []) ([]) (record { machine = freshOf 7 7 7; stack = replicate 4 9; memory = replicate 8 8 })) .count ≡ 3
-unfolding m1.byteAt m2.ifLt m2.ifEq m2.ifTrue m3.key m3.leastOf m4.sameList m4.clearedFrom m4.overlay m5.walk m6.freshOf m7.words m7.firstOf m7.isNamed m7.isNumber m7.entryNamed m7.entryOf m7.numberOf m7.leastOperands m7.mostOperands m8.wordBytes m9.addOf m9.subOf m9.mulOf m9.divOf m9.modOf m9.shlOf m9.bsrOf m9.asrOf m9.rolOf m9.rorOf m9.andOf m9.orOf m9.xorOf m9.notOf m9.ltOf m9.gtOf m9.geOf m9.leOf m9.eqOf m9.neOf m10.expressionListed m10.inFunction m10.sizeAt m10.operandFault m10.addressListed m10.kindFault m10.targetFault m10.calleeFault m10.sizeFault m10.ownWord m10.hasWord m10.wordFault m10.operandsFault m10.addressFault m10.rowFault m10.labelFault m10.countFault m10.tablesFault m11.labelAt m11.isData m11.isFunctionLabel m12.sizesOf m13.behind m13.openBefore m13.groundIn m13.funcIn m13.scopeIn m13.upIn m13.isListed m13.mayStand m13.followsJump m13.stands m13.allClosed m13.isArm m13.isEndIf m13.nextArm m13.endIfOf m13.pastArm m13.targetOf m13.hasTarget m13.depthOf m13.encloses m14.operandOf m14.operandKind m14.operandNumber m14.hasExpression m14.isTest m14.isOperator m14.isCall m14.expressionUses m14.usedBy m14.operandAt m14.slots m14.rowFrom m14.rowAt m14.slotWords m14.encode m15.all m15.some m15.allOf m15.someOf m15.allBelow m15.someBelow m15.countBelow m15.greatestBelow m15.firstFrom m16.statementIn m16.standsIn m16.rowsOf m16.enters m16.leaves m16.groundOf m16.isFrame m16.kindOfWord m17.byteAddress m17.wordAddress m17.byteGood m17.wordGood m17.wordFrom m17.loadOf m17.storeFrom m18.lower m18.lowest m18.orElse m18.nextBad m18.frameEnds m18.rowsUsed m18.recordGood m18.stepBroken m18.numbersBelow m18.startBroken m19.roundUp m19.reserved m19.answered m19.fetched m19.byteOf m19.applied m19.evalOf m19.holds m20.mark m20.frameWords m20.isFirst m20.isReturnCall m20.isReturn m20.isCalling m20.calledFrom m20.headGood m20.passesOn m20.leavesGood m20.rowsLeft m20.landingOf m21.isAt m21.numberIn m21.fetchOf m21.readOf m21.withWord m21.onRead m21.readAll m22.exportsAs m22.exportOf m22.startAnswer m22.startWorld m22.startBy m22.begunBy m22.startOf m22.startLeaves m23.goingOn m23.movedTo m23.ended m23.stopped m23.goesTo m23.keeps m23.stores m23.blockOf m23.endBlockOf m23.testOf m23.workedOf m23.assigned m23.assignedAt m23.setAtOf m23.setByteBy m23.setWordBy m23.argumentsOf m23.callBy m23.callOf m23.tailCallBy m23.handedTo m23.handedBy m23.returned m23.returnOf m23.effectOf m23.idle m23.effected m23.gated m23.inState m23.stepOf m23.counting m23.runOf
-v8-byte-n = refl
-
-v8-byte-u : runOf Bits32 t-v8-byte 9 (startLeaves Bits32 t-v8-byte ([]) (102 ∷ []) ([]) (record { machine = freshOf 7 7 7; stack = replicate 4 9; memory = replicate 8 8 })) .world .machine .used ≡ 0
-unfolding m1.byteAt m2.ifLt m2.ifEq m2.ifTrue m3.key m3.leastOf m4.sameList m4.clearedFrom m4.overlay m5.walk m6.freshOf m7.words m7.firstOf m7.isNamed m7.isNumber m7.entryNamed m7.entryOf m7.numberOf m7.leastOperands m7.mostOperands m8.wordBytes m9.addOf m9.subOf m9.mulOf m9.divOf m9.modOf m9.shlOf m9.bsrOf m9.asrOf m9.rolOf m9.rorOf m9.andOf m9.orOf m9.xorOf m9.notOf m9.ltOf m9.gtOf m9.geOf m9.leOf m9.eqOf m9.neOf m10.expressionListed m10.inFunction m10.sizeAt m10.operandFault m10.addressListed m10.kindFault m10.targetFault m10.calleeFault m10.sizeFault m10.ownWord m10.hasWord m10.wordFault m10.operandsFault m10.addressFault m10.rowFault m10.labelFault m10.countFault m10.tablesFault m11.labelAt m11.isData m11.isFunctionLabel m12.sizesOf m13.behind m13.openBefore m13.groundIn m13.funcIn m13.scopeIn m13.upIn m13.isListed m13.mayStand m13.followsJump m13.stands m13.allClosed m13.isArm m13.isEndIf m13.nextArm m13.endIfOf m13.pastArm m13.targetOf m13.hasTarget m13.depthOf m13.encloses m14.operandOf m14.operandKind m14.operandNumber m14.hasExpression m14.isTest m14.isOperator m14.isCall m14.expressionUses m14.usedBy m14.operandAt m14.slots m14.rowFrom m14.rowAt m14.slotWords m14.encode m15.all m15.some m15.allOf m15.someOf m15.allBelow m15.someBelow m15.countBelow m15.greatestBelow m15.firstFrom m16.statementIn m16.standsIn m16.rowsOf m16.enters m16.leaves m16.groundOf m16.isFrame m16.kindOfWord m17.byteAddress m17.wordAddress m17.byteGood m17.wordGood m17.wordFrom m17.loadOf m17.storeFrom m18.lower m18.lowest m18.orElse m18.nextBad m18.frameEnds m18.rowsUsed m18.recordGood m18.stepBroken m18.numbersBelow m18.startBroken m19.roundUp m19.reserved m19.answered m19.fetched m19.byteOf m19.applied m19.evalOf m19.holds m20.mark m20.frameWords m20.isFirst m20.isReturnCall m20.isReturn m20.isCalling m20.calledFrom m20.headGood m20.passesOn m20.leavesGood m20.rowsLeft m20.landingOf m21.isAt m21.numberIn m21.fetchOf m21.readOf m21.withWord m21.onRead m21.readAll m22.exportsAs m22.exportOf m22.startAnswer m22.startWorld m22.startBy m22.begunBy m22.startOf m22.startLeaves m23.goingOn m23.movedTo m23.ended m23.stopped m23.goesTo m23.keeps m23.stores m23.blockOf m23.endBlockOf m23.testOf m23.workedOf m23.assigned m23.assignedAt m23.setAtOf m23.setByteBy m23.setWordBy m23.argumentsOf m23.callBy m23.callOf m23.tailCallBy m23.handedTo m23.handedBy m23.returned m23.returnOf m23.effectOf m23.idle m23.effected m23.gated m23.inState m23.stepOf m23.counting m23.runOf
-v8-byte-u = refl
-
-abbrev t-swap : Tables
-t-swap = record { statements = 1 ∷ 0 ∷ 0 ∷ 0 ∷ 5 ∷ 2 ∷ 0 ∷ 0 ∷ 0 ∷ 0 ∷ 0 ∷ 0 ∷ 0 ∷ 0 ∷ 0 ∷ 0 ∷ 0 ∷ 0 ∷ 0 ∷ 0 ∷ 0 ∷ 0 ∷ 0 ∷ 0 ∷ 0 ∷ 0 ∷ 0 ∷ 13 ∷ 0 ∷ 0 ∷ 1 ∷ 0 ∷ 0 ∷ 50 ∷ 0 ∷ 2 ∷ 0 ∷ 0 ∷ 2 ∷ 3 ∷ 2 ∷ 4 ∷ 0 ∷ 0 ∷ 0 ∷ 0 ∷ 0 ∷ 0 ∷ 0 ∷ 0 ∷ 0 ∷ 0 ∷ 0 ∷ 0 ∷ 2 ∷ 0 ∷ 0 ∷ 0 ∷ 0 ∷ 0 ∷ 0 ∷ 0 ∷ 0 ∷ 0 ∷ 0 ∷ 0 ∷ 0 ∷ 0 ∷ 0 ∷ 0 ∷ 0 ∷ 0 ∷ 0 ∷ 0 ∷ 0 ∷ 0 ∷ 0 ∷ 0 ∷ 0 ∷ 0 ∷ 0 ∷ 1 ∷ 3 ∷ 3 ∷ 0 ∷ 5 ∷ 2 ∷ 0 ∷ 0 ∷ 0 ∷ 0 ∷ 0 ∷ 0 ∷ 0 ∷ 0 ∷ 0 ∷ 0 ∷ 0 ∷ 0 ∷ 0 ∷ 0 ∷ 0 ∷ 0 ∷ 0 ∷ 0 ∷ 0 ∷ 0 ∷ 0 ∷ 12 ∷ 3 ∷ 3 ∷ 4 ∷ 0 ∷ 0 ∷ 0 ∷ 0 ∷ 2 ∷ 0 ∷ 0 ∷ 2 ∷ 4 ∷ 2 ∷ 3 ∷ 0 ∷ 0 ∷ 0 ∷ 0 ∷ 0 ∷ 0 ∷ 0 ∷ 0 ∷ 0 ∷ 0 ∷ 0 ∷ 0 ∷ 2 ∷ 3 ∷ 3 ∷ 0 ∷ 0 ∷ 0 ∷ 0 ∷ 0 ∷ 0 ∷ 0 ∷ 0 ∷ 0 ∷ 0 ∷ 0 ∷ 0 ∷ 0 ∷ 0 ∷ 0 ∷ 0 ∷ 0 ∷ 0 ∷ 0 ∷ 0 ∷ 0 ∷ 0 ∷ 0 ∷ 0 ∷ []; count = 6; labels = 3 ∷ 0 ∷ 0 ∷ 1 ∷ 4 ∷ 3 ∷ 0 ∷ 1 ∷ []; labelCount = 2; names = 103 ∷ 0 ∷ 0 ∷ 0 ∷ 0 ∷ 0 ∷ 0 ∷ 0 ∷ 0 ∷ 0 ∷ 0 ∷ 0 ∷ 0 ∷ 0 ∷ 0 ∷ 0 ∷ 0 ∷ 0 ∷ 0 ∷ 0 ∷ 0 ∷ 0 ∷ 0 ∷ 0 ∷ 0 ∷ 0 ∷ 0 ∷ 0 ∷ 0 ∷ 0 ∷ 0 ∷ 0 ∷ 0 ∷ 0 ∷ 0 ∷ 0 ∷ 0 ∷ 0 ∷ 0 ∷ 0 ∷ 0 ∷ 0 ∷ 0 ∷ 0 ∷ 0 ∷ 0 ∷ 0 ∷ 0 ∷ 0 ∷ 0 ∷ 0 ∷ 0 ∷ 0 ∷ 0 ∷ 0 ∷ 0 ∷ 0 ∷ 0 ∷ 0 ∷ 0 ∷ 0 ∷ 0 ∷ 0 ∷ 0 ∷ 102 ∷ 0 ∷ 0 ∷ 0 ∷ 0 ∷ 0 ∷ 0 ∷ 0 ∷ 0 ∷ 0 ∷ 0 ∷ 0 ∷ 0 ∷ 0 ∷ 0 ∷ 0 ∷ 0 ∷ 0 ∷ 0 ∷ 0 ∷ 0 ∷ 0 ∷ 0 ∷ 0 ∷ 0 ∷ 0 ∷ 0 ∷ 0 ∷ 0 ∷ 0 ∷ 0 ∷ 0 ∷ 0 ∷ 0 ∷ 0 ∷ 0 ∷ 0 ∷ 0 ∷ 0 ∷ 0 ∷ 0 ∷ 0 ∷ 0 ∷ 0 ∷ 0 ∷ 0 ∷ 0 ∷ 0 ∷ 0 ∷ 0 ∷ 0 ∷ 0 ∷ 0 ∷ 0 ∷ 0 ∷ 0 ∷ 0 ∷ 0 ∷ 0 ∷ 0 ∷ 0 ∷ 0 ∷ 0 ∷ 0 ∷ []; dataLength = 0 }
-
-swap : runOf Bits32 t-swap 9 (startLeaves Bits32 t-swap ([]) (102 ∷ []) (10 ∷ 3 ∷ []) (record { machine = freshOf 7 7 7; stack = replicate 5 9; memory = replicate 0 8 })) .world .machine .state ≡ Finished 4294967289
-unfolding m1.byteAt m2.ifLt m2.ifEq m2.ifTrue m3.key m3.leastOf m4.sameList m4.clearedFrom m4.overlay m5.walk m6.freshOf m7.words m7.firstOf m7.isNamed m7.isNumber m7.entryNamed m7.entryOf m7.numberOf m7.leastOperands m7.mostOperands m8.wordBytes m9.addOf m9.subOf m9.mulOf m9.divOf m9.modOf m9.shlOf m9.bsrOf m9.asrOf m9.rolOf m9.rorOf m9.andOf m9.orOf m9.xorOf m9.notOf m9.ltOf m9.gtOf m9.geOf m9.leOf m9.eqOf m9.neOf m10.expressionListed m10.inFunction m10.sizeAt m10.operandFault m10.addressListed m10.kindFault m10.targetFault m10.calleeFault m10.sizeFault m10.ownWord m10.hasWord m10.wordFault m10.operandsFault m10.addressFault m10.rowFault m10.labelFault m10.countFault m10.tablesFault m11.labelAt m11.isData m11.isFunctionLabel m12.sizesOf m13.behind m13.openBefore m13.groundIn m13.funcIn m13.scopeIn m13.upIn m13.isListed m13.mayStand m13.followsJump m13.stands m13.allClosed m13.isArm m13.isEndIf m13.nextArm m13.endIfOf m13.pastArm m13.targetOf m13.hasTarget m13.depthOf m13.encloses m14.operandOf m14.operandKind m14.operandNumber m14.hasExpression m14.isTest m14.isOperator m14.isCall m14.expressionUses m14.usedBy m14.operandAt m14.slots m14.rowFrom m14.rowAt m14.slotWords m14.encode m15.all m15.some m15.allOf m15.someOf m15.allBelow m15.someBelow m15.countBelow m15.greatestBelow m15.firstFrom m16.statementIn m16.standsIn m16.rowsOf m16.enters m16.leaves m16.groundOf m16.isFrame m16.kindOfWord m17.byteAddress m17.wordAddress m17.byteGood m17.wordGood m17.wordFrom m17.loadOf m17.storeFrom m18.lower m18.lowest m18.orElse m18.nextBad m18.frameEnds m18.rowsUsed m18.recordGood m18.stepBroken m18.numbersBelow m18.startBroken m19.roundUp m19.reserved m19.answered m19.fetched m19.byteOf m19.applied m19.evalOf m19.holds m20.mark m20.frameWords m20.isFirst m20.isReturnCall m20.isReturn m20.isCalling m20.calledFrom m20.headGood m20.passesOn m20.leavesGood m20.rowsLeft m20.landingOf m21.isAt m21.numberIn m21.fetchOf m21.readOf m21.withWord m21.onRead m21.readAll m22.exportsAs m22.exportOf m22.startAnswer m22.startWorld m22.startBy m22.begunBy m22.startOf m22.startLeaves m23.goingOn m23.movedTo m23.ended m23.stopped m23.goesTo m23.keeps m23.stores m23.blockOf m23.endBlockOf m23.testOf m23.workedOf m23.assigned m23.assignedAt m23.setAtOf m23.setByteBy m23.setWordBy m23.argumentsOf m23.callBy m23.callOf m23.tailCallBy m23.handedTo m23.handedBy m23.returned m23.returnOf m23.effectOf m23.idle m23.effected m23.gated m23.inState m23.stepOf m23.counting m23.runOf
-swap = refl
-
-swap-n : runOf Bits32 t-swap 9 (startLeaves Bits32 t-swap ([]) (102 ∷ []) (10 ∷ 3 ∷ []) (record { machine = freshOf 7 7 7; stack = replicate 5 9; memory = replicate 0 8 })) .count ≡ 2
-unfolding m1.byteAt m2.ifLt m2.ifEq m2.ifTrue m3.key m3.leastOf m4.sameList m4.clearedFrom m4.overlay m5.walk m6.freshOf m7.words m7.firstOf m7.isNamed m7.isNumber m7.entryNamed m7.entryOf m7.numberOf m7.leastOperands m7.mostOperands m8.wordBytes m9.addOf m9.subOf m9.mulOf m9.divOf m9.modOf m9.shlOf m9.bsrOf m9.asrOf m9.rolOf m9.rorOf m9.andOf m9.orOf m9.xorOf m9.notOf m9.ltOf m9.gtOf m9.geOf m9.leOf m9.eqOf m9.neOf m10.expressionListed m10.inFunction m10.sizeAt m10.operandFault m10.addressListed m10.kindFault m10.targetFault m10.calleeFault m10.sizeFault m10.ownWord m10.hasWord m10.wordFault m10.operandsFault m10.addressFault m10.rowFault m10.labelFault m10.countFault m10.tablesFault m11.labelAt m11.isData m11.isFunctionLabel m12.sizesOf m13.behind m13.openBefore m13.groundIn m13.funcIn m13.scopeIn m13.upIn m13.isListed m13.mayStand m13.followsJump m13.stands m13.allClosed m13.isArm m13.isEndIf m13.nextArm m13.endIfOf m13.pastArm m13.targetOf m13.hasTarget m13.depthOf m13.encloses m14.operandOf m14.operandKind m14.operandNumber m14.hasExpression m14.isTest m14.isOperator m14.isCall m14.expressionUses m14.usedBy m14.operandAt m14.slots m14.rowFrom m14.rowAt m14.slotWords m14.encode m15.all m15.some m15.allOf m15.someOf m15.allBelow m15.someBelow m15.countBelow m15.greatestBelow m15.firstFrom m16.statementIn m16.standsIn m16.rowsOf m16.enters m16.leaves m16.groundOf m16.isFrame m16.kindOfWord m17.byteAddress m17.wordAddress m17.byteGood m17.wordGood m17.wordFrom m17.loadOf m17.storeFrom m18.lower m18.lowest m18.orElse m18.nextBad m18.frameEnds m18.rowsUsed m18.recordGood m18.stepBroken m18.numbersBelow m18.startBroken m19.roundUp m19.reserved m19.answered m19.fetched m19.byteOf m19.applied m19.evalOf m19.holds m20.mark m20.frameWords m20.isFirst m20.isReturnCall m20.isReturn m20.isCalling m20.calledFrom m20.headGood m20.passesOn m20.leavesGood m20.rowsLeft m20.landingOf m21.isAt m21.numberIn m21.fetchOf m21.readOf m21.withWord m21.onRead m21.readAll m22.exportsAs m22.exportOf m22.startAnswer m22.startWorld m22.startBy m22.begunBy m22.startOf m22.startLeaves m23.goingOn m23.movedTo m23.ended m23.stopped m23.goesTo m23.keeps m23.stores m23.blockOf m23.endBlockOf m23.testOf m23.workedOf m23.assigned m23.assignedAt m23.setAtOf m23.setByteBy m23.setWordBy m23.argumentsOf m23.callBy m23.callOf m23.tailCallBy m23.handedTo m23.handedBy m23.returned m23.returnOf m23.effectOf m23.idle m23.effected m23.gated m23.inState m23.stepOf m23.counting m23.runOf
-swap-n = refl
-
-swap-u : runOf Bits32 t-swap 9 (startLeaves Bits32 t-swap ([]) (102 ∷ []) (10 ∷ 3 ∷ []) (record { machine = freshOf 7 7 7; stack = replicate 5 9; memory = replicate 0 8 })) .world .machine .used ≡ 0
-unfolding m1.byteAt m2.ifLt m2.ifEq m2.ifTrue m3.key m3.leastOf m4.sameList m4.clearedFrom m4.overlay m5.walk m6.freshOf m7.words m7.firstOf m7.isNamed m7.isNumber m7.entryNamed m7.entryOf m7.numberOf m7.leastOperands m7.mostOperands m8.wordBytes m9.addOf m9.subOf m9.mulOf m9.divOf m9.modOf m9.shlOf m9.bsrOf m9.asrOf m9.rolOf m9.rorOf m9.andOf m9.orOf m9.xorOf m9.notOf m9.ltOf m9.gtOf m9.geOf m9.leOf m9.eqOf m9.neOf m10.expressionListed m10.inFunction m10.sizeAt m10.operandFault m10.addressListed m10.kindFault m10.targetFault m10.calleeFault m10.sizeFault m10.ownWord m10.hasWord m10.wordFault m10.operandsFault m10.addressFault m10.rowFault m10.labelFault m10.countFault m10.tablesFault m11.labelAt m11.isData m11.isFunctionLabel m12.sizesOf m13.behind m13.openBefore m13.groundIn m13.funcIn m13.scopeIn m13.upIn m13.isListed m13.mayStand m13.followsJump m13.stands m13.allClosed m13.isArm m13.isEndIf m13.nextArm m13.endIfOf m13.pastArm m13.targetOf m13.hasTarget m13.depthOf m13.encloses m14.operandOf m14.operandKind m14.operandNumber m14.hasExpression m14.isTest m14.isOperator m14.isCall m14.expressionUses m14.usedBy m14.operandAt m14.slots m14.rowFrom m14.rowAt m14.slotWords m14.encode m15.all m15.some m15.allOf m15.someOf m15.allBelow m15.someBelow m15.countBelow m15.greatestBelow m15.firstFrom m16.statementIn m16.standsIn m16.rowsOf m16.enters m16.leaves m16.groundOf m16.isFrame m16.kindOfWord m17.byteAddress m17.wordAddress m17.byteGood m17.wordGood m17.wordFrom m17.loadOf m17.storeFrom m18.lower m18.lowest m18.orElse m18.nextBad m18.frameEnds m18.rowsUsed m18.recordGood m18.stepBroken m18.numbersBelow m18.startBroken m19.roundUp m19.reserved m19.answered m19.fetched m19.byteOf m19.applied m19.evalOf m19.holds m20.mark m20.frameWords m20.isFirst m20.isReturnCall m20.isReturn m20.isCalling m20.calledFrom m20.headGood m20.passesOn m20.leavesGood m20.rowsLeft m20.landingOf m21.isAt m21.numberIn m21.fetchOf m21.readOf m21.withWord m21.onRead m21.readAll m22.exportsAs m22.exportOf m22.startAnswer m22.startWorld m22.startBy m22.begunBy m22.startOf m22.startLeaves m23.goingOn m23.movedTo m23.ended m23.stopped m23.goesTo m23.keeps m23.stores m23.blockOf m23.endBlockOf m23.testOf m23.workedOf m23.assigned m23.assignedAt m23.setAtOf m23.setByteBy m23.setWordBy m23.argumentsOf m23.callBy m23.callOf m23.tailCallBy m23.handedTo m23.handedBy m23.returned m23.returnOf m23.effectOf m23.idle m23.effected m23.gated m23.inState m23.stepOf m23.counting m23.runOf
-swap-u = refl
-
-abbrev t-calls : Tables
-t-calls = record { statements = 1 ∷ 0 ∷ 0 ∷ 0 ∷ 4 ∷ 1 ∷ 0 ∷ 0 ∷ 0 ∷ 0 ∷ 0 ∷ 0 ∷ 0 ∷ 0 ∷ 0 ∷ 0 ∷ 0 ∷ 0 ∷ 0 ∷ 0 ∷ 0 ∷ 0 ∷ 0 ∷ 0 ∷ 0 ∷ 0 ∷ 0 ∷ 13 ∷ 0 ∷ 0 ∷ 1 ∷ 0 ∷ 0 ∷ 33 ∷ 0 ∷ 2 ∷ 0 ∷ 0 ∷ 2 ∷ 3 ∷ 1 ∷ 1 ∷ 0 ∷ 0 ∷ 0 ∷ 0 ∷ 0 ∷ 0 ∷ 0 ∷ 0 ∷ 0 ∷ 0 ∷ 0 ∷ 0 ∷ 2 ∷ 0 ∷ 0 ∷ 0 ∷ 0 ∷ 0 ∷ 0 ∷ 0 ∷ 0 ∷ 0 ∷ 0 ∷ 0 ∷ 0 ∷ 0 ∷ 0 ∷ 0 ∷ 0 ∷ 0 ∷ 0 ∷ 0 ∷ 0 ∷ 0 ∷ 0 ∷ 0 ∷ 0 ∷ 0 ∷ 0 ∷ 1 ∷ 3 ∷ 3 ∷ 0 ∷ 4 ∷ 0 ∷ 0 ∷ 0 ∷ 0 ∷ 0 ∷ 0 ∷ 0 ∷ 0 ∷ 0 ∷ 0 ∷ 0 ∷ 0 ∷ 0 ∷ 0 ∷ 0 ∷ 0 ∷ 0 ∷ 0 ∷ 0 ∷ 0 ∷ 0 ∷ 0 ∷ 5 ∷ 3 ∷ 3 ∷ 4 ∷ 3 ∷ 0 ∷ 1 ∷ 0 ∷ 1 ∷ 0 ∷ 0 ∷ 1 ∷ 4 ∷ 0 ∷ 0 ∷ 0 ∷ 0 ∷ 0 ∷ 0 ∷ 0 ∷ 0 ∷ 0 ∷ 0 ∷ 0 ∷ 0 ∷ 0 ∷ 0 ∷ 6 ∷ 3 ∷ 3 ∷ 4 ∷ 3 ∷ 0 ∷ 2 ∷ 0 ∷ 1 ∷ 0 ∷ 0 ∷ 2 ∷ 3 ∷ 0 ∷ 0 ∷ 0 ∷ 0 ∷ 0 ∷ 0 ∷ 0 ∷ 0 ∷ 0 ∷ 0 ∷ 0 ∷ 0 ∷ 0 ∷ 0 ∷ 11 ∷ 3 ∷ 3 ∷ 4 ∷ 0 ∷ 0 ∷ 0 ∷ 0 ∷ 1 ∷ 0 ∷ 0 ∷ 1 ∷ 9 ∷ 0 ∷ 0 ∷ 0 ∷ 0 ∷ 0 ∷ 0 ∷ 0 ∷ 0 ∷ 0 ∷ 0 ∷ 0 ∷ 0 ∷ 0 ∷ 0 ∷ 7 ∷ 3 ∷ 3 ∷ 4 ∷ 0 ∷ 0 ∷ 2 ∷ 0 ∷ 1 ∷ 1 ∷ 4 ∷ 2 ∷ 3 ∷ 0 ∷ 0 ∷ 0 ∷ 0 ∷ 0 ∷ 0 ∷ 0 ∷ 0 ∷ 0 ∷ 0 ∷ 0 ∷ 0 ∷ 0 ∷ 0 ∷ 13 ∷ 3 ∷ 3 ∷ 4 ∷ 0 ∷ 0 ∷ 41 ∷ 0 ∷ 2 ∷ 0 ∷ 0 ∷ 1 ∷ 0 ∷ 1 ∷ 1 ∷ 0 ∷ 0 ∷ 0 ∷ 0 ∷ 0 ∷ 0 ∷ 0 ∷ 0 ∷ 0 ∷ 0 ∷ 0 ∷ 0 ∷ 2 ∷ 3 ∷ 3 ∷ 0 ∷ 0 ∷ 0 ∷ 0 ∷ 0 ∷ 0 ∷ 0 ∷ 0 ∷ 0 ∷ 0 ∷ 0 ∷ 0 ∷ 0 ∷ 0 ∷ 0 ∷ 0 ∷ 0 ∷ 0 ∷ 0 ∷ 0 ∷ 0 ∷ 0 ∷ 0 ∷ 0 ∷ []; count = 10; labels = 3 ∷ 0 ∷ 0 ∷ 1 ∷ 4 ∷ 3 ∷ 0 ∷ 1 ∷ []; labelCount = 2; names = 103 ∷ 0 ∷ 0 ∷ 0 ∷ 0 ∷ 0 ∷ 0 ∷ 0 ∷ 0 ∷ 0 ∷ 0 ∷ 0 ∷ 0 ∷ 0 ∷ 0 ∷ 0 ∷ 0 ∷ 0 ∷ 0 ∷ 0 ∷ 0 ∷ 0 ∷ 0 ∷ 0 ∷ 0 ∷ 0 ∷ 0 ∷ 0 ∷ 0 ∷ 0 ∷ 0 ∷ 0 ∷ 0 ∷ 0 ∷ 0 ∷ 0 ∷ 0 ∷ 0 ∷ 0 ∷ 0 ∷ 0 ∷ 0 ∷ 0 ∷ 0 ∷ 0 ∷ 0 ∷ 0 ∷ 0 ∷ 0 ∷ 0 ∷ 0 ∷ 0 ∷ 0 ∷ 0 ∷ 0 ∷ 0 ∷ 0 ∷ 0 ∷ 0 ∷ 0 ∷ 0 ∷ 0 ∷ 0 ∷ 0 ∷ 102 ∷ 0 ∷ 0 ∷ 0 ∷ 0 ∷ 0 ∷ 0 ∷ 0 ∷ 0 ∷ 0 ∷ 0 ∷ 0 ∷ 0 ∷ 0 ∷ 0 ∷ 0 ∷ 0 ∷ 0 ∷ 0 ∷ 0 ∷ 0 ∷ 0 ∷ 0 ∷ 0 ∷ 0 ∷ 0 ∷ 0 ∷ 0 ∷ 0 ∷ 0 ∷ 0 ∷ 0 ∷ 0 ∷ 0 ∷ 0 ∷ 0 ∷ 0 ∷ 0 ∷ 0 ∷ 0 ∷ 0 ∷ 0 ∷ 0 ∷ 0 ∷ 0 ∷ 0 ∷ 0 ∷ 0 ∷ 0 ∷ 0 ∷ 0 ∷ 0 ∷ 0 ∷ 0 ∷ 0 ∷ 0 ∷ 0 ∷ 0 ∷ 0 ∷ 0 ∷ 0 ∷ 0 ∷ 0 ∷ 0 ∷ []; dataLength = 0 }
-
-calls : runOf Bits32 t-calls 99 (startLeaves Bits32 t-calls ([]) (102 ∷ []) ([]) (record { machine = freshOf 7 7 7; stack = replicate 8 9; memory = replicate 8 8 })) .world .machine .state ≡ Finished 6
-unfolding m1.byteAt m2.ifLt m2.ifEq m2.ifTrue m3.key m3.leastOf m4.sameList m4.clearedFrom m4.overlay m5.walk m6.freshOf m7.words m7.firstOf m7.isNamed m7.isNumber m7.entryNamed m7.entryOf m7.numberOf m7.leastOperands m7.mostOperands m8.wordBytes m9.addOf m9.subOf m9.mulOf m9.divOf m9.modOf m9.shlOf m9.bsrOf m9.asrOf m9.rolOf m9.rorOf m9.andOf m9.orOf m9.xorOf m9.notOf m9.ltOf m9.gtOf m9.geOf m9.leOf m9.eqOf m9.neOf m10.expressionListed m10.inFunction m10.sizeAt m10.operandFault m10.addressListed m10.kindFault m10.targetFault m10.calleeFault m10.sizeFault m10.ownWord m10.hasWord m10.wordFault m10.operandsFault m10.addressFault m10.rowFault m10.labelFault m10.countFault m10.tablesFault m11.labelAt m11.isData m11.isFunctionLabel m12.sizesOf m13.behind m13.openBefore m13.groundIn m13.funcIn m13.scopeIn m13.upIn m13.isListed m13.mayStand m13.followsJump m13.stands m13.allClosed m13.isArm m13.isEndIf m13.nextArm m13.endIfOf m13.pastArm m13.targetOf m13.hasTarget m13.depthOf m13.encloses m14.operandOf m14.operandKind m14.operandNumber m14.hasExpression m14.isTest m14.isOperator m14.isCall m14.expressionUses m14.usedBy m14.operandAt m14.slots m14.rowFrom m14.rowAt m14.slotWords m14.encode m15.all m15.some m15.allOf m15.someOf m15.allBelow m15.someBelow m15.countBelow m15.greatestBelow m15.firstFrom m16.statementIn m16.standsIn m16.rowsOf m16.enters m16.leaves m16.groundOf m16.isFrame m16.kindOfWord m17.byteAddress m17.wordAddress m17.byteGood m17.wordGood m17.wordFrom m17.loadOf m17.storeFrom m18.lower m18.lowest m18.orElse m18.nextBad m18.frameEnds m18.rowsUsed m18.recordGood m18.stepBroken m18.numbersBelow m18.startBroken m19.roundUp m19.reserved m19.answered m19.fetched m19.byteOf m19.applied m19.evalOf m19.holds m20.mark m20.frameWords m20.isFirst m20.isReturnCall m20.isReturn m20.isCalling m20.calledFrom m20.headGood m20.passesOn m20.leavesGood m20.rowsLeft m20.landingOf m21.isAt m21.numberIn m21.fetchOf m21.readOf m21.withWord m21.onRead m21.readAll m22.exportsAs m22.exportOf m22.startAnswer m22.startWorld m22.startBy m22.begunBy m22.startOf m22.startLeaves m23.goingOn m23.movedTo m23.ended m23.stopped m23.goesTo m23.keeps m23.stores m23.blockOf m23.endBlockOf m23.testOf m23.workedOf m23.assigned m23.assignedAt m23.setAtOf m23.setByteBy m23.setWordBy m23.argumentsOf m23.callBy m23.callOf m23.tailCallBy m23.handedTo m23.handedBy m23.returned m23.returnOf m23.effectOf m23.idle m23.effected m23.gated m23.inState m23.stepOf m23.counting m23.runOf
-calls = refl
-
-calls-n : runOf Bits32 t-calls 99 (startLeaves Bits32 t-calls ([]) (102 ∷ []) ([]) (record { machine = freshOf 7 7 7; stack = replicate 8 9; memory = replicate 8 8 })) .count ≡ 8
-unfolding m1.byteAt m2.ifLt m2.ifEq m2.ifTrue m3.key m3.leastOf m4.sameList m4.clearedFrom m4.overlay m5.walk m6.freshOf m7.words m7.firstOf m7.isNamed m7.isNumber m7.entryNamed m7.entryOf m7.numberOf m7.leastOperands m7.mostOperands m8.wordBytes m9.addOf m9.subOf m9.mulOf m9.divOf m9.modOf m9.shlOf m9.bsrOf m9.asrOf m9.rolOf m9.rorOf m9.andOf m9.orOf m9.xorOf m9.notOf m9.ltOf m9.gtOf m9.geOf m9.leOf m9.eqOf m9.neOf m10.expressionListed m10.inFunction m10.sizeAt m10.operandFault m10.addressListed m10.kindFault m10.targetFault m10.calleeFault m10.sizeFault m10.ownWord m10.hasWord m10.wordFault m10.operandsFault m10.addressFault m10.rowFault m10.labelFault m10.countFault m10.tablesFault m11.labelAt m11.isData m11.isFunctionLabel m12.sizesOf m13.behind m13.openBefore m13.groundIn m13.funcIn m13.scopeIn m13.upIn m13.isListed m13.mayStand m13.followsJump m13.stands m13.allClosed m13.isArm m13.isEndIf m13.nextArm m13.endIfOf m13.pastArm m13.targetOf m13.hasTarget m13.depthOf m13.encloses m14.operandOf m14.operandKind m14.operandNumber m14.hasExpression m14.isTest m14.isOperator m14.isCall m14.expressionUses m14.usedBy m14.operandAt m14.slots m14.rowFrom m14.rowAt m14.slotWords m14.encode m15.all m15.some m15.allOf m15.someOf m15.allBelow m15.someBelow m15.countBelow m15.greatestBelow m15.firstFrom m16.statementIn m16.standsIn m16.rowsOf m16.enters m16.leaves m16.groundOf m16.isFrame m16.kindOfWord m17.byteAddress m17.wordAddress m17.byteGood m17.wordGood m17.wordFrom m17.loadOf m17.storeFrom m18.lower m18.lowest m18.orElse m18.nextBad m18.frameEnds m18.rowsUsed m18.recordGood m18.stepBroken m18.numbersBelow m18.startBroken m19.roundUp m19.reserved m19.answered m19.fetched m19.byteOf m19.applied m19.evalOf m19.holds m20.mark m20.frameWords m20.isFirst m20.isReturnCall m20.isReturn m20.isCalling m20.calledFrom m20.headGood m20.passesOn m20.leavesGood m20.rowsLeft m20.landingOf m21.isAt m21.numberIn m21.fetchOf m21.readOf m21.withWord m21.onRead m21.readAll m22.exportsAs m22.exportOf m22.startAnswer m22.startWorld m22.startBy m22.begunBy m22.startOf m22.startLeaves m23.goingOn m23.movedTo m23.ended m23.stopped m23.goesTo m23.keeps m23.stores m23.blockOf m23.endBlockOf m23.testOf m23.workedOf m23.assigned m23.assignedAt m23.setAtOf m23.setByteBy m23.setWordBy m23.argumentsOf m23.callBy m23.callOf m23.tailCallBy m23.handedTo m23.handedBy m23.returned m23.returnOf m23.effectOf m23.idle m23.effected m23.gated m23.inState m23.stepOf m23.counting m23.runOf
-calls-n = refl
-
-calls-u : runOf Bits32 t-calls 99 (startLeaves Bits32 t-calls ([]) (102 ∷ []) ([]) (record { machine = freshOf 7 7 7; stack = replicate 8 9; memory = replicate 8 8 })) .world .machine .used ≡ 0
-unfolding m1.byteAt m2.ifLt m2.ifEq m2.ifTrue m3.key m3.leastOf m4.sameList m4.clearedFrom m4.overlay m5.walk m6.freshOf m7.words m7.firstOf m7.isNamed m7.isNumber m7.entryNamed m7.entryOf m7.numberOf m7.leastOperands m7.mostOperands m8.wordBytes m9.addOf m9.subOf m9.mulOf m9.divOf m9.modOf m9.shlOf m9.bsrOf m9.asrOf m9.rolOf m9.rorOf m9.andOf m9.orOf m9.xorOf m9.notOf m9.ltOf m9.gtOf m9.geOf m9.leOf m9.eqOf m9.neOf m10.expressionListed m10.inFunction m10.sizeAt m10.operandFault m10.addressListed m10.kindFault m10.targetFault m10.calleeFault m10.sizeFault m10.ownWord m10.hasWord m10.wordFault m10.operandsFault m10.addressFault m10.rowFault m10.labelFault m10.countFault m10.tablesFault m11.labelAt m11.isData m11.isFunctionLabel m12.sizesOf m13.behind m13.openBefore m13.groundIn m13.funcIn m13.scopeIn m13.upIn m13.isListed m13.mayStand m13.followsJump m13.stands m13.allClosed m13.isArm m13.isEndIf m13.nextArm m13.endIfOf m13.pastArm m13.targetOf m13.hasTarget m13.depthOf m13.encloses m14.operandOf m14.operandKind m14.operandNumber m14.hasExpression m14.isTest m14.isOperator m14.isCall m14.expressionUses m14.usedBy m14.operandAt m14.slots m14.rowFrom m14.rowAt m14.slotWords m14.encode m15.all m15.some m15.allOf m15.someOf m15.allBelow m15.someBelow m15.countBelow m15.greatestBelow m15.firstFrom m16.statementIn m16.standsIn m16.rowsOf m16.enters m16.leaves m16.groundOf m16.isFrame m16.kindOfWord m17.byteAddress m17.wordAddress m17.byteGood m17.wordGood m17.wordFrom m17.loadOf m17.storeFrom m18.lower m18.lowest m18.orElse m18.nextBad m18.frameEnds m18.rowsUsed m18.recordGood m18.stepBroken m18.numbersBelow m18.startBroken m19.roundUp m19.reserved m19.answered m19.fetched m19.byteOf m19.applied m19.evalOf m19.holds m20.mark m20.frameWords m20.isFirst m20.isReturnCall m20.isReturn m20.isCalling m20.calledFrom m20.headGood m20.passesOn m20.leavesGood m20.rowsLeft m20.landingOf m21.isAt m21.numberIn m21.fetchOf m21.readOf m21.withWord m21.onRead m21.readAll m22.exportsAs m22.exportOf m22.startAnswer m22.startWorld m22.startBy m22.begunBy m22.startOf m22.startLeaves m23.goingOn m23.movedTo m23.ended m23.stopped m23.goesTo m23.keeps m23.stores m23.blockOf m23.endBlockOf m23.testOf m23.workedOf m23.assigned m23.assignedAt m23.setAtOf m23.setByteBy m23.setWordBy m23.argumentsOf m23.callBy m23.callOf m23.tailCallBy m23.handedTo m23.handedBy m23.returned m23.returnOf m23.effectOf m23.idle m23.effected m23.gated m23.inState m23.stepOf m23.counting m23.runOf
-calls-u = refl
-
-abbrev t-setat-bad : Tables
-t-setat-bad = record { statements = 1 ∷ 0 ∷ 0 ∷ 0 ∷ 4 ∷ 1 ∷ 0 ∷ 0 ∷ 0 ∷ 0 ∷ 0 ∷ 0 ∷ 0 ∷ 0 ∷ 0 ∷ 0 ∷ 0 ∷ 0 ∷ 0 ∷ 0 ∷ 0 ∷ 0 ∷ 0 ∷ 0 ∷ 0 ∷ 0 ∷ 0 ∷ 13 ∷ 0 ∷ 0 ∷ 1 ∷ 0 ∷ 0 ∷ 33 ∷ 0 ∷ 2 ∷ 0 ∷ 0 ∷ 2 ∷ 3 ∷ 1 ∷ 1 ∷ 0 ∷ 0 ∷ 0 ∷ 0 ∷ 0 ∷ 0 ∷ 0 ∷ 0 ∷ 0 ∷ 0 ∷ 0 ∷ 0 ∷ 2 ∷ 0 ∷ 0 ∷ 0 ∷ 0 ∷ 0 ∷ 0 ∷ 0 ∷ 0 ∷ 0 ∷ 0 ∷ 0 ∷ 0 ∷ 0 ∷ 0 ∷ 0 ∷ 0 ∷ 0 ∷ 0 ∷ 0 ∷ 0 ∷ 0 ∷ 0 ∷ 0 ∷ 0 ∷ 0 ∷ 0 ∷ 1 ∷ 3 ∷ 3 ∷ 0 ∷ 3 ∷ 0 ∷ 0 ∷ 0 ∷ 0 ∷ 0 ∷ 0 ∷ 0 ∷ 0 ∷ 0 ∷ 0 ∷ 0 ∷ 0 ∷ 0 ∷ 0 ∷ 0 ∷ 0 ∷ 0 ∷ 0 ∷ 0 ∷ 0 ∷ 0 ∷ 0 ∷ 7 ∷ 3 ∷ 3 ∷ 4 ∷ 0 ∷ 0 ∷ 2 ∷ 0 ∷ 1 ∷ 1 ∷ 3 ∷ 1 ∷ 1 ∷ 0 ∷ 0 ∷ 0 ∷ 0 ∷ 0 ∷ 0 ∷ 0 ∷ 0 ∷ 0 ∷ 0 ∷ 0 ∷ 0 ∷ 0 ∷ 0 ∷ 13 ∷ 3 ∷ 3 ∷ 4 ∷ 0 ∷ 0 ∷ 41 ∷ 0 ∷ 2 ∷ 0 ∷ 0 ∷ 1 ∷ 0 ∷ 1 ∷ 1 ∷ 0 ∷ 0 ∷ 0 ∷ 0 ∷ 0 ∷ 0 ∷ 0 ∷ 0 ∷ 0 ∷ 0 ∷ 0 ∷ 0 ∷ 2 ∷ 3 ∷ 3 ∷ 0 ∷ 0 ∷ 0 ∷ 0 ∷ 0 ∷ 0 ∷ 0 ∷ 0 ∷ 0 ∷ 0 ∷ 0 ∷ 0 ∷ 0 ∷ 0 ∷ 0 ∷ 0 ∷ 0 ∷ 0 ∷ 0 ∷ 0 ∷ 0 ∷ 0 ∷ 0 ∷ 0 ∷ []; count = 7; labels = 3 ∷ 0 ∷ 0 ∷ 1 ∷ 4 ∷ 3 ∷ 0 ∷ 1 ∷ []; labelCount = 2; names = 103 ∷ 0 ∷ 0 ∷ 0 ∷ 0 ∷ 0 ∷ 0 ∷ 0 ∷ 0 ∷ 0 ∷ 0 ∷ 0 ∷ 0 ∷ 0 ∷ 0 ∷ 0 ∷ 0 ∷ 0 ∷ 0 ∷ 0 ∷ 0 ∷ 0 ∷ 0 ∷ 0 ∷ 0 ∷ 0 ∷ 0 ∷ 0 ∷ 0 ∷ 0 ∷ 0 ∷ 0 ∷ 0 ∷ 0 ∷ 0 ∷ 0 ∷ 0 ∷ 0 ∷ 0 ∷ 0 ∷ 0 ∷ 0 ∷ 0 ∷ 0 ∷ 0 ∷ 0 ∷ 0 ∷ 0 ∷ 0 ∷ 0 ∷ 0 ∷ 0 ∷ 0 ∷ 0 ∷ 0 ∷ 0 ∷ 0 ∷ 0 ∷ 0 ∷ 0 ∷ 0 ∷ 0 ∷ 0 ∷ 0 ∷ 102 ∷ 0 ∷ 0 ∷ 0 ∷ 0 ∷ 0 ∷ 0 ∷ 0 ∷ 0 ∷ 0 ∷ 0 ∷ 0 ∷ 0 ∷ 0 ∷ 0 ∷ 0 ∷ 0 ∷ 0 ∷ 0 ∷ 0 ∷ 0 ∷ 0 ∷ 0 ∷ 0 ∷ 0 ∷ 0 ∷ 0 ∷ 0 ∷ 0 ∷ 0 ∷ 0 ∷ 0 ∷ 0 ∷ 0 ∷ 0 ∷ 0 ∷ 0 ∷ 0 ∷ 0 ∷ 0 ∷ 0 ∷ 0 ∷ 0 ∷ 0 ∷ 0 ∷ 0 ∷ 0 ∷ 0 ∷ 0 ∷ 0 ∷ 0 ∷ 0 ∷ 0 ∷ 0 ∷ 0 ∷ 0 ∷ 0 ∷ 0 ∷ 0 ∷ 0 ∷ 0 ∷ 0 ∷ 0 ∷ 0 ∷ []; dataLength = 0 }
-
-setat-bad : runOf Bits32 t-setat-bad 99 (startLeaves Bits32 t-setat-bad ([]) (102 ∷ []) ([]) (record { machine = freshOf 7 7 7; stack = replicate 8 9; memory = replicate 8 8 })) .world .machine .state ≡ Stopped 32 4
-unfolding m1.byteAt m2.ifLt m2.ifEq m2.ifTrue m3.key m3.leastOf m4.sameList m4.clearedFrom m4.overlay m5.walk m6.freshOf m7.words m7.firstOf m7.isNamed m7.isNumber m7.entryNamed m7.entryOf m7.numberOf m7.leastOperands m7.mostOperands m8.wordBytes m9.addOf m9.subOf m9.mulOf m9.divOf m9.modOf m9.shlOf m9.bsrOf m9.asrOf m9.rolOf m9.rorOf m9.andOf m9.orOf m9.xorOf m9.notOf m9.ltOf m9.gtOf m9.geOf m9.leOf m9.eqOf m9.neOf m10.expressionListed m10.inFunction m10.sizeAt m10.operandFault m10.addressListed m10.kindFault m10.targetFault m10.calleeFault m10.sizeFault m10.ownWord m10.hasWord m10.wordFault m10.operandsFault m10.addressFault m10.rowFault m10.labelFault m10.countFault m10.tablesFault m11.labelAt m11.isData m11.isFunctionLabel m12.sizesOf m13.behind m13.openBefore m13.groundIn m13.funcIn m13.scopeIn m13.upIn m13.isListed m13.mayStand m13.followsJump m13.stands m13.allClosed m13.isArm m13.isEndIf m13.nextArm m13.endIfOf m13.pastArm m13.targetOf m13.hasTarget m13.depthOf m13.encloses m14.operandOf m14.operandKind m14.operandNumber m14.hasExpression m14.isTest m14.isOperator m14.isCall m14.expressionUses m14.usedBy m14.operandAt m14.slots m14.rowFrom m14.rowAt m14.slotWords m14.encode m15.all m15.some m15.allOf m15.someOf m15.allBelow m15.someBelow m15.countBelow m15.greatestBelow m15.firstFrom m16.statementIn m16.standsIn m16.rowsOf m16.enters m16.leaves m16.groundOf m16.isFrame m16.kindOfWord m17.byteAddress m17.wordAddress m17.byteGood m17.wordGood m17.wordFrom m17.loadOf m17.storeFrom m18.lower m18.lowest m18.orElse m18.nextBad m18.frameEnds m18.rowsUsed m18.recordGood m18.stepBroken m18.numbersBelow m18.startBroken m19.roundUp m19.reserved m19.answered m19.fetched m19.byteOf m19.applied m19.evalOf m19.holds m20.mark m20.frameWords m20.isFirst m20.isReturnCall m20.isReturn m20.isCalling m20.calledFrom m20.headGood m20.passesOn m20.leavesGood m20.rowsLeft m20.landingOf m21.isAt m21.numberIn m21.fetchOf m21.readOf m21.withWord m21.onRead m21.readAll m22.exportsAs m22.exportOf m22.startAnswer m22.startWorld m22.startBy m22.begunBy m22.startOf m22.startLeaves m23.goingOn m23.movedTo m23.ended m23.stopped m23.goesTo m23.keeps m23.stores m23.blockOf m23.endBlockOf m23.testOf m23.workedOf m23.assigned m23.assignedAt m23.setAtOf m23.setByteBy m23.setWordBy m23.argumentsOf m23.callBy m23.callOf m23.tailCallBy m23.handedTo m23.handedBy m23.returned m23.returnOf m23.effectOf m23.idle m23.effected m23.gated m23.inState m23.stepOf m23.counting m23.runOf
-setat-bad = refl
-
-setat-bad-n : runOf Bits32 t-setat-bad 99 (startLeaves Bits32 t-setat-bad ([]) (102 ∷ []) ([]) (record { machine = freshOf 7 7 7; stack = replicate 8 9; memory = replicate 8 8 })) .count ≡ 0
-unfolding m1.byteAt m2.ifLt m2.ifEq m2.ifTrue m3.key m3.leastOf m4.sameList m4.clearedFrom m4.overlay m5.walk m6.freshOf m7.words m7.firstOf m7.isNamed m7.isNumber m7.entryNamed m7.entryOf m7.numberOf m7.leastOperands m7.mostOperands m8.wordBytes m9.addOf m9.subOf m9.mulOf m9.divOf m9.modOf m9.shlOf m9.bsrOf m9.asrOf m9.rolOf m9.rorOf m9.andOf m9.orOf m9.xorOf m9.notOf m9.ltOf m9.gtOf m9.geOf m9.leOf m9.eqOf m9.neOf m10.expressionListed m10.inFunction m10.sizeAt m10.operandFault m10.addressListed m10.kindFault m10.targetFault m10.calleeFault m10.sizeFault m10.ownWord m10.hasWord m10.wordFault m10.operandsFault m10.addressFault m10.rowFault m10.labelFault m10.countFault m10.tablesFault m11.labelAt m11.isData m11.isFunctionLabel m12.sizesOf m13.behind m13.openBefore m13.groundIn m13.funcIn m13.scopeIn m13.upIn m13.isListed m13.mayStand m13.followsJump m13.stands m13.allClosed m13.isArm m13.isEndIf m13.nextArm m13.endIfOf m13.pastArm m13.targetOf m13.hasTarget m13.depthOf m13.encloses m14.operandOf m14.operandKind m14.operandNumber m14.hasExpression m14.isTest m14.isOperator m14.isCall m14.expressionUses m14.usedBy m14.operandAt m14.slots m14.rowFrom m14.rowAt m14.slotWords m14.encode m15.all m15.some m15.allOf m15.someOf m15.allBelow m15.someBelow m15.countBelow m15.greatestBelow m15.firstFrom m16.statementIn m16.standsIn m16.rowsOf m16.enters m16.leaves m16.groundOf m16.isFrame m16.kindOfWord m17.byteAddress m17.wordAddress m17.byteGood m17.wordGood m17.wordFrom m17.loadOf m17.storeFrom m18.lower m18.lowest m18.orElse m18.nextBad m18.frameEnds m18.rowsUsed m18.recordGood m18.stepBroken m18.numbersBelow m18.startBroken m19.roundUp m19.reserved m19.answered m19.fetched m19.byteOf m19.applied m19.evalOf m19.holds m20.mark m20.frameWords m20.isFirst m20.isReturnCall m20.isReturn m20.isCalling m20.calledFrom m20.headGood m20.passesOn m20.leavesGood m20.rowsLeft m20.landingOf m21.isAt m21.numberIn m21.fetchOf m21.readOf m21.withWord m21.onRead m21.readAll m22.exportsAs m22.exportOf m22.startAnswer m22.startWorld m22.startBy m22.begunBy m22.startOf m22.startLeaves m23.goingOn m23.movedTo m23.ended m23.stopped m23.goesTo m23.keeps m23.stores m23.blockOf m23.endBlockOf m23.testOf m23.workedOf m23.assigned m23.assignedAt m23.setAtOf m23.setByteBy m23.setWordBy m23.argumentsOf m23.callBy m23.callOf m23.tailCallBy m23.handedTo m23.handedBy m23.returned m23.returnOf m23.effectOf m23.idle m23.effected m23.gated m23.inState m23.stepOf m23.counting m23.runOf
-setat-bad-n = refl
-
-setat-bad-b : runOf Bits32 t-setat-bad 99 (startLeaves Bits32 t-setat-bad ([]) (102 ∷ []) ([]) (record { machine = freshOf 7 7 7; stack = replicate 8 9; memory = replicate 8 8 })) .broken ≡ No
-unfolding m1.byteAt m2.ifLt m2.ifEq m2.ifTrue m3.key m3.leastOf m4.sameList m4.clearedFrom m4.overlay m5.walk m6.freshOf m7.words m7.firstOf m7.isNamed m7.isNumber m7.entryNamed m7.entryOf m7.numberOf m7.leastOperands m7.mostOperands m8.wordBytes m9.addOf m9.subOf m9.mulOf m9.divOf m9.modOf m9.shlOf m9.bsrOf m9.asrOf m9.rolOf m9.rorOf m9.andOf m9.orOf m9.xorOf m9.notOf m9.ltOf m9.gtOf m9.geOf m9.leOf m9.eqOf m9.neOf m10.expressionListed m10.inFunction m10.sizeAt m10.operandFault m10.addressListed m10.kindFault m10.targetFault m10.calleeFault m10.sizeFault m10.ownWord m10.hasWord m10.wordFault m10.operandsFault m10.addressFault m10.rowFault m10.labelFault m10.countFault m10.tablesFault m11.labelAt m11.isData m11.isFunctionLabel m12.sizesOf m13.behind m13.openBefore m13.groundIn m13.funcIn m13.scopeIn m13.upIn m13.isListed m13.mayStand m13.followsJump m13.stands m13.allClosed m13.isArm m13.isEndIf m13.nextArm m13.endIfOf m13.pastArm m13.targetOf m13.hasTarget m13.depthOf m13.encloses m14.operandOf m14.operandKind m14.operandNumber m14.hasExpression m14.isTest m14.isOperator m14.isCall m14.expressionUses m14.usedBy m14.operandAt m14.slots m14.rowFrom m14.rowAt m14.slotWords m14.encode m15.all m15.some m15.allOf m15.someOf m15.allBelow m15.someBelow m15.countBelow m15.greatestBelow m15.firstFrom m16.statementIn m16.standsIn m16.rowsOf m16.enters m16.leaves m16.groundOf m16.isFrame m16.kindOfWord m17.byteAddress m17.wordAddress m17.byteGood m17.wordGood m17.wordFrom m17.loadOf m17.storeFrom m18.lower m18.lowest m18.orElse m18.nextBad m18.frameEnds m18.rowsUsed m18.recordGood m18.stepBroken m18.numbersBelow m18.startBroken m19.roundUp m19.reserved m19.answered m19.fetched m19.byteOf m19.applied m19.evalOf m19.holds m20.mark m20.frameWords m20.isFirst m20.isReturnCall m20.isReturn m20.isCalling m20.calledFrom m20.headGood m20.passesOn m20.leavesGood m20.rowsLeft m20.landingOf m21.isAt m21.numberIn m21.fetchOf m21.readOf m21.withWord m21.onRead m21.readAll m22.exportsAs m22.exportOf m22.startAnswer m22.startWorld m22.startBy m22.begunBy m22.startOf m22.startLeaves m23.goingOn m23.movedTo m23.ended m23.stopped m23.goesTo m23.keeps m23.stores m23.blockOf m23.endBlockOf m23.testOf m23.workedOf m23.assigned m23.assignedAt m23.setAtOf m23.setByteBy m23.setWordBy m23.argumentsOf m23.callBy m23.callOf m23.tailCallBy m23.handedTo m23.handedBy m23.returned m23.returnOf m23.effectOf m23.idle m23.effected m23.gated m23.inState m23.stepOf m23.counting m23.runOf
-setat-bad-b = refl
+-- so many words, zeros behind those given
+abbrev padded : ℕ → List ℕ → List ℕ
+padded zero xs = []
+padded (suc n) [] = 0 ∷ padded n []
+padded (suc n) (x ∷ xs) = x ∷ padded n xs
+
+abbrev tableOf : ℕ → List (List ℕ) → List ℕ
+tableOf n [] = []
+tableOf n (r ∷ rs) = padded n r ++ tableOf n rs
+
+-- statement rows, label rows, names, bytes of data
+abbrev program : List (List ℕ) → List (List ℕ) → List (List ℕ) → ℕ → Tables
+program rs ls ns d =
+    record { statements = tableOf 27 rs; count = length rs; labels = tableOf 4 ls; labelCount = length ls; names = tableOf 64 ns; dataLength = d }
+
+-- a state with the steps counted and the stack words in use, or a refused start
+data Outcome : Type 0 where
+  came : State → ℕ → ℕ → Outcome
+  refusedStart : ℕ → Outcome
+  given35 : Outcome
+
+abbrev shownBy : After → Broken → Outcome
+shownBy y No = came (y .world .machine .state) (y .count) (y .world .machine .used)
+shownBy y (At i) = given35
+shownBy y Somewhere = given35
+
+abbrev outcomeBy : Tables → ℕ → World → Started → Outcome
+outcomeBy t b x Begun = shownBy (runOf Bits32 t b x) (runOf Bits32 t b x .broken)
+outcomeBy t b x (Refused k) = refusedStart k
+outcomeBy t b x (Unsound y) = given35
+
+-- a world with s stack words and m bytes of memory, all of them in use before
+abbrev used : ℕ → ℕ → World
+used s m = record { machine = freshOf 7 7 7; stack = replicate s 9; memory = replicate m 8 }
+
+-- a start of a name with arguments, then a run
+abbrev ran : Tables → List ℕ → List ℕ → List ℕ → ℕ → ℕ → ℕ → Outcome
+ran t bytes name args s m b = outcomeBy t b (startLeaves Bits32 t bytes name args (used s m)) (startOf Bits32 t bytes name args (used s m))
+
+-- ---- programs: the tables that the check leaves
+
+-- section data
+-- stock: word 12
+-- section functions
+-- export top
+-- top:
+-- function a
+-- block
+-- let b add a @stock
+-- return b
+-- end block
+-- end function
+abbrev p1 : Tables
+p1 =
+    program
+    ((1 ∷ 0 ∷ 0 ∷ 0 ∷ 6 ∷ 1 ∷ [])
+    ∷ (3 ∷ 0 ∷ 0 ∷ 1 ∷ 4 ∷ 1 ∷ 0 ∷ 1 ∷ [])
+    ∷ (5 ∷ 0 ∷ 1 ∷ 2 ∷ 5 ∷ 0 ∷ 33 ∷ 0 ∷ 2 ∷ 0 ∷ 0 ∷ 2 ∷ 3 ∷ 6 ∷ [])
+    ∷ (13 ∷ 0 ∷ 1 ∷ 2 ∷ 0 ∷ 0 ∷ 1 ∷ 0 ∷ 1 ∷ 0 ∷ 0 ∷ 2 ∷ 5 ∷ [])
+    ∷ (4 ∷ 0 ∷ 1 ∷ 1 ∷ 4 ∷ [])
+    ∷ (2 ∷ []) ∷ [])
+    ((1 ∷ 0 ∷ 0 ∷ 5 ∷ []) ∷ (4 ∷ 0 ∷ 0 ∷ 3 ∷ []) ∷ [])
+    ((115 ∷ 116 ∷ 111 ∷ 99 ∷ 107 ∷ []) ∷ (116 ∷ 111 ∷ 112 ∷ []) ∷ []) 4
+
+-- section functions
+-- export f
+-- f:
+-- function
+-- set @3 div 1 0
+-- end function
+abbrev p2 : Tables
+p2 =
+    program
+    ((1 ∷ 0 ∷ 0 ∷ 0 ∷ 3 ∷ [])
+    ∷ (7 ∷ 0 ∷ 0 ∷ 1 ∷ 0 ∷ 0 ∷ 39 ∷ 0 ∷ 2 ∷ 1 ∷ 3 ∷ 1 ∷ 1 ∷ 1 ∷ [])
+    ∷ (2 ∷ []) ∷ [])
+    ((4 ∷ 0 ∷ 0 ∷ 1 ∷ []) ∷ [])
+    ((102 ∷ []) ∷ []) 0
+
+-- section functions
+-- export f
+-- f:
+-- function
+-- let x div @3 0
+-- end function
+abbrev p3 : Tables
+p3 =
+    program
+    ((1 ∷ 0 ∷ 0 ∷ 0 ∷ 4 ∷ [])
+    ∷ (5 ∷ 0 ∷ 0 ∷ 1 ∷ 3 ∷ 0 ∷ 39 ∷ 0 ∷ 2 ∷ 0 ∷ 0 ∷ 4 ∷ 3 ∷ 1 ∷ [])
+    ∷ (2 ∷ []) ∷ [])
+    ((4 ∷ 0 ∷ 0 ∷ 1 ∷ []) ∷ [])
+    ((102 ∷ []) ∷ []) 0
+
+-- section functions
+-- export f
+-- f:
+-- function
+-- let x div 1 0
+-- end function
+abbrev p4 : Tables
+p4 =
+    program
+    ((1 ∷ 0 ∷ 0 ∷ 0 ∷ 4 ∷ [])
+    ∷ (5 ∷ 0 ∷ 0 ∷ 1 ∷ 3 ∷ 0 ∷ 39 ∷ 0 ∷ 2 ∷ 0 ∷ 0 ∷ 1 ∷ 1 ∷ 1 ∷ [])
+    ∷ (2 ∷ []) ∷ [])
+    ((4 ∷ 0 ∷ 0 ∷ 1 ∷ []) ∷ [])
+    ((102 ∷ []) ∷ []) 0
+
+-- section functions
+-- export f
+-- f:
+-- function
+-- let x shl 1 -1
+-- end function
+abbrev p5 : Tables
+p5 =
+    program
+    ((1 ∷ 0 ∷ 0 ∷ 0 ∷ 4 ∷ [])
+    ∷ (5 ∷ 0 ∷ 0 ∷ 1 ∷ 3 ∷ 0 ∷ 48 ∷ 0 ∷ 2 ∷ 0 ∷ 0 ∷ 1 ∷ 1 ∷ 1 ∷ 4294967295 ∷ [])
+    ∷ (2 ∷ []) ∷ [])
+    ((4 ∷ 0 ∷ 0 ∷ 1 ∷ []) ∷ [])
+    ((102 ∷ []) ∷ []) 0
+
+-- section functions
+-- export f
+-- f:
+-- function
+-- let x get-byte 0 -1
+-- end function
+abbrev p6 : Tables
+p6 =
+    program
+    ((1 ∷ 0 ∷ 0 ∷ 0 ∷ 4 ∷ [])
+    ∷ (5 ∷ 0 ∷ 0 ∷ 1 ∷ 3 ∷ 0 ∷ 40 ∷ 0 ∷ 2 ∷ 0 ∷ 0 ∷ 1 ∷ 0 ∷ 1 ∷ 4294967295 ∷ [])
+    ∷ (2 ∷ []) ∷ [])
+    ((4 ∷ 0 ∷ 0 ∷ 1 ∷ []) ∷ [])
+    ((102 ∷ []) ∷ []) 0
+
+-- section functions
+-- h: function
+-- return 5
+-- end function
+-- g: function
+-- return call h
+-- end function
+-- export f
+-- f: function
+-- return call g
+-- end function
+abbrev p7 : Tables
+p7 =
+    program
+    ((1 ∷ 0 ∷ 0 ∷ 0 ∷ 3 ∷ [])
+    ∷ (13 ∷ 0 ∷ 0 ∷ 1 ∷ 0 ∷ 0 ∷ 1 ∷ 0 ∷ 1 ∷ 0 ∷ 0 ∷ 1 ∷ 5 ∷ [])
+    ∷ (2 ∷ [])
+    ∷ (1 ∷ 3 ∷ 3 ∷ 0 ∷ 3 ∷ [])
+    ∷ (13 ∷ 3 ∷ 3 ∷ 4 ∷ 0 ∷ 0 ∷ 2 ∷ [])
+    ∷ (2 ∷ 3 ∷ 3 ∷ [])
+    ∷ (1 ∷ 6 ∷ 6 ∷ 0 ∷ 3 ∷ [])
+    ∷ (13 ∷ 6 ∷ 6 ∷ 7 ∷ 0 ∷ 0 ∷ 2 ∷ 3 ∷ [])
+    ∷ (2 ∷ 6 ∷ 6 ∷ []) ∷ [])
+    ((3 ∷ 0 ∷ 0 ∷ 1 ∷ []) ∷ (3 ∷ 3 ∷ 0 ∷ 1 ∷ []) ∷ (4 ∷ 6 ∷ 0 ∷ 1 ∷ []) ∷ [])
+    ((104 ∷ []) ∷ (103 ∷ []) ∷ (102 ∷ []) ∷ []) 0
+
+-- section data
+-- byte 1
+-- section functions
+-- export f
+-- f: function
+-- let a auto-bytes 3
+-- let b auto-words 1
+-- return b
+-- end function
+abbrev p8 : Tables
+p8 =
+    program
+    ((1 ∷ 0 ∷ 0 ∷ 0 ∷ 5 ∷ [])
+    ∷ (5 ∷ 0 ∷ 0 ∷ 1 ∷ 3 ∷ 0 ∷ 36 ∷ 0 ∷ 1 ∷ 0 ∷ 0 ∷ 1 ∷ 3 ∷ [])
+    ∷ (5 ∷ 0 ∷ 0 ∷ 1 ∷ 4 ∷ 0 ∷ 37 ∷ 0 ∷ 1 ∷ 0 ∷ 0 ∷ 1 ∷ 1 ∷ [])
+    ∷ (13 ∷ 0 ∷ 0 ∷ 1 ∷ 0 ∷ 0 ∷ 1 ∷ 0 ∷ 1 ∷ 0 ∷ 0 ∷ 2 ∷ 4 ∷ [])
+    ∷ (2 ∷ []) ∷ [])
+    ((4 ∷ 0 ∷ 0 ∷ 1 ∷ []) ∷ [])
+    ((102 ∷ []) ∷ []) 1
+
+-- section data
+-- byte 1
+-- section functions
+-- export f
+-- f: function
+-- let a auto-bytes 0
+-- return a
+-- end function
+abbrev p9 : Tables
+p9 =
+    program
+    ((1 ∷ 0 ∷ 0 ∷ 0 ∷ 4 ∷ [])
+    ∷ (5 ∷ 0 ∷ 0 ∷ 1 ∷ 3 ∷ 0 ∷ 36 ∷ 0 ∷ 1 ∷ 0 ∷ 0 ∷ 1 ∷ [])
+    ∷ (13 ∷ 0 ∷ 0 ∷ 1 ∷ 0 ∷ 0 ∷ 1 ∷ 0 ∷ 1 ∷ 0 ∷ 0 ∷ 2 ∷ 3 ∷ [])
+    ∷ (2 ∷ []) ∷ [])
+    ((4 ∷ 0 ∷ 0 ∷ 1 ∷ []) ∷ [])
+    ((102 ∷ []) ∷ []) 1
+
+-- section functions
+-- g: function
+-- let a 1
+-- let b 2
+-- return b
+-- end function
+-- export f
+-- f: function
+-- tail-call g
+-- end function
+abbrev p10 : Tables
+p10 =
+    program
+    ((1 ∷ 0 ∷ 0 ∷ 0 ∷ 5 ∷ [])
+    ∷ (5 ∷ 0 ∷ 0 ∷ 1 ∷ 3 ∷ 0 ∷ 1 ∷ 0 ∷ 1 ∷ 0 ∷ 0 ∷ 1 ∷ 1 ∷ [])
+    ∷ (5 ∷ 0 ∷ 0 ∷ 1 ∷ 4 ∷ 0 ∷ 1 ∷ 0 ∷ 1 ∷ 0 ∷ 0 ∷ 1 ∷ 2 ∷ [])
+    ∷ (13 ∷ 0 ∷ 0 ∷ 1 ∷ 0 ∷ 0 ∷ 1 ∷ 0 ∷ 1 ∷ 0 ∷ 0 ∷ 2 ∷ 4 ∷ [])
+    ∷ (2 ∷ [])
+    ∷ (1 ∷ 5 ∷ 5 ∷ 0 ∷ 3 ∷ [])
+    ∷ (12 ∷ 5 ∷ 5 ∷ 6 ∷ [])
+    ∷ (2 ∷ 5 ∷ 5 ∷ []) ∷ [])
+    ((3 ∷ 0 ∷ 0 ∷ 1 ∷ []) ∷ (4 ∷ 5 ∷ 0 ∷ 1 ∷ []) ∷ [])
+    ((103 ∷ []) ∷ (102 ∷ []) ∷ []) 0
+
+-- section functions
+-- export f
+-- f:
+-- function a
+-- ifeq a 1
+-- set a 10
+-- else ifeq a 2
+-- set a 20
+-- else
+-- set a 30
+-- end if
+-- return a
+-- end function
+abbrev p11 : Tables
+p11 =
+    program
+    ((1 ∷ 0 ∷ 0 ∷ 0 ∷ 4 ∷ 1 ∷ [])
+    ∷ (14 ∷ 0 ∷ 0 ∷ 1 ∷ 4 ∷ 0 ∷ 0 ∷ 0 ∷ 2 ∷ 0 ∷ 0 ∷ 2 ∷ 3 ∷ 1 ∷ 1 ∷ [])
+    ∷ (6 ∷ 0 ∷ 0 ∷ 2 ∷ 3 ∷ 0 ∷ 1 ∷ 0 ∷ 1 ∷ 0 ∷ 0 ∷ 1 ∷ 10 ∷ [])
+    ∷ (21 ∷ 0 ∷ 0 ∷ 1 ∷ 8 ∷ [])
+    ∷ (14 ∷ 0 ∷ 0 ∷ 1 ∷ 7 ∷ 0 ∷ 0 ∷ 0 ∷ 2 ∷ 0 ∷ 0 ∷ 2 ∷ 3 ∷ 1 ∷ 2 ∷ [])
+    ∷ (6 ∷ 0 ∷ 0 ∷ 5 ∷ 3 ∷ 0 ∷ 1 ∷ 0 ∷ 1 ∷ 0 ∷ 0 ∷ 1 ∷ 20 ∷ [])
+    ∷ (20 ∷ 0 ∷ 0 ∷ 1 ∷ 8 ∷ [])
+    ∷ (6 ∷ 0 ∷ 0 ∷ 7 ∷ 3 ∷ 0 ∷ 1 ∷ 0 ∷ 1 ∷ 0 ∷ 0 ∷ 1 ∷ 30 ∷ [])
+    ∷ (22 ∷ 0 ∷ 0 ∷ 1 ∷ [])
+    ∷ (13 ∷ 0 ∷ 0 ∷ 1 ∷ 0 ∷ 0 ∷ 1 ∷ 0 ∷ 1 ∷ 0 ∷ 0 ∷ 2 ∷ 3 ∷ [])
+    ∷ (2 ∷ []) ∷ [])
+    ((4 ∷ 0 ∷ 0 ∷ 1 ∷ []) ∷ [])
+    ((102 ∷ []) ∷ []) 0
+
+-- section functions
+-- export f
+-- f:
+-- function
+-- let i 0
+-- l: block
+-- ifge i 1
+-- goto m
+-- end if
+-- let b 7
+-- m: set i add i 1
+-- set i add i b
+-- end block
+-- iflt i 20
+-- goto l
+-- end if
+-- return i
+-- end function
+abbrev p12 : Tables
+p12 =
+    program
+    ((1 ∷ 0 ∷ 0 ∷ 0 ∷ 6 ∷ [])
+    ∷ (5 ∷ 0 ∷ 0 ∷ 1 ∷ 3 ∷ 0 ∷ 1 ∷ 0 ∷ 1 ∷ 0 ∷ 0 ∷ 1 ∷ [])
+    ∷ (3 ∷ 0 ∷ 0 ∷ 1 ∷ 4 ∷ 1 ∷ 0 ∷ 1 ∷ [])
+    ∷ (15 ∷ 0 ∷ 2 ∷ 3 ∷ 5 ∷ 0 ∷ 0 ∷ 0 ∷ 2 ∷ 0 ∷ 0 ∷ 2 ∷ 3 ∷ 1 ∷ 1 ∷ [])
+    ∷ (10 ∷ 0 ∷ 2 ∷ 4 ∷ 7 ∷ [])
+    ∷ (22 ∷ 0 ∷ 2 ∷ 3 ∷ [])
+    ∷ (5 ∷ 0 ∷ 2 ∷ 3 ∷ 5 ∷ 0 ∷ 1 ∷ 0 ∷ 1 ∷ 0 ∷ 0 ∷ 1 ∷ 7 ∷ [])
+    ∷ (6 ∷ 0 ∷ 2 ∷ 3 ∷ 3 ∷ 0 ∷ 33 ∷ 0 ∷ 2 ∷ 0 ∷ 0 ∷ 2 ∷ 3 ∷ 1 ∷ 1 ∷ [])
+    ∷ (6 ∷ 0 ∷ 2 ∷ 3 ∷ 3 ∷ 0 ∷ 33 ∷ 0 ∷ 2 ∷ 0 ∷ 0 ∷ 2 ∷ 3 ∷ 2 ∷ 5 ∷ [])
+    ∷ (4 ∷ 0 ∷ 2 ∷ 1 ∷ 4 ∷ [])
+    ∷ (18 ∷ 0 ∷ 0 ∷ 1 ∷ 12 ∷ 0 ∷ 0 ∷ 0 ∷ 2 ∷ 0 ∷ 0 ∷ 2 ∷ 3 ∷ 1 ∷ 20 ∷ [])
+    ∷ (10 ∷ 0 ∷ 0 ∷ 11 ∷ 2 ∷ [])
+    ∷ (22 ∷ 0 ∷ 0 ∷ 1 ∷ [])
+    ∷ (13 ∷ 0 ∷ 0 ∷ 1 ∷ 0 ∷ 0 ∷ 1 ∷ 0 ∷ 1 ∷ 0 ∷ 0 ∷ 2 ∷ 3 ∷ [])
+    ∷ (2 ∷ []) ∷ [])
+    ((4 ∷ 0 ∷ 0 ∷ 1 ∷ []) ∷ (5 ∷ 2 ∷ 0 ∷ 1 ∷ []) ∷ (5 ∷ 7 ∷ 0 ∷ 1 ∷ []) ∷ [])
+    ((102 ∷ []) ∷ (108 ∷ []) ∷ (109 ∷ []) ∷ []) 0
+
+-- section functions
+-- export f
+-- f:
+-- function
+-- let x mod -2147483648 -1
+-- return x
+-- end function
+abbrev p13 : Tables
+p13 =
+    program
+    ((1 ∷ 0 ∷ 0 ∷ 0 ∷ 4 ∷ [])
+    ∷ (5 ∷ 0 ∷ 0 ∷ 1 ∷ 3 ∷ 0 ∷ 42 ∷ 0 ∷ 2 ∷ 0 ∷ 0 ∷ 1 ∷ 2147483648 ∷ 1 ∷ 4294967295 ∷ [])
+    ∷ (13 ∷ 0 ∷ 0 ∷ 1 ∷ 0 ∷ 0 ∷ 1 ∷ 0 ∷ 1 ∷ 0 ∷ 0 ∷ 2 ∷ 3 ∷ [])
+    ∷ (2 ∷ []) ∷ [])
+    ((4 ∷ 0 ∷ 0 ∷ 1 ∷ []) ∷ [])
+    ((102 ∷ []) ∷ []) 0
+
+-- section functions
+-- export f
+-- f:
+-- function
+-- let x div -2147483648 -1
+-- return x
+-- end function
+abbrev p14 : Tables
+p14 =
+    program
+    ((1 ∷ 0 ∷ 0 ∷ 0 ∷ 4 ∷ [])
+    ∷ (5 ∷ 0 ∷ 0 ∷ 1 ∷ 3 ∷ 0 ∷ 39 ∷ 0 ∷ 2 ∷ 0 ∷ 0 ∷ 1 ∷ 2147483648 ∷ 1 ∷ 4294967295 ∷ [])
+    ∷ (13 ∷ 0 ∷ 0 ∷ 1 ∷ 0 ∷ 0 ∷ 1 ∷ 0 ∷ 1 ∷ 0 ∷ 0 ∷ 2 ∷ 3 ∷ [])
+    ∷ (2 ∷ []) ∷ [])
+    ((4 ∷ 0 ∷ 0 ∷ 1 ∷ []) ∷ [])
+    ((102 ∷ []) ∷ []) 0
+
+-- section functions
+-- export f
+-- f:
+-- function
+-- let x mod 7 -2
+-- return x
+-- end function
+abbrev p15 : Tables
+p15 =
+    program
+    ((1 ∷ 0 ∷ 0 ∷ 0 ∷ 4 ∷ [])
+    ∷ (5 ∷ 0 ∷ 0 ∷ 1 ∷ 3 ∷ 0 ∷ 42 ∷ 0 ∷ 2 ∷ 0 ∷ 0 ∷ 1 ∷ 7 ∷ 1 ∷ 4294967294 ∷ [])
+    ∷ (13 ∷ 0 ∷ 0 ∷ 1 ∷ 0 ∷ 0 ∷ 1 ∷ 0 ∷ 1 ∷ 0 ∷ 0 ∷ 2 ∷ 3 ∷ [])
+    ∷ (2 ∷ []) ∷ [])
+    ((4 ∷ 0 ∷ 0 ∷ 1 ∷ []) ∷ [])
+    ((102 ∷ []) ∷ []) 0
+
+-- section functions
+-- export f
+-- f:
+-- function
+-- let x auto-words 1073741824
+-- return x
+-- end function
+abbrev p16 : Tables
+p16 =
+    program
+    ((1 ∷ 0 ∷ 0 ∷ 0 ∷ 4 ∷ [])
+    ∷ (5 ∷ 0 ∷ 0 ∷ 1 ∷ 3 ∷ 0 ∷ 37 ∷ 0 ∷ 1 ∷ 0 ∷ 0 ∷ 1 ∷ 1073741824 ∷ [])
+    ∷ (13 ∷ 0 ∷ 0 ∷ 1 ∷ 0 ∷ 0 ∷ 1 ∷ 0 ∷ 1 ∷ 0 ∷ 0 ∷ 2 ∷ 3 ∷ [])
+    ∷ (2 ∷ []) ∷ [])
+    ((4 ∷ 0 ∷ 0 ∷ 1 ∷ []) ∷ [])
+    ((102 ∷ []) ∷ []) 0
+
+-- section functions
+-- export f
+-- f:
+-- function
+-- set-byte 0 0 511
+-- let x get-byte 0 0
+-- return x
+-- end function
+abbrev p17 : Tables
+p17 =
+    program
+    ((1 ∷ 0 ∷ 0 ∷ 0 ∷ 4 ∷ [])
+    ∷ (8 ∷ 0 ∷ 0 ∷ 1 ∷ 0 ∷ 0 ∷ 0 ∷ 0 ∷ 3 ∷ 0 ∷ 0 ∷ 1 ∷ 0 ∷ 1 ∷ 0 ∷ 1 ∷ 511 ∷ [])
+    ∷ (5 ∷ 0 ∷ 0 ∷ 1 ∷ 3 ∷ 0 ∷ 40 ∷ 0 ∷ 2 ∷ 0 ∷ 0 ∷ 1 ∷ 0 ∷ 1 ∷ [])
+    ∷ (13 ∷ 0 ∷ 0 ∷ 1 ∷ 0 ∷ 0 ∷ 1 ∷ 0 ∷ 1 ∷ 0 ∷ 0 ∷ 2 ∷ 3 ∷ [])
+    ∷ (2 ∷ []) ∷ [])
+    ((4 ∷ 0 ∷ 0 ∷ 1 ∷ []) ∷ [])
+    ((102 ∷ []) ∷ []) 0
+
+-- section functions
+-- g: function x y
+-- return sub x y
+-- end function
+-- export f
+-- f: function x y
+-- tail-call g y x
+-- end function
+abbrev p18 : Tables
+p18 =
+    program
+    ((1 ∷ 0 ∷ 0 ∷ 0 ∷ 5 ∷ 2 ∷ [])
+    ∷ (13 ∷ 0 ∷ 0 ∷ 1 ∷ 0 ∷ 0 ∷ 50 ∷ 0 ∷ 2 ∷ 0 ∷ 0 ∷ 2 ∷ 3 ∷ 2 ∷ 4 ∷ [])
+    ∷ (2 ∷ [])
+    ∷ (1 ∷ 3 ∷ 3 ∷ 0 ∷ 5 ∷ 2 ∷ [])
+    ∷ (12 ∷ 3 ∷ 3 ∷ 4 ∷ 0 ∷ 0 ∷ 0 ∷ 0 ∷ 2 ∷ 0 ∷ 0 ∷ 2 ∷ 4 ∷ 2 ∷ 3 ∷ [])
+    ∷ (2 ∷ 3 ∷ 3 ∷ []) ∷ [])
+    ((3 ∷ 0 ∷ 0 ∷ 1 ∷ []) ∷ (4 ∷ 3 ∷ 0 ∷ 1 ∷ []) ∷ [])
+    ((103 ∷ []) ∷ (102 ∷ []) ∷ []) 0
+
+-- section functions
+-- g: function x
+-- return add x 1
+-- end function
+-- export f
+-- f: function
+-- let a 4
+-- set a call g a
+-- call g 9
+-- set @4 call g a
+-- return get-word 0 1
+-- end function
+abbrev p19 : Tables
+p19 =
+    program
+    ((1 ∷ 0 ∷ 0 ∷ 0 ∷ 4 ∷ 1 ∷ [])
+    ∷ (13 ∷ 0 ∷ 0 ∷ 1 ∷ 0 ∷ 0 ∷ 33 ∷ 0 ∷ 2 ∷ 0 ∷ 0 ∷ 2 ∷ 3 ∷ 1 ∷ 1 ∷ [])
+    ∷ (2 ∷ [])
+    ∷ (1 ∷ 3 ∷ 3 ∷ 0 ∷ 4 ∷ [])
+    ∷ (5 ∷ 3 ∷ 3 ∷ 4 ∷ 3 ∷ 0 ∷ 1 ∷ 0 ∷ 1 ∷ 0 ∷ 0 ∷ 1 ∷ 4 ∷ [])
+    ∷ (6 ∷ 3 ∷ 3 ∷ 4 ∷ 3 ∷ 0 ∷ 2 ∷ 0 ∷ 1 ∷ 0 ∷ 0 ∷ 2 ∷ 3 ∷ [])
+    ∷ (11 ∷ 3 ∷ 3 ∷ 4 ∷ 0 ∷ 0 ∷ 0 ∷ 0 ∷ 1 ∷ 0 ∷ 0 ∷ 1 ∷ 9 ∷ [])
+    ∷ (7 ∷ 3 ∷ 3 ∷ 4 ∷ 0 ∷ 0 ∷ 2 ∷ 0 ∷ 1 ∷ 1 ∷ 4 ∷ 2 ∷ 3 ∷ [])
+    ∷ (13 ∷ 3 ∷ 3 ∷ 4 ∷ 0 ∷ 0 ∷ 41 ∷ 0 ∷ 2 ∷ 0 ∷ 0 ∷ 1 ∷ 0 ∷ 1 ∷ 1 ∷ [])
+    ∷ (2 ∷ 3 ∷ 3 ∷ []) ∷ [])
+    ((3 ∷ 0 ∷ 0 ∷ 1 ∷ []) ∷ (4 ∷ 3 ∷ 0 ∷ 1 ∷ []) ∷ [])
+    ((103 ∷ []) ∷ (102 ∷ []) ∷ []) 0
+
+-- section functions
+-- g: function x
+-- return add x 1
+-- end function
+-- export f
+-- f: function
+-- set @3 call g 1
+-- return get-word 0 1
+-- end function
+abbrev p20 : Tables
+p20 =
+    program
+    ((1 ∷ 0 ∷ 0 ∷ 0 ∷ 4 ∷ 1 ∷ [])
+    ∷ (13 ∷ 0 ∷ 0 ∷ 1 ∷ 0 ∷ 0 ∷ 33 ∷ 0 ∷ 2 ∷ 0 ∷ 0 ∷ 2 ∷ 3 ∷ 1 ∷ 1 ∷ [])
+    ∷ (2 ∷ [])
+    ∷ (1 ∷ 3 ∷ 3 ∷ 0 ∷ 3 ∷ [])
+    ∷ (7 ∷ 3 ∷ 3 ∷ 4 ∷ 0 ∷ 0 ∷ 2 ∷ 0 ∷ 1 ∷ 1 ∷ 3 ∷ 1 ∷ 1 ∷ [])
+    ∷ (13 ∷ 3 ∷ 3 ∷ 4 ∷ 0 ∷ 0 ∷ 41 ∷ 0 ∷ 2 ∷ 0 ∷ 0 ∷ 1 ∷ 0 ∷ 1 ∷ 1 ∷ [])
+    ∷ (2 ∷ 3 ∷ 3 ∷ []) ∷ [])
+    ((3 ∷ 0 ∷ 0 ∷ 1 ∷ []) ∷ (4 ∷ 3 ∷ 0 ∷ 1 ∷ []) ∷ [])
+    ((103 ∷ []) ∷ (102 ∷ []) ∷ []) 0
+
+-- ---- what they come to: program, data, name, arguments, stack words, memory bytes, budget
+
+run-case2 : ran p1 (12 ∷ 0 ∷ 0 ∷ 0 ∷ []) (116 ∷ 111 ∷ 112 ∷ []) (30 ∷ []) 6 4 3 ≡ came (Finished 42) 3 0
+unfolding m1.ifLt m1.ifEq m1.ifTrue m2.sameList m2.clearedFrom m2.overlay m3.freshOf m4.words m4.firstOf m4.isNamed m4.isNumber m4.entryNamed m4.entryOf m4.numberOf m4.leastOperands m4.mostOperands m5.wordBytes m6.addOf m6.subOf m6.mulOf m6.divOf m6.modOf m6.shlOf m6.bsrOf m6.asrOf m6.rolOf m6.rorOf m6.andOf m6.orOf m6.xorOf m6.notOf m6.ltOf m6.gtOf m6.geOf m6.leOf m6.eqOf m6.neOf m7.expressionListed m7.inFunction m7.sizeAt m7.operandFault m7.addressListed m7.kindFault m7.targetFault m7.calleeFault m7.sizeFault m7.ownWord m7.hasWord m7.wordFault m7.operandsFault m7.addressFault m7.rowFault m7.labelFault m7.countFault m7.tablesFault m8.labelAt m8.isData m8.isFunctionLabel m9.behind m9.openBefore m9.groundIn m9.funcIn m9.scopeIn m9.upIn m9.isListed m9.mayStand m9.followsJump m9.stands m9.allClosed m9.isArm m9.isEndIf m9.nextArm m9.endIfOf m9.pastArm m9.targetOf m9.hasTarget m9.depthOf m9.encloses m10.operandOf m10.operandKind m10.operandNumber m10.hasExpression m10.isTest m10.isOperator m10.isCall m10.expressionUses m10.usedBy m10.operandAt m10.slots m10.rowFrom m10.rowAt m10.slotWords m10.encode m11.all m11.some m11.allOf m11.someOf m11.allBelow m11.someBelow m11.countBelow m11.greatestBelow m11.firstFrom m12.byteAddress m12.wordAddress m12.byteGood m12.wordGood m12.wordFrom m12.loadOf m12.storeFrom m13.lower m13.lowest m13.orElse m13.nextBad m13.frameEnds m13.rowsUsed m13.recordGood m13.stepBroken m13.numbersBelow m13.startBroken m14.roundUp m14.reserved m14.answered m14.fetched m14.byteOf m14.applied m14.evalOf m14.holds m15.mark m15.frameWords m15.isFirst m15.isReturnCall m15.isReturn m15.isCalling m15.calledFrom m15.headGood m15.passesOn m15.leavesGood m15.rowsLeft m15.landingOf m16.isAt m16.numberIn m16.fetchOf m16.readOf m16.withWord m16.onRead m16.readAll m17.exportsAs m17.exportOf m17.startAnswer m17.startWorld m17.startBy m17.begunBy m17.startOf m17.startLeaves m18.stopOf m18.goingOn m18.movedTo m18.ended m18.stopped m18.goesTo m18.keeps m18.stores m18.blockOf m18.endBlockOf m18.testOf m18.workedOf m18.assigned m18.assignedAt m18.setAtOf m18.setByteBy m18.setWordBy m18.argumentsOf m18.callBy m18.callOf m18.tailCallBy m18.handedTo m18.handedBy m18.returned m18.returnOf m18.effectOf m18.idle m18.effected m18.gated m18.inState m18.stepOf m18.counting m18.runOf
+run-case2 = refl
+
+run-case2-23 : ran p1 (12 ∷ 0 ∷ 0 ∷ 0 ∷ []) (116 ∷ 111 ∷ 112 ∷ []) (30 ∷ []) 5 4 3 ≡ refusedStart 23
+unfolding m1.ifLt m1.ifEq m1.ifTrue m2.sameList m2.clearedFrom m2.overlay m3.freshOf m4.words m4.firstOf m4.isNamed m4.isNumber m4.entryNamed m4.entryOf m4.numberOf m4.leastOperands m4.mostOperands m5.wordBytes m6.addOf m6.subOf m6.mulOf m6.divOf m6.modOf m6.shlOf m6.bsrOf m6.asrOf m6.rolOf m6.rorOf m6.andOf m6.orOf m6.xorOf m6.notOf m6.ltOf m6.gtOf m6.geOf m6.leOf m6.eqOf m6.neOf m7.expressionListed m7.inFunction m7.sizeAt m7.operandFault m7.addressListed m7.kindFault m7.targetFault m7.calleeFault m7.sizeFault m7.ownWord m7.hasWord m7.wordFault m7.operandsFault m7.addressFault m7.rowFault m7.labelFault m7.countFault m7.tablesFault m8.labelAt m8.isData m8.isFunctionLabel m9.behind m9.openBefore m9.groundIn m9.funcIn m9.scopeIn m9.upIn m9.isListed m9.mayStand m9.followsJump m9.stands m9.allClosed m9.isArm m9.isEndIf m9.nextArm m9.endIfOf m9.pastArm m9.targetOf m9.hasTarget m9.depthOf m9.encloses m10.operandOf m10.operandKind m10.operandNumber m10.hasExpression m10.isTest m10.isOperator m10.isCall m10.expressionUses m10.usedBy m10.operandAt m10.slots m10.rowFrom m10.rowAt m10.slotWords m10.encode m11.all m11.some m11.allOf m11.someOf m11.allBelow m11.someBelow m11.countBelow m11.greatestBelow m11.firstFrom m12.byteAddress m12.wordAddress m12.byteGood m12.wordGood m12.wordFrom m12.loadOf m12.storeFrom m13.lower m13.lowest m13.orElse m13.nextBad m13.frameEnds m13.rowsUsed m13.recordGood m13.stepBroken m13.numbersBelow m13.startBroken m14.roundUp m14.reserved m14.answered m14.fetched m14.byteOf m14.applied m14.evalOf m14.holds m15.mark m15.frameWords m15.isFirst m15.isReturnCall m15.isReturn m15.isCalling m15.calledFrom m15.headGood m15.passesOn m15.leavesGood m15.rowsLeft m15.landingOf m16.isAt m16.numberIn m16.fetchOf m16.readOf m16.withWord m16.onRead m16.readAll m17.exportsAs m17.exportOf m17.startAnswer m17.startWorld m17.startBy m17.begunBy m17.startOf m17.startLeaves m18.stopOf m18.goingOn m18.movedTo m18.ended m18.stopped m18.goesTo m18.keeps m18.stores m18.blockOf m18.endBlockOf m18.testOf m18.workedOf m18.assigned m18.assignedAt m18.setAtOf m18.setByteBy m18.setWordBy m18.argumentsOf m18.callBy m18.callOf m18.tailCallBy m18.handedTo m18.handedBy m18.returned m18.returnOf m18.effectOf m18.idle m18.effected m18.gated m18.inState m18.stepOf m18.counting m18.runOf
+run-case2-23 = refl
+
+run-case2-budget2 : ran p1 (12 ∷ 0 ∷ 0 ∷ 0 ∷ []) (116 ∷ 111 ∷ 112 ∷ []) (30 ∷ []) 6 4 2 ≡ came Running 2 6
+unfolding m1.ifLt m1.ifEq m1.ifTrue m2.sameList m2.clearedFrom m2.overlay m3.freshOf m4.words m4.firstOf m4.isNamed m4.isNumber m4.entryNamed m4.entryOf m4.numberOf m4.leastOperands m4.mostOperands m5.wordBytes m6.addOf m6.subOf m6.mulOf m6.divOf m6.modOf m6.shlOf m6.bsrOf m6.asrOf m6.rolOf m6.rorOf m6.andOf m6.orOf m6.xorOf m6.notOf m6.ltOf m6.gtOf m6.geOf m6.leOf m6.eqOf m6.neOf m7.expressionListed m7.inFunction m7.sizeAt m7.operandFault m7.addressListed m7.kindFault m7.targetFault m7.calleeFault m7.sizeFault m7.ownWord m7.hasWord m7.wordFault m7.operandsFault m7.addressFault m7.rowFault m7.labelFault m7.countFault m7.tablesFault m8.labelAt m8.isData m8.isFunctionLabel m9.behind m9.openBefore m9.groundIn m9.funcIn m9.scopeIn m9.upIn m9.isListed m9.mayStand m9.followsJump m9.stands m9.allClosed m9.isArm m9.isEndIf m9.nextArm m9.endIfOf m9.pastArm m9.targetOf m9.hasTarget m9.depthOf m9.encloses m10.operandOf m10.operandKind m10.operandNumber m10.hasExpression m10.isTest m10.isOperator m10.isCall m10.expressionUses m10.usedBy m10.operandAt m10.slots m10.rowFrom m10.rowAt m10.slotWords m10.encode m11.all m11.some m11.allOf m11.someOf m11.allBelow m11.someBelow m11.countBelow m11.greatestBelow m11.firstFrom m12.byteAddress m12.wordAddress m12.byteGood m12.wordGood m12.wordFrom m12.loadOf m12.storeFrom m13.lower m13.lowest m13.orElse m13.nextBad m13.frameEnds m13.rowsUsed m13.recordGood m13.stepBroken m13.numbersBelow m13.startBroken m14.roundUp m14.reserved m14.answered m14.fetched m14.byteOf m14.applied m14.evalOf m14.holds m15.mark m15.frameWords m15.isFirst m15.isReturnCall m15.isReturn m15.isCalling m15.calledFrom m15.headGood m15.passesOn m15.leavesGood m15.rowsLeft m15.landingOf m16.isAt m16.numberIn m16.fetchOf m16.readOf m16.withWord m16.onRead m16.readAll m17.exportsAs m17.exportOf m17.startAnswer m17.startWorld m17.startBy m17.begunBy m17.startOf m17.startLeaves m18.stopOf m18.goingOn m18.movedTo m18.ended m18.stopped m18.goesTo m18.keeps m18.stores m18.blockOf m18.endBlockOf m18.testOf m18.workedOf m18.assigned m18.assignedAt m18.setAtOf m18.setByteBy m18.setWordBy m18.argumentsOf m18.callBy m18.callOf m18.tailCallBy m18.handedTo m18.handedBy m18.returned m18.returnOf m18.effectOf m18.idle m18.effected m18.gated m18.inState m18.stepOf m18.counting m18.runOf
+run-case2-budget2 = refl
+
+run-v1a : ran p2 ([]) (102 ∷ []) ([]) 3 4 9 ≡ came (Stopped 32 1) 0 3
+unfolding m1.ifLt m1.ifEq m1.ifTrue m2.sameList m2.clearedFrom m2.overlay m3.freshOf m4.words m4.firstOf m4.isNamed m4.isNumber m4.entryNamed m4.entryOf m4.numberOf m4.leastOperands m4.mostOperands m5.wordBytes m6.addOf m6.subOf m6.mulOf m6.divOf m6.modOf m6.shlOf m6.bsrOf m6.asrOf m6.rolOf m6.rorOf m6.andOf m6.orOf m6.xorOf m6.notOf m6.ltOf m6.gtOf m6.geOf m6.leOf m6.eqOf m6.neOf m7.expressionListed m7.inFunction m7.sizeAt m7.operandFault m7.addressListed m7.kindFault m7.targetFault m7.calleeFault m7.sizeFault m7.ownWord m7.hasWord m7.wordFault m7.operandsFault m7.addressFault m7.rowFault m7.labelFault m7.countFault m7.tablesFault m8.labelAt m8.isData m8.isFunctionLabel m9.behind m9.openBefore m9.groundIn m9.funcIn m9.scopeIn m9.upIn m9.isListed m9.mayStand m9.followsJump m9.stands m9.allClosed m9.isArm m9.isEndIf m9.nextArm m9.endIfOf m9.pastArm m9.targetOf m9.hasTarget m9.depthOf m9.encloses m10.operandOf m10.operandKind m10.operandNumber m10.hasExpression m10.isTest m10.isOperator m10.isCall m10.expressionUses m10.usedBy m10.operandAt m10.slots m10.rowFrom m10.rowAt m10.slotWords m10.encode m11.all m11.some m11.allOf m11.someOf m11.allBelow m11.someBelow m11.countBelow m11.greatestBelow m11.firstFrom m12.byteAddress m12.wordAddress m12.byteGood m12.wordGood m12.wordFrom m12.loadOf m12.storeFrom m13.lower m13.lowest m13.orElse m13.nextBad m13.frameEnds m13.rowsUsed m13.recordGood m13.stepBroken m13.numbersBelow m13.startBroken m14.roundUp m14.reserved m14.answered m14.fetched m14.byteOf m14.applied m14.evalOf m14.holds m15.mark m15.frameWords m15.isFirst m15.isReturnCall m15.isReturn m15.isCalling m15.calledFrom m15.headGood m15.passesOn m15.leavesGood m15.rowsLeft m15.landingOf m16.isAt m16.numberIn m16.fetchOf m16.readOf m16.withWord m16.onRead m16.readAll m17.exportsAs m17.exportOf m17.startAnswer m17.startWorld m17.startBy m17.begunBy m17.startOf m17.startLeaves m18.stopOf m18.goingOn m18.movedTo m18.ended m18.stopped m18.goesTo m18.keeps m18.stores m18.blockOf m18.endBlockOf m18.testOf m18.workedOf m18.assigned m18.assignedAt m18.setAtOf m18.setByteBy m18.setWordBy m18.argumentsOf m18.callBy m18.callOf m18.tailCallBy m18.handedTo m18.handedBy m18.returned m18.returnOf m18.effectOf m18.idle m18.effected m18.gated m18.inState m18.stepOf m18.counting m18.runOf
+run-v1a = refl
+
+run-v1b : ran p3 ([]) (102 ∷ []) ([]) 4 8 9 ≡ came (Stopped 32 1) 0 4
+unfolding m1.ifLt m1.ifEq m1.ifTrue m2.sameList m2.clearedFrom m2.overlay m3.freshOf m4.words m4.firstOf m4.isNamed m4.isNumber m4.entryNamed m4.entryOf m4.numberOf m4.leastOperands m4.mostOperands m5.wordBytes m6.addOf m6.subOf m6.mulOf m6.divOf m6.modOf m6.shlOf m6.bsrOf m6.asrOf m6.rolOf m6.rorOf m6.andOf m6.orOf m6.xorOf m6.notOf m6.ltOf m6.gtOf m6.geOf m6.leOf m6.eqOf m6.neOf m7.expressionListed m7.inFunction m7.sizeAt m7.operandFault m7.addressListed m7.kindFault m7.targetFault m7.calleeFault m7.sizeFault m7.ownWord m7.hasWord m7.wordFault m7.operandsFault m7.addressFault m7.rowFault m7.labelFault m7.countFault m7.tablesFault m8.labelAt m8.isData m8.isFunctionLabel m9.behind m9.openBefore m9.groundIn m9.funcIn m9.scopeIn m9.upIn m9.isListed m9.mayStand m9.followsJump m9.stands m9.allClosed m9.isArm m9.isEndIf m9.nextArm m9.endIfOf m9.pastArm m9.targetOf m9.hasTarget m9.depthOf m9.encloses m10.operandOf m10.operandKind m10.operandNumber m10.hasExpression m10.isTest m10.isOperator m10.isCall m10.expressionUses m10.usedBy m10.operandAt m10.slots m10.rowFrom m10.rowAt m10.slotWords m10.encode m11.all m11.some m11.allOf m11.someOf m11.allBelow m11.someBelow m11.countBelow m11.greatestBelow m11.firstFrom m12.byteAddress m12.wordAddress m12.byteGood m12.wordGood m12.wordFrom m12.loadOf m12.storeFrom m13.lower m13.lowest m13.orElse m13.nextBad m13.frameEnds m13.rowsUsed m13.recordGood m13.stepBroken m13.numbersBelow m13.startBroken m14.roundUp m14.reserved m14.answered m14.fetched m14.byteOf m14.applied m14.evalOf m14.holds m15.mark m15.frameWords m15.isFirst m15.isReturnCall m15.isReturn m15.isCalling m15.calledFrom m15.headGood m15.passesOn m15.leavesGood m15.rowsLeft m15.landingOf m16.isAt m16.numberIn m16.fetchOf m16.readOf m16.withWord m16.onRead m16.readAll m17.exportsAs m17.exportOf m17.startAnswer m17.startWorld m17.startBy m17.begunBy m17.startOf m17.startLeaves m18.stopOf m18.goingOn m18.movedTo m18.ended m18.stopped m18.goesTo m18.keeps m18.stores m18.blockOf m18.endBlockOf m18.testOf m18.workedOf m18.assigned m18.assignedAt m18.setAtOf m18.setByteBy m18.setWordBy m18.argumentsOf m18.callBy m18.callOf m18.tailCallBy m18.handedTo m18.handedBy m18.returned m18.returnOf m18.effectOf m18.idle m18.effected m18.gated m18.inState m18.stepOf m18.counting m18.runOf
+run-v1b = refl
+
+run-v1c : ran p4 ([]) (102 ∷ []) ([]) 4 8 9 ≡ came (Stopped 30 1) 0 4
+unfolding m1.ifLt m1.ifEq m1.ifTrue m2.sameList m2.clearedFrom m2.overlay m3.freshOf m4.words m4.firstOf m4.isNamed m4.isNumber m4.entryNamed m4.entryOf m4.numberOf m4.leastOperands m4.mostOperands m5.wordBytes m6.addOf m6.subOf m6.mulOf m6.divOf m6.modOf m6.shlOf m6.bsrOf m6.asrOf m6.rolOf m6.rorOf m6.andOf m6.orOf m6.xorOf m6.notOf m6.ltOf m6.gtOf m6.geOf m6.leOf m6.eqOf m6.neOf m7.expressionListed m7.inFunction m7.sizeAt m7.operandFault m7.addressListed m7.kindFault m7.targetFault m7.calleeFault m7.sizeFault m7.ownWord m7.hasWord m7.wordFault m7.operandsFault m7.addressFault m7.rowFault m7.labelFault m7.countFault m7.tablesFault m8.labelAt m8.isData m8.isFunctionLabel m9.behind m9.openBefore m9.groundIn m9.funcIn m9.scopeIn m9.upIn m9.isListed m9.mayStand m9.followsJump m9.stands m9.allClosed m9.isArm m9.isEndIf m9.nextArm m9.endIfOf m9.pastArm m9.targetOf m9.hasTarget m9.depthOf m9.encloses m10.operandOf m10.operandKind m10.operandNumber m10.hasExpression m10.isTest m10.isOperator m10.isCall m10.expressionUses m10.usedBy m10.operandAt m10.slots m10.rowFrom m10.rowAt m10.slotWords m10.encode m11.all m11.some m11.allOf m11.someOf m11.allBelow m11.someBelow m11.countBelow m11.greatestBelow m11.firstFrom m12.byteAddress m12.wordAddress m12.byteGood m12.wordGood m12.wordFrom m12.loadOf m12.storeFrom m13.lower m13.lowest m13.orElse m13.nextBad m13.frameEnds m13.rowsUsed m13.recordGood m13.stepBroken m13.numbersBelow m13.startBroken m14.roundUp m14.reserved m14.answered m14.fetched m14.byteOf m14.applied m14.evalOf m14.holds m15.mark m15.frameWords m15.isFirst m15.isReturnCall m15.isReturn m15.isCalling m15.calledFrom m15.headGood m15.passesOn m15.leavesGood m15.rowsLeft m15.landingOf m16.isAt m16.numberIn m16.fetchOf m16.readOf m16.withWord m16.onRead m16.readAll m17.exportsAs m17.exportOf m17.startAnswer m17.startWorld m17.startBy m17.begunBy m17.startOf m17.startLeaves m18.stopOf m18.goingOn m18.movedTo m18.ended m18.stopped m18.goesTo m18.keeps m18.stores m18.blockOf m18.endBlockOf m18.testOf m18.workedOf m18.assigned m18.assignedAt m18.setAtOf m18.setByteBy m18.setWordBy m18.argumentsOf m18.callBy m18.callOf m18.tailCallBy m18.handedTo m18.handedBy m18.returned m18.returnOf m18.effectOf m18.idle m18.effected m18.gated m18.inState m18.stepOf m18.counting m18.runOf
+run-v1c = refl
+
+run-v1d : ran p5 ([]) (102 ∷ []) ([]) 4 8 9 ≡ came (Stopped 31 1) 0 4
+unfolding m1.ifLt m1.ifEq m1.ifTrue m2.sameList m2.clearedFrom m2.overlay m3.freshOf m4.words m4.firstOf m4.isNamed m4.isNumber m4.entryNamed m4.entryOf m4.numberOf m4.leastOperands m4.mostOperands m5.wordBytes m6.addOf m6.subOf m6.mulOf m6.divOf m6.modOf m6.shlOf m6.bsrOf m6.asrOf m6.rolOf m6.rorOf m6.andOf m6.orOf m6.xorOf m6.notOf m6.ltOf m6.gtOf m6.geOf m6.leOf m6.eqOf m6.neOf m7.expressionListed m7.inFunction m7.sizeAt m7.operandFault m7.addressListed m7.kindFault m7.targetFault m7.calleeFault m7.sizeFault m7.ownWord m7.hasWord m7.wordFault m7.operandsFault m7.addressFault m7.rowFault m7.labelFault m7.countFault m7.tablesFault m8.labelAt m8.isData m8.isFunctionLabel m9.behind m9.openBefore m9.groundIn m9.funcIn m9.scopeIn m9.upIn m9.isListed m9.mayStand m9.followsJump m9.stands m9.allClosed m9.isArm m9.isEndIf m9.nextArm m9.endIfOf m9.pastArm m9.targetOf m9.hasTarget m9.depthOf m9.encloses m10.operandOf m10.operandKind m10.operandNumber m10.hasExpression m10.isTest m10.isOperator m10.isCall m10.expressionUses m10.usedBy m10.operandAt m10.slots m10.rowFrom m10.rowAt m10.slotWords m10.encode m11.all m11.some m11.allOf m11.someOf m11.allBelow m11.someBelow m11.countBelow m11.greatestBelow m11.firstFrom m12.byteAddress m12.wordAddress m12.byteGood m12.wordGood m12.wordFrom m12.loadOf m12.storeFrom m13.lower m13.lowest m13.orElse m13.nextBad m13.frameEnds m13.rowsUsed m13.recordGood m13.stepBroken m13.numbersBelow m13.startBroken m14.roundUp m14.reserved m14.answered m14.fetched m14.byteOf m14.applied m14.evalOf m14.holds m15.mark m15.frameWords m15.isFirst m15.isReturnCall m15.isReturn m15.isCalling m15.calledFrom m15.headGood m15.passesOn m15.leavesGood m15.rowsLeft m15.landingOf m16.isAt m16.numberIn m16.fetchOf m16.readOf m16.withWord m16.onRead m16.readAll m17.exportsAs m17.exportOf m17.startAnswer m17.startWorld m17.startBy m17.begunBy m17.startOf m17.startLeaves m18.stopOf m18.goingOn m18.movedTo m18.ended m18.stopped m18.goesTo m18.keeps m18.stores m18.blockOf m18.endBlockOf m18.testOf m18.workedOf m18.assigned m18.assignedAt m18.setAtOf m18.setByteBy m18.setWordBy m18.argumentsOf m18.callBy m18.callOf m18.tailCallBy m18.handedTo m18.handedBy m18.returned m18.returnOf m18.effectOf m18.idle m18.effected m18.gated m18.inState m18.stepOf m18.counting m18.runOf
+run-v1d = refl
+
+run-v1e : ran p6 ([]) (102 ∷ []) ([]) 4 8 9 ≡ came (Stopped 32 1) 0 4
+unfolding m1.ifLt m1.ifEq m1.ifTrue m2.sameList m2.clearedFrom m2.overlay m3.freshOf m4.words m4.firstOf m4.isNamed m4.isNumber m4.entryNamed m4.entryOf m4.numberOf m4.leastOperands m4.mostOperands m5.wordBytes m6.addOf m6.subOf m6.mulOf m6.divOf m6.modOf m6.shlOf m6.bsrOf m6.asrOf m6.rolOf m6.rorOf m6.andOf m6.orOf m6.xorOf m6.notOf m6.ltOf m6.gtOf m6.geOf m6.leOf m6.eqOf m6.neOf m7.expressionListed m7.inFunction m7.sizeAt m7.operandFault m7.addressListed m7.kindFault m7.targetFault m7.calleeFault m7.sizeFault m7.ownWord m7.hasWord m7.wordFault m7.operandsFault m7.addressFault m7.rowFault m7.labelFault m7.countFault m7.tablesFault m8.labelAt m8.isData m8.isFunctionLabel m9.behind m9.openBefore m9.groundIn m9.funcIn m9.scopeIn m9.upIn m9.isListed m9.mayStand m9.followsJump m9.stands m9.allClosed m9.isArm m9.isEndIf m9.nextArm m9.endIfOf m9.pastArm m9.targetOf m9.hasTarget m9.depthOf m9.encloses m10.operandOf m10.operandKind m10.operandNumber m10.hasExpression m10.isTest m10.isOperator m10.isCall m10.expressionUses m10.usedBy m10.operandAt m10.slots m10.rowFrom m10.rowAt m10.slotWords m10.encode m11.all m11.some m11.allOf m11.someOf m11.allBelow m11.someBelow m11.countBelow m11.greatestBelow m11.firstFrom m12.byteAddress m12.wordAddress m12.byteGood m12.wordGood m12.wordFrom m12.loadOf m12.storeFrom m13.lower m13.lowest m13.orElse m13.nextBad m13.frameEnds m13.rowsUsed m13.recordGood m13.stepBroken m13.numbersBelow m13.startBroken m14.roundUp m14.reserved m14.answered m14.fetched m14.byteOf m14.applied m14.evalOf m14.holds m15.mark m15.frameWords m15.isFirst m15.isReturnCall m15.isReturn m15.isCalling m15.calledFrom m15.headGood m15.passesOn m15.leavesGood m15.rowsLeft m15.landingOf m16.isAt m16.numberIn m16.fetchOf m16.readOf m16.withWord m16.onRead m16.readAll m17.exportsAs m17.exportOf m17.startAnswer m17.startWorld m17.startBy m17.begunBy m17.startOf m17.startLeaves m18.stopOf m18.goingOn m18.movedTo m18.ended m18.stopped m18.goesTo m18.keeps m18.stores m18.blockOf m18.endBlockOf m18.testOf m18.workedOf m18.assigned m18.assignedAt m18.setAtOf m18.setByteBy m18.setWordBy m18.argumentsOf m18.callBy m18.callOf m18.tailCallBy m18.handedTo m18.handedBy m18.returned m18.returnOf m18.effectOf m18.idle m18.effected m18.gated m18.inState m18.stepOf m18.counting m18.runOf
+run-v1e = refl
+
+run-v2 : ran p7 ([]) (102 ∷ []) ([]) 9 0 9 ≡ came (Finished 5) 3 0
+unfolding m1.ifLt m1.ifEq m1.ifTrue m2.sameList m2.clearedFrom m2.overlay m3.freshOf m4.words m4.firstOf m4.isNamed m4.isNumber m4.entryNamed m4.entryOf m4.numberOf m4.leastOperands m4.mostOperands m5.wordBytes m6.addOf m6.subOf m6.mulOf m6.divOf m6.modOf m6.shlOf m6.bsrOf m6.asrOf m6.rolOf m6.rorOf m6.andOf m6.orOf m6.xorOf m6.notOf m6.ltOf m6.gtOf m6.geOf m6.leOf m6.eqOf m6.neOf m7.expressionListed m7.inFunction m7.sizeAt m7.operandFault m7.addressListed m7.kindFault m7.targetFault m7.calleeFault m7.sizeFault m7.ownWord m7.hasWord m7.wordFault m7.operandsFault m7.addressFault m7.rowFault m7.labelFault m7.countFault m7.tablesFault m8.labelAt m8.isData m8.isFunctionLabel m9.behind m9.openBefore m9.groundIn m9.funcIn m9.scopeIn m9.upIn m9.isListed m9.mayStand m9.followsJump m9.stands m9.allClosed m9.isArm m9.isEndIf m9.nextArm m9.endIfOf m9.pastArm m9.targetOf m9.hasTarget m9.depthOf m9.encloses m10.operandOf m10.operandKind m10.operandNumber m10.hasExpression m10.isTest m10.isOperator m10.isCall m10.expressionUses m10.usedBy m10.operandAt m10.slots m10.rowFrom m10.rowAt m10.slotWords m10.encode m11.all m11.some m11.allOf m11.someOf m11.allBelow m11.someBelow m11.countBelow m11.greatestBelow m11.firstFrom m12.byteAddress m12.wordAddress m12.byteGood m12.wordGood m12.wordFrom m12.loadOf m12.storeFrom m13.lower m13.lowest m13.orElse m13.nextBad m13.frameEnds m13.rowsUsed m13.recordGood m13.stepBroken m13.numbersBelow m13.startBroken m14.roundUp m14.reserved m14.answered m14.fetched m14.byteOf m14.applied m14.evalOf m14.holds m15.mark m15.frameWords m15.isFirst m15.isReturnCall m15.isReturn m15.isCalling m15.calledFrom m15.headGood m15.passesOn m15.leavesGood m15.rowsLeft m15.landingOf m16.isAt m16.numberIn m16.fetchOf m16.readOf m16.withWord m16.onRead m16.readAll m17.exportsAs m17.exportOf m17.startAnswer m17.startWorld m17.startBy m17.begunBy m17.startOf m17.startLeaves m18.stopOf m18.goingOn m18.movedTo m18.ended m18.stopped m18.goesTo m18.keeps m18.stores m18.blockOf m18.endBlockOf m18.testOf m18.workedOf m18.assigned m18.assignedAt m18.setAtOf m18.setByteBy m18.setWordBy m18.argumentsOf m18.callBy m18.callOf m18.tailCallBy m18.handedTo m18.handedBy m18.returned m18.returnOf m18.effectOf m18.idle m18.effected m18.gated m18.inState m18.stepOf m18.counting m18.runOf
+run-v2 = refl
+
+run-v2-33 : ran p7 ([]) (102 ∷ []) ([]) 8 0 9 ≡ came (Stopped 33 4) 1 6
+unfolding m1.ifLt m1.ifEq m1.ifTrue m2.sameList m2.clearedFrom m2.overlay m3.freshOf m4.words m4.firstOf m4.isNamed m4.isNumber m4.entryNamed m4.entryOf m4.numberOf m4.leastOperands m4.mostOperands m5.wordBytes m6.addOf m6.subOf m6.mulOf m6.divOf m6.modOf m6.shlOf m6.bsrOf m6.asrOf m6.rolOf m6.rorOf m6.andOf m6.orOf m6.xorOf m6.notOf m6.ltOf m6.gtOf m6.geOf m6.leOf m6.eqOf m6.neOf m7.expressionListed m7.inFunction m7.sizeAt m7.operandFault m7.addressListed m7.kindFault m7.targetFault m7.calleeFault m7.sizeFault m7.ownWord m7.hasWord m7.wordFault m7.operandsFault m7.addressFault m7.rowFault m7.labelFault m7.countFault m7.tablesFault m8.labelAt m8.isData m8.isFunctionLabel m9.behind m9.openBefore m9.groundIn m9.funcIn m9.scopeIn m9.upIn m9.isListed m9.mayStand m9.followsJump m9.stands m9.allClosed m9.isArm m9.isEndIf m9.nextArm m9.endIfOf m9.pastArm m9.targetOf m9.hasTarget m9.depthOf m9.encloses m10.operandOf m10.operandKind m10.operandNumber m10.hasExpression m10.isTest m10.isOperator m10.isCall m10.expressionUses m10.usedBy m10.operandAt m10.slots m10.rowFrom m10.rowAt m10.slotWords m10.encode m11.all m11.some m11.allOf m11.someOf m11.allBelow m11.someBelow m11.countBelow m11.greatestBelow m11.firstFrom m12.byteAddress m12.wordAddress m12.byteGood m12.wordGood m12.wordFrom m12.loadOf m12.storeFrom m13.lower m13.lowest m13.orElse m13.nextBad m13.frameEnds m13.rowsUsed m13.recordGood m13.stepBroken m13.numbersBelow m13.startBroken m14.roundUp m14.reserved m14.answered m14.fetched m14.byteOf m14.applied m14.evalOf m14.holds m15.mark m15.frameWords m15.isFirst m15.isReturnCall m15.isReturn m15.isCalling m15.calledFrom m15.headGood m15.passesOn m15.leavesGood m15.rowsLeft m15.landingOf m16.isAt m16.numberIn m16.fetchOf m16.readOf m16.withWord m16.onRead m16.readAll m17.exportsAs m17.exportOf m17.startAnswer m17.startWorld m17.startBy m17.begunBy m17.startOf m17.startLeaves m18.stopOf m18.goingOn m18.movedTo m18.ended m18.stopped m18.goesTo m18.keeps m18.stores m18.blockOf m18.endBlockOf m18.testOf m18.workedOf m18.assigned m18.assignedAt m18.setAtOf m18.setByteBy m18.setWordBy m18.argumentsOf m18.callBy m18.callOf m18.tailCallBy m18.handedTo m18.handedBy m18.returned m18.returnOf m18.effectOf m18.idle m18.effected m18.gated m18.inState m18.stepOf m18.counting m18.runOf
+run-v2-33 = refl
+
+run-v3 : ran p8 (1 ∷ []) (102 ∷ []) ([]) 5 12 9 ≡ came (Finished 8) 3 0
+unfolding m1.ifLt m1.ifEq m1.ifTrue m2.sameList m2.clearedFrom m2.overlay m3.freshOf m4.words m4.firstOf m4.isNamed m4.isNumber m4.entryNamed m4.entryOf m4.numberOf m4.leastOperands m4.mostOperands m5.wordBytes m6.addOf m6.subOf m6.mulOf m6.divOf m6.modOf m6.shlOf m6.bsrOf m6.asrOf m6.rolOf m6.rorOf m6.andOf m6.orOf m6.xorOf m6.notOf m6.ltOf m6.gtOf m6.geOf m6.leOf m6.eqOf m6.neOf m7.expressionListed m7.inFunction m7.sizeAt m7.operandFault m7.addressListed m7.kindFault m7.targetFault m7.calleeFault m7.sizeFault m7.ownWord m7.hasWord m7.wordFault m7.operandsFault m7.addressFault m7.rowFault m7.labelFault m7.countFault m7.tablesFault m8.labelAt m8.isData m8.isFunctionLabel m9.behind m9.openBefore m9.groundIn m9.funcIn m9.scopeIn m9.upIn m9.isListed m9.mayStand m9.followsJump m9.stands m9.allClosed m9.isArm m9.isEndIf m9.nextArm m9.endIfOf m9.pastArm m9.targetOf m9.hasTarget m9.depthOf m9.encloses m10.operandOf m10.operandKind m10.operandNumber m10.hasExpression m10.isTest m10.isOperator m10.isCall m10.expressionUses m10.usedBy m10.operandAt m10.slots m10.rowFrom m10.rowAt m10.slotWords m10.encode m11.all m11.some m11.allOf m11.someOf m11.allBelow m11.someBelow m11.countBelow m11.greatestBelow m11.firstFrom m12.byteAddress m12.wordAddress m12.byteGood m12.wordGood m12.wordFrom m12.loadOf m12.storeFrom m13.lower m13.lowest m13.orElse m13.nextBad m13.frameEnds m13.rowsUsed m13.recordGood m13.stepBroken m13.numbersBelow m13.startBroken m14.roundUp m14.reserved m14.answered m14.fetched m14.byteOf m14.applied m14.evalOf m14.holds m15.mark m15.frameWords m15.isFirst m15.isReturnCall m15.isReturn m15.isCalling m15.calledFrom m15.headGood m15.passesOn m15.leavesGood m15.rowsLeft m15.landingOf m16.isAt m16.numberIn m16.fetchOf m16.readOf m16.withWord m16.onRead m16.readAll m17.exportsAs m17.exportOf m17.startAnswer m17.startWorld m17.startBy m17.begunBy m17.startOf m17.startLeaves m18.stopOf m18.goingOn m18.movedTo m18.ended m18.stopped m18.goesTo m18.keeps m18.stores m18.blockOf m18.endBlockOf m18.testOf m18.workedOf m18.assigned m18.assignedAt m18.setAtOf m18.setByteBy m18.setWordBy m18.argumentsOf m18.callBy m18.callOf m18.tailCallBy m18.handedTo m18.handedBy m18.returned m18.returnOf m18.effectOf m18.idle m18.effected m18.gated m18.inState m18.stepOf m18.counting m18.runOf
+run-v3 = refl
+
+run-v3-34 : ran p8 (1 ∷ []) (102 ∷ []) ([]) 5 11 9 ≡ came (Stopped 34 2) 1 5
+unfolding m1.ifLt m1.ifEq m1.ifTrue m2.sameList m2.clearedFrom m2.overlay m3.freshOf m4.words m4.firstOf m4.isNamed m4.isNumber m4.entryNamed m4.entryOf m4.numberOf m4.leastOperands m4.mostOperands m5.wordBytes m6.addOf m6.subOf m6.mulOf m6.divOf m6.modOf m6.shlOf m6.bsrOf m6.asrOf m6.rolOf m6.rorOf m6.andOf m6.orOf m6.xorOf m6.notOf m6.ltOf m6.gtOf m6.geOf m6.leOf m6.eqOf m6.neOf m7.expressionListed m7.inFunction m7.sizeAt m7.operandFault m7.addressListed m7.kindFault m7.targetFault m7.calleeFault m7.sizeFault m7.ownWord m7.hasWord m7.wordFault m7.operandsFault m7.addressFault m7.rowFault m7.labelFault m7.countFault m7.tablesFault m8.labelAt m8.isData m8.isFunctionLabel m9.behind m9.openBefore m9.groundIn m9.funcIn m9.scopeIn m9.upIn m9.isListed m9.mayStand m9.followsJump m9.stands m9.allClosed m9.isArm m9.isEndIf m9.nextArm m9.endIfOf m9.pastArm m9.targetOf m9.hasTarget m9.depthOf m9.encloses m10.operandOf m10.operandKind m10.operandNumber m10.hasExpression m10.isTest m10.isOperator m10.isCall m10.expressionUses m10.usedBy m10.operandAt m10.slots m10.rowFrom m10.rowAt m10.slotWords m10.encode m11.all m11.some m11.allOf m11.someOf m11.allBelow m11.someBelow m11.countBelow m11.greatestBelow m11.firstFrom m12.byteAddress m12.wordAddress m12.byteGood m12.wordGood m12.wordFrom m12.loadOf m12.storeFrom m13.lower m13.lowest m13.orElse m13.nextBad m13.frameEnds m13.rowsUsed m13.recordGood m13.stepBroken m13.numbersBelow m13.startBroken m14.roundUp m14.reserved m14.answered m14.fetched m14.byteOf m14.applied m14.evalOf m14.holds m15.mark m15.frameWords m15.isFirst m15.isReturnCall m15.isReturn m15.isCalling m15.calledFrom m15.headGood m15.passesOn m15.leavesGood m15.rowsLeft m15.landingOf m16.isAt m16.numberIn m16.fetchOf m16.readOf m16.withWord m16.onRead m16.readAll m17.exportsAs m17.exportOf m17.startAnswer m17.startWorld m17.startBy m17.begunBy m17.startOf m17.startLeaves m18.stopOf m18.goingOn m18.movedTo m18.ended m18.stopped m18.goesTo m18.keeps m18.stores m18.blockOf m18.endBlockOf m18.testOf m18.workedOf m18.assigned m18.assignedAt m18.setAtOf m18.setByteBy m18.setWordBy m18.argumentsOf m18.callBy m18.callOf m18.tailCallBy m18.handedTo m18.handedBy m18.returned m18.returnOf m18.effectOf m18.idle m18.effected m18.gated m18.inState m18.stepOf m18.counting m18.runOf
+run-v3-34 = refl
+
+run-v4 : ran p9 (1 ∷ []) (102 ∷ []) ([]) 5 4 9 ≡ came (Finished 4) 2 0
+unfolding m1.ifLt m1.ifEq m1.ifTrue m2.sameList m2.clearedFrom m2.overlay m3.freshOf m4.words m4.firstOf m4.isNamed m4.isNumber m4.entryNamed m4.entryOf m4.numberOf m4.leastOperands m4.mostOperands m5.wordBytes m6.addOf m6.subOf m6.mulOf m6.divOf m6.modOf m6.shlOf m6.bsrOf m6.asrOf m6.rolOf m6.rorOf m6.andOf m6.orOf m6.xorOf m6.notOf m6.ltOf m6.gtOf m6.geOf m6.leOf m6.eqOf m6.neOf m7.expressionListed m7.inFunction m7.sizeAt m7.operandFault m7.addressListed m7.kindFault m7.targetFault m7.calleeFault m7.sizeFault m7.ownWord m7.hasWord m7.wordFault m7.operandsFault m7.addressFault m7.rowFault m7.labelFault m7.countFault m7.tablesFault m8.labelAt m8.isData m8.isFunctionLabel m9.behind m9.openBefore m9.groundIn m9.funcIn m9.scopeIn m9.upIn m9.isListed m9.mayStand m9.followsJump m9.stands m9.allClosed m9.isArm m9.isEndIf m9.nextArm m9.endIfOf m9.pastArm m9.targetOf m9.hasTarget m9.depthOf m9.encloses m10.operandOf m10.operandKind m10.operandNumber m10.hasExpression m10.isTest m10.isOperator m10.isCall m10.expressionUses m10.usedBy m10.operandAt m10.slots m10.rowFrom m10.rowAt m10.slotWords m10.encode m11.all m11.some m11.allOf m11.someOf m11.allBelow m11.someBelow m11.countBelow m11.greatestBelow m11.firstFrom m12.byteAddress m12.wordAddress m12.byteGood m12.wordGood m12.wordFrom m12.loadOf m12.storeFrom m13.lower m13.lowest m13.orElse m13.nextBad m13.frameEnds m13.rowsUsed m13.recordGood m13.stepBroken m13.numbersBelow m13.startBroken m14.roundUp m14.reserved m14.answered m14.fetched m14.byteOf m14.applied m14.evalOf m14.holds m15.mark m15.frameWords m15.isFirst m15.isReturnCall m15.isReturn m15.isCalling m15.calledFrom m15.headGood m15.passesOn m15.leavesGood m15.rowsLeft m15.landingOf m16.isAt m16.numberIn m16.fetchOf m16.readOf m16.withWord m16.onRead m16.readAll m17.exportsAs m17.exportOf m17.startAnswer m17.startWorld m17.startBy m17.begunBy m17.startOf m17.startLeaves m18.stopOf m18.goingOn m18.movedTo m18.ended m18.stopped m18.goesTo m18.keeps m18.stores m18.blockOf m18.endBlockOf m18.testOf m18.workedOf m18.assigned m18.assignedAt m18.setAtOf m18.setByteBy m18.setWordBy m18.argumentsOf m18.callBy m18.callOf m18.tailCallBy m18.handedTo m18.handedBy m18.returned m18.returnOf m18.effectOf m18.idle m18.effected m18.gated m18.inState m18.stepOf m18.counting m18.runOf
+run-v4 = refl
+
+run-v4-34 : ran p9 (1 ∷ []) (102 ∷ []) ([]) 5 3 9 ≡ came (Stopped 34 1) 0 4
+unfolding m1.ifLt m1.ifEq m1.ifTrue m2.sameList m2.clearedFrom m2.overlay m3.freshOf m4.words m4.firstOf m4.isNamed m4.isNumber m4.entryNamed m4.entryOf m4.numberOf m4.leastOperands m4.mostOperands m5.wordBytes m6.addOf m6.subOf m6.mulOf m6.divOf m6.modOf m6.shlOf m6.bsrOf m6.asrOf m6.rolOf m6.rorOf m6.andOf m6.orOf m6.xorOf m6.notOf m6.ltOf m6.gtOf m6.geOf m6.leOf m6.eqOf m6.neOf m7.expressionListed m7.inFunction m7.sizeAt m7.operandFault m7.addressListed m7.kindFault m7.targetFault m7.calleeFault m7.sizeFault m7.ownWord m7.hasWord m7.wordFault m7.operandsFault m7.addressFault m7.rowFault m7.labelFault m7.countFault m7.tablesFault m8.labelAt m8.isData m8.isFunctionLabel m9.behind m9.openBefore m9.groundIn m9.funcIn m9.scopeIn m9.upIn m9.isListed m9.mayStand m9.followsJump m9.stands m9.allClosed m9.isArm m9.isEndIf m9.nextArm m9.endIfOf m9.pastArm m9.targetOf m9.hasTarget m9.depthOf m9.encloses m10.operandOf m10.operandKind m10.operandNumber m10.hasExpression m10.isTest m10.isOperator m10.isCall m10.expressionUses m10.usedBy m10.operandAt m10.slots m10.rowFrom m10.rowAt m10.slotWords m10.encode m11.all m11.some m11.allOf m11.someOf m11.allBelow m11.someBelow m11.countBelow m11.greatestBelow m11.firstFrom m12.byteAddress m12.wordAddress m12.byteGood m12.wordGood m12.wordFrom m12.loadOf m12.storeFrom m13.lower m13.lowest m13.orElse m13.nextBad m13.frameEnds m13.rowsUsed m13.recordGood m13.stepBroken m13.numbersBelow m13.startBroken m14.roundUp m14.reserved m14.answered m14.fetched m14.byteOf m14.applied m14.evalOf m14.holds m15.mark m15.frameWords m15.isFirst m15.isReturnCall m15.isReturn m15.isCalling m15.calledFrom m15.headGood m15.passesOn m15.leavesGood m15.rowsLeft m15.landingOf m16.isAt m16.numberIn m16.fetchOf m16.readOf m16.withWord m16.onRead m16.readAll m17.exportsAs m17.exportOf m17.startAnswer m17.startWorld m17.startBy m17.begunBy m17.startOf m17.startLeaves m18.stopOf m18.goingOn m18.movedTo m18.ended m18.stopped m18.goesTo m18.keeps m18.stores m18.blockOf m18.endBlockOf m18.testOf m18.workedOf m18.assigned m18.assignedAt m18.setAtOf m18.setByteBy m18.setWordBy m18.argumentsOf m18.callBy m18.callOf m18.tailCallBy m18.handedTo m18.handedBy m18.returned m18.returnOf m18.effectOf m18.idle m18.effected m18.gated m18.inState m18.stepOf m18.counting m18.runOf
+run-v4-34 = refl
+
+run-v5-33 : ran p10 ([]) (102 ∷ []) ([]) 4 0 9 ≡ came (Stopped 33 6) 0 3
+unfolding m1.ifLt m1.ifEq m1.ifTrue m2.sameList m2.clearedFrom m2.overlay m3.freshOf m4.words m4.firstOf m4.isNamed m4.isNumber m4.entryNamed m4.entryOf m4.numberOf m4.leastOperands m4.mostOperands m5.wordBytes m6.addOf m6.subOf m6.mulOf m6.divOf m6.modOf m6.shlOf m6.bsrOf m6.asrOf m6.rolOf m6.rorOf m6.andOf m6.orOf m6.xorOf m6.notOf m6.ltOf m6.gtOf m6.geOf m6.leOf m6.eqOf m6.neOf m7.expressionListed m7.inFunction m7.sizeAt m7.operandFault m7.addressListed m7.kindFault m7.targetFault m7.calleeFault m7.sizeFault m7.ownWord m7.hasWord m7.wordFault m7.operandsFault m7.addressFault m7.rowFault m7.labelFault m7.countFault m7.tablesFault m8.labelAt m8.isData m8.isFunctionLabel m9.behind m9.openBefore m9.groundIn m9.funcIn m9.scopeIn m9.upIn m9.isListed m9.mayStand m9.followsJump m9.stands m9.allClosed m9.isArm m9.isEndIf m9.nextArm m9.endIfOf m9.pastArm m9.targetOf m9.hasTarget m9.depthOf m9.encloses m10.operandOf m10.operandKind m10.operandNumber m10.hasExpression m10.isTest m10.isOperator m10.isCall m10.expressionUses m10.usedBy m10.operandAt m10.slots m10.rowFrom m10.rowAt m10.slotWords m10.encode m11.all m11.some m11.allOf m11.someOf m11.allBelow m11.someBelow m11.countBelow m11.greatestBelow m11.firstFrom m12.byteAddress m12.wordAddress m12.byteGood m12.wordGood m12.wordFrom m12.loadOf m12.storeFrom m13.lower m13.lowest m13.orElse m13.nextBad m13.frameEnds m13.rowsUsed m13.recordGood m13.stepBroken m13.numbersBelow m13.startBroken m14.roundUp m14.reserved m14.answered m14.fetched m14.byteOf m14.applied m14.evalOf m14.holds m15.mark m15.frameWords m15.isFirst m15.isReturnCall m15.isReturn m15.isCalling m15.calledFrom m15.headGood m15.passesOn m15.leavesGood m15.rowsLeft m15.landingOf m16.isAt m16.numberIn m16.fetchOf m16.readOf m16.withWord m16.onRead m16.readAll m17.exportsAs m17.exportOf m17.startAnswer m17.startWorld m17.startBy m17.begunBy m17.startOf m17.startLeaves m18.stopOf m18.goingOn m18.movedTo m18.ended m18.stopped m18.goesTo m18.keeps m18.stores m18.blockOf m18.endBlockOf m18.testOf m18.workedOf m18.assigned m18.assignedAt m18.setAtOf m18.setByteBy m18.setWordBy m18.argumentsOf m18.callBy m18.callOf m18.tailCallBy m18.handedTo m18.handedBy m18.returned m18.returnOf m18.effectOf m18.idle m18.effected m18.gated m18.inState m18.stepOf m18.counting m18.runOf
+run-v5-33 = refl
+
+run-v5 : ran p10 ([]) (102 ∷ []) ([]) 5 0 9 ≡ came (Finished 2) 4 0
+unfolding m1.ifLt m1.ifEq m1.ifTrue m2.sameList m2.clearedFrom m2.overlay m3.freshOf m4.words m4.firstOf m4.isNamed m4.isNumber m4.entryNamed m4.entryOf m4.numberOf m4.leastOperands m4.mostOperands m5.wordBytes m6.addOf m6.subOf m6.mulOf m6.divOf m6.modOf m6.shlOf m6.bsrOf m6.asrOf m6.rolOf m6.rorOf m6.andOf m6.orOf m6.xorOf m6.notOf m6.ltOf m6.gtOf m6.geOf m6.leOf m6.eqOf m6.neOf m7.expressionListed m7.inFunction m7.sizeAt m7.operandFault m7.addressListed m7.kindFault m7.targetFault m7.calleeFault m7.sizeFault m7.ownWord m7.hasWord m7.wordFault m7.operandsFault m7.addressFault m7.rowFault m7.labelFault m7.countFault m7.tablesFault m8.labelAt m8.isData m8.isFunctionLabel m9.behind m9.openBefore m9.groundIn m9.funcIn m9.scopeIn m9.upIn m9.isListed m9.mayStand m9.followsJump m9.stands m9.allClosed m9.isArm m9.isEndIf m9.nextArm m9.endIfOf m9.pastArm m9.targetOf m9.hasTarget m9.depthOf m9.encloses m10.operandOf m10.operandKind m10.operandNumber m10.hasExpression m10.isTest m10.isOperator m10.isCall m10.expressionUses m10.usedBy m10.operandAt m10.slots m10.rowFrom m10.rowAt m10.slotWords m10.encode m11.all m11.some m11.allOf m11.someOf m11.allBelow m11.someBelow m11.countBelow m11.greatestBelow m11.firstFrom m12.byteAddress m12.wordAddress m12.byteGood m12.wordGood m12.wordFrom m12.loadOf m12.storeFrom m13.lower m13.lowest m13.orElse m13.nextBad m13.frameEnds m13.rowsUsed m13.recordGood m13.stepBroken m13.numbersBelow m13.startBroken m14.roundUp m14.reserved m14.answered m14.fetched m14.byteOf m14.applied m14.evalOf m14.holds m15.mark m15.frameWords m15.isFirst m15.isReturnCall m15.isReturn m15.isCalling m15.calledFrom m15.headGood m15.passesOn m15.leavesGood m15.rowsLeft m15.landingOf m16.isAt m16.numberIn m16.fetchOf m16.readOf m16.withWord m16.onRead m16.readAll m17.exportsAs m17.exportOf m17.startAnswer m17.startWorld m17.startBy m17.begunBy m17.startOf m17.startLeaves m18.stopOf m18.goingOn m18.movedTo m18.ended m18.stopped m18.goesTo m18.keeps m18.stores m18.blockOf m18.endBlockOf m18.testOf m18.workedOf m18.assigned m18.assignedAt m18.setAtOf m18.setByteBy m18.setWordBy m18.argumentsOf m18.callBy m18.callOf m18.tailCallBy m18.handedTo m18.handedBy m18.returned m18.returnOf m18.effectOf m18.idle m18.effected m18.gated m18.inState m18.stepOf m18.counting m18.runOf
+run-v5 = refl
+
+run-v6-1 : ran p11 ([]) (102 ∷ []) (1 ∷ []) 4 0 9 ≡ came (Finished 10) 5 0
+unfolding m1.ifLt m1.ifEq m1.ifTrue m2.sameList m2.clearedFrom m2.overlay m3.freshOf m4.words m4.firstOf m4.isNamed m4.isNumber m4.entryNamed m4.entryOf m4.numberOf m4.leastOperands m4.mostOperands m5.wordBytes m6.addOf m6.subOf m6.mulOf m6.divOf m6.modOf m6.shlOf m6.bsrOf m6.asrOf m6.rolOf m6.rorOf m6.andOf m6.orOf m6.xorOf m6.notOf m6.ltOf m6.gtOf m6.geOf m6.leOf m6.eqOf m6.neOf m7.expressionListed m7.inFunction m7.sizeAt m7.operandFault m7.addressListed m7.kindFault m7.targetFault m7.calleeFault m7.sizeFault m7.ownWord m7.hasWord m7.wordFault m7.operandsFault m7.addressFault m7.rowFault m7.labelFault m7.countFault m7.tablesFault m8.labelAt m8.isData m8.isFunctionLabel m9.behind m9.openBefore m9.groundIn m9.funcIn m9.scopeIn m9.upIn m9.isListed m9.mayStand m9.followsJump m9.stands m9.allClosed m9.isArm m9.isEndIf m9.nextArm m9.endIfOf m9.pastArm m9.targetOf m9.hasTarget m9.depthOf m9.encloses m10.operandOf m10.operandKind m10.operandNumber m10.hasExpression m10.isTest m10.isOperator m10.isCall m10.expressionUses m10.usedBy m10.operandAt m10.slots m10.rowFrom m10.rowAt m10.slotWords m10.encode m11.all m11.some m11.allOf m11.someOf m11.allBelow m11.someBelow m11.countBelow m11.greatestBelow m11.firstFrom m12.byteAddress m12.wordAddress m12.byteGood m12.wordGood m12.wordFrom m12.loadOf m12.storeFrom m13.lower m13.lowest m13.orElse m13.nextBad m13.frameEnds m13.rowsUsed m13.recordGood m13.stepBroken m13.numbersBelow m13.startBroken m14.roundUp m14.reserved m14.answered m14.fetched m14.byteOf m14.applied m14.evalOf m14.holds m15.mark m15.frameWords m15.isFirst m15.isReturnCall m15.isReturn m15.isCalling m15.calledFrom m15.headGood m15.passesOn m15.leavesGood m15.rowsLeft m15.landingOf m16.isAt m16.numberIn m16.fetchOf m16.readOf m16.withWord m16.onRead m16.readAll m17.exportsAs m17.exportOf m17.startAnswer m17.startWorld m17.startBy m17.begunBy m17.startOf m17.startLeaves m18.stopOf m18.goingOn m18.movedTo m18.ended m18.stopped m18.goesTo m18.keeps m18.stores m18.blockOf m18.endBlockOf m18.testOf m18.workedOf m18.assigned m18.assignedAt m18.setAtOf m18.setByteBy m18.setWordBy m18.argumentsOf m18.callBy m18.callOf m18.tailCallBy m18.handedTo m18.handedBy m18.returned m18.returnOf m18.effectOf m18.idle m18.effected m18.gated m18.inState m18.stepOf m18.counting m18.runOf
+run-v6-1 = refl
+
+run-v6-2 : ran p11 ([]) (102 ∷ []) (2 ∷ []) 4 0 9 ≡ came (Finished 20) 6 0
+unfolding m1.ifLt m1.ifEq m1.ifTrue m2.sameList m2.clearedFrom m2.overlay m3.freshOf m4.words m4.firstOf m4.isNamed m4.isNumber m4.entryNamed m4.entryOf m4.numberOf m4.leastOperands m4.mostOperands m5.wordBytes m6.addOf m6.subOf m6.mulOf m6.divOf m6.modOf m6.shlOf m6.bsrOf m6.asrOf m6.rolOf m6.rorOf m6.andOf m6.orOf m6.xorOf m6.notOf m6.ltOf m6.gtOf m6.geOf m6.leOf m6.eqOf m6.neOf m7.expressionListed m7.inFunction m7.sizeAt m7.operandFault m7.addressListed m7.kindFault m7.targetFault m7.calleeFault m7.sizeFault m7.ownWord m7.hasWord m7.wordFault m7.operandsFault m7.addressFault m7.rowFault m7.labelFault m7.countFault m7.tablesFault m8.labelAt m8.isData m8.isFunctionLabel m9.behind m9.openBefore m9.groundIn m9.funcIn m9.scopeIn m9.upIn m9.isListed m9.mayStand m9.followsJump m9.stands m9.allClosed m9.isArm m9.isEndIf m9.nextArm m9.endIfOf m9.pastArm m9.targetOf m9.hasTarget m9.depthOf m9.encloses m10.operandOf m10.operandKind m10.operandNumber m10.hasExpression m10.isTest m10.isOperator m10.isCall m10.expressionUses m10.usedBy m10.operandAt m10.slots m10.rowFrom m10.rowAt m10.slotWords m10.encode m11.all m11.some m11.allOf m11.someOf m11.allBelow m11.someBelow m11.countBelow m11.greatestBelow m11.firstFrom m12.byteAddress m12.wordAddress m12.byteGood m12.wordGood m12.wordFrom m12.loadOf m12.storeFrom m13.lower m13.lowest m13.orElse m13.nextBad m13.frameEnds m13.rowsUsed m13.recordGood m13.stepBroken m13.numbersBelow m13.startBroken m14.roundUp m14.reserved m14.answered m14.fetched m14.byteOf m14.applied m14.evalOf m14.holds m15.mark m15.frameWords m15.isFirst m15.isReturnCall m15.isReturn m15.isCalling m15.calledFrom m15.headGood m15.passesOn m15.leavesGood m15.rowsLeft m15.landingOf m16.isAt m16.numberIn m16.fetchOf m16.readOf m16.withWord m16.onRead m16.readAll m17.exportsAs m17.exportOf m17.startAnswer m17.startWorld m17.startBy m17.begunBy m17.startOf m17.startLeaves m18.stopOf m18.goingOn m18.movedTo m18.ended m18.stopped m18.goesTo m18.keeps m18.stores m18.blockOf m18.endBlockOf m18.testOf m18.workedOf m18.assigned m18.assignedAt m18.setAtOf m18.setByteBy m18.setWordBy m18.argumentsOf m18.callBy m18.callOf m18.tailCallBy m18.handedTo m18.handedBy m18.returned m18.returnOf m18.effectOf m18.idle m18.effected m18.gated m18.inState m18.stepOf m18.counting m18.runOf
+run-v6-2 = refl
+
+run-v6-3 : ran p11 ([]) (102 ∷ []) (3 ∷ []) 4 0 9 ≡ came (Finished 30) 5 0
+unfolding m1.ifLt m1.ifEq m1.ifTrue m2.sameList m2.clearedFrom m2.overlay m3.freshOf m4.words m4.firstOf m4.isNamed m4.isNumber m4.entryNamed m4.entryOf m4.numberOf m4.leastOperands m4.mostOperands m5.wordBytes m6.addOf m6.subOf m6.mulOf m6.divOf m6.modOf m6.shlOf m6.bsrOf m6.asrOf m6.rolOf m6.rorOf m6.andOf m6.orOf m6.xorOf m6.notOf m6.ltOf m6.gtOf m6.geOf m6.leOf m6.eqOf m6.neOf m7.expressionListed m7.inFunction m7.sizeAt m7.operandFault m7.addressListed m7.kindFault m7.targetFault m7.calleeFault m7.sizeFault m7.ownWord m7.hasWord m7.wordFault m7.operandsFault m7.addressFault m7.rowFault m7.labelFault m7.countFault m7.tablesFault m8.labelAt m8.isData m8.isFunctionLabel m9.behind m9.openBefore m9.groundIn m9.funcIn m9.scopeIn m9.upIn m9.isListed m9.mayStand m9.followsJump m9.stands m9.allClosed m9.isArm m9.isEndIf m9.nextArm m9.endIfOf m9.pastArm m9.targetOf m9.hasTarget m9.depthOf m9.encloses m10.operandOf m10.operandKind m10.operandNumber m10.hasExpression m10.isTest m10.isOperator m10.isCall m10.expressionUses m10.usedBy m10.operandAt m10.slots m10.rowFrom m10.rowAt m10.slotWords m10.encode m11.all m11.some m11.allOf m11.someOf m11.allBelow m11.someBelow m11.countBelow m11.greatestBelow m11.firstFrom m12.byteAddress m12.wordAddress m12.byteGood m12.wordGood m12.wordFrom m12.loadOf m12.storeFrom m13.lower m13.lowest m13.orElse m13.nextBad m13.frameEnds m13.rowsUsed m13.recordGood m13.stepBroken m13.numbersBelow m13.startBroken m14.roundUp m14.reserved m14.answered m14.fetched m14.byteOf m14.applied m14.evalOf m14.holds m15.mark m15.frameWords m15.isFirst m15.isReturnCall m15.isReturn m15.isCalling m15.calledFrom m15.headGood m15.passesOn m15.leavesGood m15.rowsLeft m15.landingOf m16.isAt m16.numberIn m16.fetchOf m16.readOf m16.withWord m16.onRead m16.readAll m17.exportsAs m17.exportOf m17.startAnswer m17.startWorld m17.startBy m17.begunBy m17.startOf m17.startLeaves m18.stopOf m18.goingOn m18.movedTo m18.ended m18.stopped m18.goesTo m18.keeps m18.stores m18.blockOf m18.endBlockOf m18.testOf m18.workedOf m18.assigned m18.assignedAt m18.setAtOf m18.setByteBy m18.setWordBy m18.argumentsOf m18.callBy m18.callOf m18.tailCallBy m18.handedTo m18.handedBy m18.returned m18.returnOf m18.effectOf m18.idle m18.effected m18.gated m18.inState m18.stepOf m18.counting m18.runOf
+run-v6-3 = refl
+
+run-v7 : ran p12 ([]) (102 ∷ []) ([]) 6 0 200 ≡ came (Finished 20) 107 0
+unfolding m1.ifLt m1.ifEq m1.ifTrue m2.sameList m2.clearedFrom m2.overlay m3.freshOf m4.words m4.firstOf m4.isNamed m4.isNumber m4.entryNamed m4.entryOf m4.numberOf m4.leastOperands m4.mostOperands m5.wordBytes m6.addOf m6.subOf m6.mulOf m6.divOf m6.modOf m6.shlOf m6.bsrOf m6.asrOf m6.rolOf m6.rorOf m6.andOf m6.orOf m6.xorOf m6.notOf m6.ltOf m6.gtOf m6.geOf m6.leOf m6.eqOf m6.neOf m7.expressionListed m7.inFunction m7.sizeAt m7.operandFault m7.addressListed m7.kindFault m7.targetFault m7.calleeFault m7.sizeFault m7.ownWord m7.hasWord m7.wordFault m7.operandsFault m7.addressFault m7.rowFault m7.labelFault m7.countFault m7.tablesFault m8.labelAt m8.isData m8.isFunctionLabel m9.behind m9.openBefore m9.groundIn m9.funcIn m9.scopeIn m9.upIn m9.isListed m9.mayStand m9.followsJump m9.stands m9.allClosed m9.isArm m9.isEndIf m9.nextArm m9.endIfOf m9.pastArm m9.targetOf m9.hasTarget m9.depthOf m9.encloses m10.operandOf m10.operandKind m10.operandNumber m10.hasExpression m10.isTest m10.isOperator m10.isCall m10.expressionUses m10.usedBy m10.operandAt m10.slots m10.rowFrom m10.rowAt m10.slotWords m10.encode m11.all m11.some m11.allOf m11.someOf m11.allBelow m11.someBelow m11.countBelow m11.greatestBelow m11.firstFrom m12.byteAddress m12.wordAddress m12.byteGood m12.wordGood m12.wordFrom m12.loadOf m12.storeFrom m13.lower m13.lowest m13.orElse m13.nextBad m13.frameEnds m13.rowsUsed m13.recordGood m13.stepBroken m13.numbersBelow m13.startBroken m14.roundUp m14.reserved m14.answered m14.fetched m14.byteOf m14.applied m14.evalOf m14.holds m15.mark m15.frameWords m15.isFirst m15.isReturnCall m15.isReturn m15.isCalling m15.calledFrom m15.headGood m15.passesOn m15.leavesGood m15.rowsLeft m15.landingOf m16.isAt m16.numberIn m16.fetchOf m16.readOf m16.withWord m16.onRead m16.readAll m17.exportsAs m17.exportOf m17.startAnswer m17.startWorld m17.startBy m17.begunBy m17.startOf m17.startLeaves m18.stopOf m18.goingOn m18.movedTo m18.ended m18.stopped m18.goesTo m18.keeps m18.stores m18.blockOf m18.endBlockOf m18.testOf m18.workedOf m18.assigned m18.assignedAt m18.setAtOf m18.setByteBy m18.setWordBy m18.argumentsOf m18.callBy m18.callOf m18.tailCallBy m18.handedTo m18.handedBy m18.returned m18.returnOf m18.effectOf m18.idle m18.effected m18.gated m18.inState m18.stepOf m18.counting m18.runOf
+run-v7 = refl
+
+run-v80 : ran p13 ([]) (102 ∷ []) ([]) 4 8 9 ≡ came (Finished 0) 2 0
+unfolding m1.ifLt m1.ifEq m1.ifTrue m2.sameList m2.clearedFrom m2.overlay m3.freshOf m4.words m4.firstOf m4.isNamed m4.isNumber m4.entryNamed m4.entryOf m4.numberOf m4.leastOperands m4.mostOperands m5.wordBytes m6.addOf m6.subOf m6.mulOf m6.divOf m6.modOf m6.shlOf m6.bsrOf m6.asrOf m6.rolOf m6.rorOf m6.andOf m6.orOf m6.xorOf m6.notOf m6.ltOf m6.gtOf m6.geOf m6.leOf m6.eqOf m6.neOf m7.expressionListed m7.inFunction m7.sizeAt m7.operandFault m7.addressListed m7.kindFault m7.targetFault m7.calleeFault m7.sizeFault m7.ownWord m7.hasWord m7.wordFault m7.operandsFault m7.addressFault m7.rowFault m7.labelFault m7.countFault m7.tablesFault m8.labelAt m8.isData m8.isFunctionLabel m9.behind m9.openBefore m9.groundIn m9.funcIn m9.scopeIn m9.upIn m9.isListed m9.mayStand m9.followsJump m9.stands m9.allClosed m9.isArm m9.isEndIf m9.nextArm m9.endIfOf m9.pastArm m9.targetOf m9.hasTarget m9.depthOf m9.encloses m10.operandOf m10.operandKind m10.operandNumber m10.hasExpression m10.isTest m10.isOperator m10.isCall m10.expressionUses m10.usedBy m10.operandAt m10.slots m10.rowFrom m10.rowAt m10.slotWords m10.encode m11.all m11.some m11.allOf m11.someOf m11.allBelow m11.someBelow m11.countBelow m11.greatestBelow m11.firstFrom m12.byteAddress m12.wordAddress m12.byteGood m12.wordGood m12.wordFrom m12.loadOf m12.storeFrom m13.lower m13.lowest m13.orElse m13.nextBad m13.frameEnds m13.rowsUsed m13.recordGood m13.stepBroken m13.numbersBelow m13.startBroken m14.roundUp m14.reserved m14.answered m14.fetched m14.byteOf m14.applied m14.evalOf m14.holds m15.mark m15.frameWords m15.isFirst m15.isReturnCall m15.isReturn m15.isCalling m15.calledFrom m15.headGood m15.passesOn m15.leavesGood m15.rowsLeft m15.landingOf m16.isAt m16.numberIn m16.fetchOf m16.readOf m16.withWord m16.onRead m16.readAll m17.exportsAs m17.exportOf m17.startAnswer m17.startWorld m17.startBy m17.begunBy m17.startOf m17.startLeaves m18.stopOf m18.goingOn m18.movedTo m18.ended m18.stopped m18.goesTo m18.keeps m18.stores m18.blockOf m18.endBlockOf m18.testOf m18.workedOf m18.assigned m18.assignedAt m18.setAtOf m18.setByteBy m18.setWordBy m18.argumentsOf m18.callBy m18.callOf m18.tailCallBy m18.handedTo m18.handedBy m18.returned m18.returnOf m18.effectOf m18.idle m18.effected m18.gated m18.inState m18.stepOf m18.counting m18.runOf
+run-v80 = refl
+
+run-v81 : ran p14 ([]) (102 ∷ []) ([]) 4 8 9 ≡ came (Stopped 30 1) 0 4
+unfolding m1.ifLt m1.ifEq m1.ifTrue m2.sameList m2.clearedFrom m2.overlay m3.freshOf m4.words m4.firstOf m4.isNamed m4.isNumber m4.entryNamed m4.entryOf m4.numberOf m4.leastOperands m4.mostOperands m5.wordBytes m6.addOf m6.subOf m6.mulOf m6.divOf m6.modOf m6.shlOf m6.bsrOf m6.asrOf m6.rolOf m6.rorOf m6.andOf m6.orOf m6.xorOf m6.notOf m6.ltOf m6.gtOf m6.geOf m6.leOf m6.eqOf m6.neOf m7.expressionListed m7.inFunction m7.sizeAt m7.operandFault m7.addressListed m7.kindFault m7.targetFault m7.calleeFault m7.sizeFault m7.ownWord m7.hasWord m7.wordFault m7.operandsFault m7.addressFault m7.rowFault m7.labelFault m7.countFault m7.tablesFault m8.labelAt m8.isData m8.isFunctionLabel m9.behind m9.openBefore m9.groundIn m9.funcIn m9.scopeIn m9.upIn m9.isListed m9.mayStand m9.followsJump m9.stands m9.allClosed m9.isArm m9.isEndIf m9.nextArm m9.endIfOf m9.pastArm m9.targetOf m9.hasTarget m9.depthOf m9.encloses m10.operandOf m10.operandKind m10.operandNumber m10.hasExpression m10.isTest m10.isOperator m10.isCall m10.expressionUses m10.usedBy m10.operandAt m10.slots m10.rowFrom m10.rowAt m10.slotWords m10.encode m11.all m11.some m11.allOf m11.someOf m11.allBelow m11.someBelow m11.countBelow m11.greatestBelow m11.firstFrom m12.byteAddress m12.wordAddress m12.byteGood m12.wordGood m12.wordFrom m12.loadOf m12.storeFrom m13.lower m13.lowest m13.orElse m13.nextBad m13.frameEnds m13.rowsUsed m13.recordGood m13.stepBroken m13.numbersBelow m13.startBroken m14.roundUp m14.reserved m14.answered m14.fetched m14.byteOf m14.applied m14.evalOf m14.holds m15.mark m15.frameWords m15.isFirst m15.isReturnCall m15.isReturn m15.isCalling m15.calledFrom m15.headGood m15.passesOn m15.leavesGood m15.rowsLeft m15.landingOf m16.isAt m16.numberIn m16.fetchOf m16.readOf m16.withWord m16.onRead m16.readAll m17.exportsAs m17.exportOf m17.startAnswer m17.startWorld m17.startBy m17.begunBy m17.startOf m17.startLeaves m18.stopOf m18.goingOn m18.movedTo m18.ended m18.stopped m18.goesTo m18.keeps m18.stores m18.blockOf m18.endBlockOf m18.testOf m18.workedOf m18.assigned m18.assignedAt m18.setAtOf m18.setByteBy m18.setWordBy m18.argumentsOf m18.callBy m18.callOf m18.tailCallBy m18.handedTo m18.handedBy m18.returned m18.returnOf m18.effectOf m18.idle m18.effected m18.gated m18.inState m18.stepOf m18.counting m18.runOf
+run-v81 = refl
+
+run-v82 : ran p15 ([]) (102 ∷ []) ([]) 4 8 9 ≡ came (Finished 1) 2 0
+unfolding m1.ifLt m1.ifEq m1.ifTrue m2.sameList m2.clearedFrom m2.overlay m3.freshOf m4.words m4.firstOf m4.isNamed m4.isNumber m4.entryNamed m4.entryOf m4.numberOf m4.leastOperands m4.mostOperands m5.wordBytes m6.addOf m6.subOf m6.mulOf m6.divOf m6.modOf m6.shlOf m6.bsrOf m6.asrOf m6.rolOf m6.rorOf m6.andOf m6.orOf m6.xorOf m6.notOf m6.ltOf m6.gtOf m6.geOf m6.leOf m6.eqOf m6.neOf m7.expressionListed m7.inFunction m7.sizeAt m7.operandFault m7.addressListed m7.kindFault m7.targetFault m7.calleeFault m7.sizeFault m7.ownWord m7.hasWord m7.wordFault m7.operandsFault m7.addressFault m7.rowFault m7.labelFault m7.countFault m7.tablesFault m8.labelAt m8.isData m8.isFunctionLabel m9.behind m9.openBefore m9.groundIn m9.funcIn m9.scopeIn m9.upIn m9.isListed m9.mayStand m9.followsJump m9.stands m9.allClosed m9.isArm m9.isEndIf m9.nextArm m9.endIfOf m9.pastArm m9.targetOf m9.hasTarget m9.depthOf m9.encloses m10.operandOf m10.operandKind m10.operandNumber m10.hasExpression m10.isTest m10.isOperator m10.isCall m10.expressionUses m10.usedBy m10.operandAt m10.slots m10.rowFrom m10.rowAt m10.slotWords m10.encode m11.all m11.some m11.allOf m11.someOf m11.allBelow m11.someBelow m11.countBelow m11.greatestBelow m11.firstFrom m12.byteAddress m12.wordAddress m12.byteGood m12.wordGood m12.wordFrom m12.loadOf m12.storeFrom m13.lower m13.lowest m13.orElse m13.nextBad m13.frameEnds m13.rowsUsed m13.recordGood m13.stepBroken m13.numbersBelow m13.startBroken m14.roundUp m14.reserved m14.answered m14.fetched m14.byteOf m14.applied m14.evalOf m14.holds m15.mark m15.frameWords m15.isFirst m15.isReturnCall m15.isReturn m15.isCalling m15.calledFrom m15.headGood m15.passesOn m15.leavesGood m15.rowsLeft m15.landingOf m16.isAt m16.numberIn m16.fetchOf m16.readOf m16.withWord m16.onRead m16.readAll m17.exportsAs m17.exportOf m17.startAnswer m17.startWorld m17.startBy m17.begunBy m17.startOf m17.startLeaves m18.stopOf m18.goingOn m18.movedTo m18.ended m18.stopped m18.goesTo m18.keeps m18.stores m18.blockOf m18.endBlockOf m18.testOf m18.workedOf m18.assigned m18.assignedAt m18.setAtOf m18.setByteBy m18.setWordBy m18.argumentsOf m18.callBy m18.callOf m18.tailCallBy m18.handedTo m18.handedBy m18.returned m18.returnOf m18.effectOf m18.idle m18.effected m18.gated m18.inState m18.stepOf m18.counting m18.runOf
+run-v82 = refl
+
+run-v83 : ran p16 ([]) (102 ∷ []) ([]) 4 8 9 ≡ came (Stopped 34 1) 0 4
+unfolding m1.ifLt m1.ifEq m1.ifTrue m2.sameList m2.clearedFrom m2.overlay m3.freshOf m4.words m4.firstOf m4.isNamed m4.isNumber m4.entryNamed m4.entryOf m4.numberOf m4.leastOperands m4.mostOperands m5.wordBytes m6.addOf m6.subOf m6.mulOf m6.divOf m6.modOf m6.shlOf m6.bsrOf m6.asrOf m6.rolOf m6.rorOf m6.andOf m6.orOf m6.xorOf m6.notOf m6.ltOf m6.gtOf m6.geOf m6.leOf m6.eqOf m6.neOf m7.expressionListed m7.inFunction m7.sizeAt m7.operandFault m7.addressListed m7.kindFault m7.targetFault m7.calleeFault m7.sizeFault m7.ownWord m7.hasWord m7.wordFault m7.operandsFault m7.addressFault m7.rowFault m7.labelFault m7.countFault m7.tablesFault m8.labelAt m8.isData m8.isFunctionLabel m9.behind m9.openBefore m9.groundIn m9.funcIn m9.scopeIn m9.upIn m9.isListed m9.mayStand m9.followsJump m9.stands m9.allClosed m9.isArm m9.isEndIf m9.nextArm m9.endIfOf m9.pastArm m9.targetOf m9.hasTarget m9.depthOf m9.encloses m10.operandOf m10.operandKind m10.operandNumber m10.hasExpression m10.isTest m10.isOperator m10.isCall m10.expressionUses m10.usedBy m10.operandAt m10.slots m10.rowFrom m10.rowAt m10.slotWords m10.encode m11.all m11.some m11.allOf m11.someOf m11.allBelow m11.someBelow m11.countBelow m11.greatestBelow m11.firstFrom m12.byteAddress m12.wordAddress m12.byteGood m12.wordGood m12.wordFrom m12.loadOf m12.storeFrom m13.lower m13.lowest m13.orElse m13.nextBad m13.frameEnds m13.rowsUsed m13.recordGood m13.stepBroken m13.numbersBelow m13.startBroken m14.roundUp m14.reserved m14.answered m14.fetched m14.byteOf m14.applied m14.evalOf m14.holds m15.mark m15.frameWords m15.isFirst m15.isReturnCall m15.isReturn m15.isCalling m15.calledFrom m15.headGood m15.passesOn m15.leavesGood m15.rowsLeft m15.landingOf m16.isAt m16.numberIn m16.fetchOf m16.readOf m16.withWord m16.onRead m16.readAll m17.exportsAs m17.exportOf m17.startAnswer m17.startWorld m17.startBy m17.begunBy m17.startOf m17.startLeaves m18.stopOf m18.goingOn m18.movedTo m18.ended m18.stopped m18.goesTo m18.keeps m18.stores m18.blockOf m18.endBlockOf m18.testOf m18.workedOf m18.assigned m18.assignedAt m18.setAtOf m18.setByteBy m18.setWordBy m18.argumentsOf m18.callBy m18.callOf m18.tailCallBy m18.handedTo m18.handedBy m18.returned m18.returnOf m18.effectOf m18.idle m18.effected m18.gated m18.inState m18.stepOf m18.counting m18.runOf
+run-v83 = refl
+
+run-v8-byte : ran p17 ([]) (102 ∷ []) ([]) 4 8 9 ≡ came (Finished 255) 3 0
+unfolding m1.ifLt m1.ifEq m1.ifTrue m2.sameList m2.clearedFrom m2.overlay m3.freshOf m4.words m4.firstOf m4.isNamed m4.isNumber m4.entryNamed m4.entryOf m4.numberOf m4.leastOperands m4.mostOperands m5.wordBytes m6.addOf m6.subOf m6.mulOf m6.divOf m6.modOf m6.shlOf m6.bsrOf m6.asrOf m6.rolOf m6.rorOf m6.andOf m6.orOf m6.xorOf m6.notOf m6.ltOf m6.gtOf m6.geOf m6.leOf m6.eqOf m6.neOf m7.expressionListed m7.inFunction m7.sizeAt m7.operandFault m7.addressListed m7.kindFault m7.targetFault m7.calleeFault m7.sizeFault m7.ownWord m7.hasWord m7.wordFault m7.operandsFault m7.addressFault m7.rowFault m7.labelFault m7.countFault m7.tablesFault m8.labelAt m8.isData m8.isFunctionLabel m9.behind m9.openBefore m9.groundIn m9.funcIn m9.scopeIn m9.upIn m9.isListed m9.mayStand m9.followsJump m9.stands m9.allClosed m9.isArm m9.isEndIf m9.nextArm m9.endIfOf m9.pastArm m9.targetOf m9.hasTarget m9.depthOf m9.encloses m10.operandOf m10.operandKind m10.operandNumber m10.hasExpression m10.isTest m10.isOperator m10.isCall m10.expressionUses m10.usedBy m10.operandAt m10.slots m10.rowFrom m10.rowAt m10.slotWords m10.encode m11.all m11.some m11.allOf m11.someOf m11.allBelow m11.someBelow m11.countBelow m11.greatestBelow m11.firstFrom m12.byteAddress m12.wordAddress m12.byteGood m12.wordGood m12.wordFrom m12.loadOf m12.storeFrom m13.lower m13.lowest m13.orElse m13.nextBad m13.frameEnds m13.rowsUsed m13.recordGood m13.stepBroken m13.numbersBelow m13.startBroken m14.roundUp m14.reserved m14.answered m14.fetched m14.byteOf m14.applied m14.evalOf m14.holds m15.mark m15.frameWords m15.isFirst m15.isReturnCall m15.isReturn m15.isCalling m15.calledFrom m15.headGood m15.passesOn m15.leavesGood m15.rowsLeft m15.landingOf m16.isAt m16.numberIn m16.fetchOf m16.readOf m16.withWord m16.onRead m16.readAll m17.exportsAs m17.exportOf m17.startAnswer m17.startWorld m17.startBy m17.begunBy m17.startOf m17.startLeaves m18.stopOf m18.goingOn m18.movedTo m18.ended m18.stopped m18.goesTo m18.keeps m18.stores m18.blockOf m18.endBlockOf m18.testOf m18.workedOf m18.assigned m18.assignedAt m18.setAtOf m18.setByteBy m18.setWordBy m18.argumentsOf m18.callBy m18.callOf m18.tailCallBy m18.handedTo m18.handedBy m18.returned m18.returnOf m18.effectOf m18.idle m18.effected m18.gated m18.inState m18.stepOf m18.counting m18.runOf
+run-v8-byte = refl
+
+run-swap : ran p18 ([]) (102 ∷ []) (10 ∷ 3 ∷ []) 5 0 9 ≡ came (Finished 4294967289) 2 0
+unfolding m1.ifLt m1.ifEq m1.ifTrue m2.sameList m2.clearedFrom m2.overlay m3.freshOf m4.words m4.firstOf m4.isNamed m4.isNumber m4.entryNamed m4.entryOf m4.numberOf m4.leastOperands m4.mostOperands m5.wordBytes m6.addOf m6.subOf m6.mulOf m6.divOf m6.modOf m6.shlOf m6.bsrOf m6.asrOf m6.rolOf m6.rorOf m6.andOf m6.orOf m6.xorOf m6.notOf m6.ltOf m6.gtOf m6.geOf m6.leOf m6.eqOf m6.neOf m7.expressionListed m7.inFunction m7.sizeAt m7.operandFault m7.addressListed m7.kindFault m7.targetFault m7.calleeFault m7.sizeFault m7.ownWord m7.hasWord m7.wordFault m7.operandsFault m7.addressFault m7.rowFault m7.labelFault m7.countFault m7.tablesFault m8.labelAt m8.isData m8.isFunctionLabel m9.behind m9.openBefore m9.groundIn m9.funcIn m9.scopeIn m9.upIn m9.isListed m9.mayStand m9.followsJump m9.stands m9.allClosed m9.isArm m9.isEndIf m9.nextArm m9.endIfOf m9.pastArm m9.targetOf m9.hasTarget m9.depthOf m9.encloses m10.operandOf m10.operandKind m10.operandNumber m10.hasExpression m10.isTest m10.isOperator m10.isCall m10.expressionUses m10.usedBy m10.operandAt m10.slots m10.rowFrom m10.rowAt m10.slotWords m10.encode m11.all m11.some m11.allOf m11.someOf m11.allBelow m11.someBelow m11.countBelow m11.greatestBelow m11.firstFrom m12.byteAddress m12.wordAddress m12.byteGood m12.wordGood m12.wordFrom m12.loadOf m12.storeFrom m13.lower m13.lowest m13.orElse m13.nextBad m13.frameEnds m13.rowsUsed m13.recordGood m13.stepBroken m13.numbersBelow m13.startBroken m14.roundUp m14.reserved m14.answered m14.fetched m14.byteOf m14.applied m14.evalOf m14.holds m15.mark m15.frameWords m15.isFirst m15.isReturnCall m15.isReturn m15.isCalling m15.calledFrom m15.headGood m15.passesOn m15.leavesGood m15.rowsLeft m15.landingOf m16.isAt m16.numberIn m16.fetchOf m16.readOf m16.withWord m16.onRead m16.readAll m17.exportsAs m17.exportOf m17.startAnswer m17.startWorld m17.startBy m17.begunBy m17.startOf m17.startLeaves m18.stopOf m18.goingOn m18.movedTo m18.ended m18.stopped m18.goesTo m18.keeps m18.stores m18.blockOf m18.endBlockOf m18.testOf m18.workedOf m18.assigned m18.assignedAt m18.setAtOf m18.setByteBy m18.setWordBy m18.argumentsOf m18.callBy m18.callOf m18.tailCallBy m18.handedTo m18.handedBy m18.returned m18.returnOf m18.effectOf m18.idle m18.effected m18.gated m18.inState m18.stepOf m18.counting m18.runOf
+run-swap = refl
+
+run-calls : ran p19 ([]) (102 ∷ []) ([]) 8 8 99 ≡ came (Finished 6) 8 0
+unfolding m1.ifLt m1.ifEq m1.ifTrue m2.sameList m2.clearedFrom m2.overlay m3.freshOf m4.words m4.firstOf m4.isNamed m4.isNumber m4.entryNamed m4.entryOf m4.numberOf m4.leastOperands m4.mostOperands m5.wordBytes m6.addOf m6.subOf m6.mulOf m6.divOf m6.modOf m6.shlOf m6.bsrOf m6.asrOf m6.rolOf m6.rorOf m6.andOf m6.orOf m6.xorOf m6.notOf m6.ltOf m6.gtOf m6.geOf m6.leOf m6.eqOf m6.neOf m7.expressionListed m7.inFunction m7.sizeAt m7.operandFault m7.addressListed m7.kindFault m7.targetFault m7.calleeFault m7.sizeFault m7.ownWord m7.hasWord m7.wordFault m7.operandsFault m7.addressFault m7.rowFault m7.labelFault m7.countFault m7.tablesFault m8.labelAt m8.isData m8.isFunctionLabel m9.behind m9.openBefore m9.groundIn m9.funcIn m9.scopeIn m9.upIn m9.isListed m9.mayStand m9.followsJump m9.stands m9.allClosed m9.isArm m9.isEndIf m9.nextArm m9.endIfOf m9.pastArm m9.targetOf m9.hasTarget m9.depthOf m9.encloses m10.operandOf m10.operandKind m10.operandNumber m10.hasExpression m10.isTest m10.isOperator m10.isCall m10.expressionUses m10.usedBy m10.operandAt m10.slots m10.rowFrom m10.rowAt m10.slotWords m10.encode m11.all m11.some m11.allOf m11.someOf m11.allBelow m11.someBelow m11.countBelow m11.greatestBelow m11.firstFrom m12.byteAddress m12.wordAddress m12.byteGood m12.wordGood m12.wordFrom m12.loadOf m12.storeFrom m13.lower m13.lowest m13.orElse m13.nextBad m13.frameEnds m13.rowsUsed m13.recordGood m13.stepBroken m13.numbersBelow m13.startBroken m14.roundUp m14.reserved m14.answered m14.fetched m14.byteOf m14.applied m14.evalOf m14.holds m15.mark m15.frameWords m15.isFirst m15.isReturnCall m15.isReturn m15.isCalling m15.calledFrom m15.headGood m15.passesOn m15.leavesGood m15.rowsLeft m15.landingOf m16.isAt m16.numberIn m16.fetchOf m16.readOf m16.withWord m16.onRead m16.readAll m17.exportsAs m17.exportOf m17.startAnswer m17.startWorld m17.startBy m17.begunBy m17.startOf m17.startLeaves m18.stopOf m18.goingOn m18.movedTo m18.ended m18.stopped m18.goesTo m18.keeps m18.stores m18.blockOf m18.endBlockOf m18.testOf m18.workedOf m18.assigned m18.assignedAt m18.setAtOf m18.setByteBy m18.setWordBy m18.argumentsOf m18.callBy m18.callOf m18.tailCallBy m18.handedTo m18.handedBy m18.returned m18.returnOf m18.effectOf m18.idle m18.effected m18.gated m18.inState m18.stepOf m18.counting m18.runOf
+run-calls = refl
+
+run-setat-bad : ran p20 ([]) (102 ∷ []) ([]) 8 8 99 ≡ came (Stopped 32 4) 0 3
+unfolding m1.ifLt m1.ifEq m1.ifTrue m2.sameList m2.clearedFrom m2.overlay m3.freshOf m4.words m4.firstOf m4.isNamed m4.isNumber m4.entryNamed m4.entryOf m4.numberOf m4.leastOperands m4.mostOperands m5.wordBytes m6.addOf m6.subOf m6.mulOf m6.divOf m6.modOf m6.shlOf m6.bsrOf m6.asrOf m6.rolOf m6.rorOf m6.andOf m6.orOf m6.xorOf m6.notOf m6.ltOf m6.gtOf m6.geOf m6.leOf m6.eqOf m6.neOf m7.expressionListed m7.inFunction m7.sizeAt m7.operandFault m7.addressListed m7.kindFault m7.targetFault m7.calleeFault m7.sizeFault m7.ownWord m7.hasWord m7.wordFault m7.operandsFault m7.addressFault m7.rowFault m7.labelFault m7.countFault m7.tablesFault m8.labelAt m8.isData m8.isFunctionLabel m9.behind m9.openBefore m9.groundIn m9.funcIn m9.scopeIn m9.upIn m9.isListed m9.mayStand m9.followsJump m9.stands m9.allClosed m9.isArm m9.isEndIf m9.nextArm m9.endIfOf m9.pastArm m9.targetOf m9.hasTarget m9.depthOf m9.encloses m10.operandOf m10.operandKind m10.operandNumber m10.hasExpression m10.isTest m10.isOperator m10.isCall m10.expressionUses m10.usedBy m10.operandAt m10.slots m10.rowFrom m10.rowAt m10.slotWords m10.encode m11.all m11.some m11.allOf m11.someOf m11.allBelow m11.someBelow m11.countBelow m11.greatestBelow m11.firstFrom m12.byteAddress m12.wordAddress m12.byteGood m12.wordGood m12.wordFrom m12.loadOf m12.storeFrom m13.lower m13.lowest m13.orElse m13.nextBad m13.frameEnds m13.rowsUsed m13.recordGood m13.stepBroken m13.numbersBelow m13.startBroken m14.roundUp m14.reserved m14.answered m14.fetched m14.byteOf m14.applied m14.evalOf m14.holds m15.mark m15.frameWords m15.isFirst m15.isReturnCall m15.isReturn m15.isCalling m15.calledFrom m15.headGood m15.passesOn m15.leavesGood m15.rowsLeft m15.landingOf m16.isAt m16.numberIn m16.fetchOf m16.readOf m16.withWord m16.onRead m16.readAll m17.exportsAs m17.exportOf m17.startAnswer m17.startWorld m17.startBy m17.begunBy m17.startOf m17.startLeaves m18.stopOf m18.goingOn m18.movedTo m18.ended m18.stopped m18.goesTo m18.keeps m18.stores m18.blockOf m18.endBlockOf m18.testOf m18.workedOf m18.assigned m18.assignedAt m18.setAtOf m18.setByteBy m18.setWordBy m18.argumentsOf m18.callBy m18.callOf m18.tailCallBy m18.handedTo m18.handedBy m18.returned m18.returnOf m18.effectOf m18.idle m18.effected m18.gated m18.inState m18.stepOf m18.counting m18.runOf
+run-setat-bad = refl
