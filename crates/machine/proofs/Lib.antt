@@ -1,3 +1,4 @@
 pub mod Examples
 pub mod Invariant
 pub mod Lists
+pub mod Claimed

@@ -108,15 +108,15 @@ module _ (x : World) where
   effected-whole (stops k) = refl
   effected-whole (leaves y) = refl
 
-  effected-stop : (k : ℕ) → effected x (stops k) .count ≡ 0
+  pub effected-stop : (k : ℕ) → effected x (stops k) .count ≡ 0
   unfolding effected
   effected-stop k = refl
 
-  effected-machine : (k : ℕ) → effected x (stops k) .world .machine ≡ stopped (x .machine) k
+  pub effected-machine : (k : ℕ) → effected x (stops k) .world .machine ≡ stopped (x .machine) k
   unfolding effected
   effected-machine k = refl
 
-  effected-count : (y : World) → effected x (leaves y) .count ≡ 1
+  pub effected-count : (y : World) → effected x (leaves y) .count ≡ 1
   unfolding effected
   effected-count y = refl
 
@@ -126,7 +126,7 @@ module _ (x : World) where
 
 module _ (w : Width) (t : Tables) (bytes : List ℕ) (p : Parts w t bytes) where
   -- a running world steps as its effect says
-  runs-as : (e : Entry) (es : Ledger) (x : World) → x .machine .state ≡ Running → Invariant w t e es x → stepOf w t x ≡ effected x (effectOf w (rows t) (t .count) x)
+  pub runs-as : (e : Entry) (es : Ledger) (x : World) → x .machine .state ≡ Running → Invariant w t e es x → stepOf w t x ≡ effected x (effectOf w (rows t) (t .count) x)
   runs-as e es x s i = step-running w t x s (p .gate e es x i)
 
   -- a stopped statement leaves a good world
