@@ -1,4 +1,17 @@
 pub mod Examples
 pub mod Invariant
+pub mod Chain
+pub mod Gate
+pub mod Stores
+pub mod Carried
+pub mod Places
+pub mod Kept
+pub mod Called
+pub mod Returned
+pub mod Begun
+pub mod Operators
+pub mod Causes
+pub mod Listed
+pub mod Effects
 pub mod Lists
 pub mod Claimed
