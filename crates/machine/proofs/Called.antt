@@ -140,10 +140,12 @@ module _ (w : Width) (t : Tables) (good : WellFormed t) (e : Entry) (es : Ledger
 
       under : Under w t (length (x .memory)) (calledStack vs) (some (x .machine .next)) (e ∷ es) (x .machine .used)
       unfolding Under
-      under =
-          (head, subst (Under w t (length (x .memory)) (calledStack vs) (e .call) es) (sym caller)
-          (under-same w t good (length (x .memory)) (x .stack) (calledStack vs) (e .call) es (x .machine .frame)
-          (λ j l. below j (omega (arith, own, i .ends, func-size))) (i .under)))
+      under = (
+        head,
+        subst (Under w t (length (x .memory)) (calledStack vs) (e .call) es) (sym caller)
+            (under-same w t good (length (x .memory)) (x .stack) (calledStack vs) (e .call) es (x .machine .frame)
+            (λ j l. below j (omega (arith, own, i .ends, func-size))) (i .under)),
+      )
         where
           func-size : 3 ≤ rows t (e .func) .a
           func-size = omega (arith, own, size-at t good (x .machine .next) (i .frame .within) .head)

@@ -502,7 +502,7 @@ module _ (w : Width) (f : ℕ → Row) (c : ℕ) (x : World) (sum last : ℕ) wh
 
           kind-low : 1 ≤ r .kind
           unfolding isListed
-          kind-low = elim (ℕ-discrete (r .kind) 0) [ | yes q ↦ true-false (sym kind-listed ∙ ifEq-yes false (ltb (r .kind) 23) q) | no q ↦ omega arith ]
+          kind-low = elim (ℕ-discrete (r .kind) 0) [ yes q ↦ true-false (sym kind-listed ∙ ifEq-yes false (ltb (r .kind) 23) q) | no q ↦ omega arith ]
 
           kind-high : r .kind < 23
           unfolding isListed
@@ -545,7 +545,7 @@ pub effect-cause : (w : Width) (t : Tables) (x : World) (sum last : ℕ)
     → x .machine .used ≡ sum
     → x .machine .frame ≡ sum - last
     → ((v : ℕ) → isReturn (rows t (x .machine .next)) ≡ true
-        → stopOf (handedBy w (rows t) (t .count) x v (landingOf w (rows t) (t .count) (x .stack) (suc (x .machine .frame)) (x .machine .frame))) ≡ 0)
+    → stopOf (handedBy w (rows t) (t .count) x v (landingOf w (rows t) (t .count) (x .stack) (suc (x .machine .frame)) (x .machine .frame))) ≡ 0)
     → stopOf (effectOf w (rows t) (t .count) x) ≡ firstCause w (rows t) sum last x
 unfolding rowAt rowFrom slots Caused
 effect-cause w t x sum last sound h1 used-is frame-is home =

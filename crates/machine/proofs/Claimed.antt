@@ -27,7 +27,7 @@ use Rattle.machine.specs.declared.Broken.the-variants.{No, At, Somewhere
 use Rattle.machine.specs.declared.Started.{Started}
 use Rattle.machine.specs.declared.Started.the-variants.{Begun, Refused, Unsound}
 use Rattle.machine.proofs.Invariant.{FrameAt, Under, Invariant}
-use Rattle.machine.proofs.Lists.{Good, runs, stopsAt, ends, Parts, with-state, step-running, effected-stop, effected-machine, effected-count, runs-as, step-whole, run-good}
+use Rattle.machine.proofs.Lists.{Good, runs, stopsAt, ends, Parts, with-state, step-running, effected-stop, effected-machine, effected-stack, effected-memory, effected-count, runs-as, step-whole, run-good}
 
 -- ---- lists
 
@@ -84,7 +84,7 @@ module _ (w : Width) (t : Tables) (bytes : List ℕ) (p : Parts w t bytes) where
         go (stops k) q =
             absurd
             (let a : k ≡ causeIn w t (e ∷ es) x = sym (ap stopOf q) ∙ p .cause e es x i in
-            let b : 0 < k = p .numbered e es x k i q in omega (arith, a, b, z))
+            let b : 0 < k = p .numbered e es x k s i q in omega (arith, a, b, z))
         go (leaves y) q = ap (λ (y : After). y .count) (runs-as w t bytes p e es x s i ∙ ap (effected x) q) ∙ effected-count x y
 
     stop-effect : 0 < causeIn w t (e ∷ es) x → stepOf w t x ≡ effected x (stops (causeIn w t (e ∷ es) x))
@@ -101,6 +101,8 @@ module _ (w : Width) (t : Tables) (bytes : List ℕ) (p : Parts w t bytes) where
           whole = step-whole w t bytes p (length (x .memory)) (e ∷ es) x (runs e es x refl s i);
           counts = counts-one;
           stops = λ z. ap (λ (y : After). y .world .machine) (stop-effect z) ∙ effected-machine x (causeIn w t (e ∷ es) x);
+          still = λ z. ap (λ (y : After). y .world .stack) (stop-effect z) ∙ effected-stack x (causeIn w t (e ∷ es) x);
+          kept = λ z. ap (λ (y : After). y .world .memory) (stop-effect z) ∙ effected-memory x (causeIn w t (e ∷ es) x);
           uncounted = λ z. ap (λ (y : After). y .count) (stop-effect z) ∙ effected-stop x (causeIn w t (e ∷ es) x);
           listed = p .listed (e ∷ es) x;
           full = p .full e es x i;
@@ -147,9 +149,9 @@ module _ (w : Width) (t : Tables) (bytes : List ℕ) (p : Parts w t bytes) where
     begun-good name args es x l q =
         record {
           good =
-            subst (λ (a : Started). Good w t m (ledgerOf (rows t) es (startEvents (startedFunction w t bytes name args x) a)) (startLeaves w t bytes name args x)) (sym q)
-            (subst (λ (n : ℕ). Good w t n (record { func = startedFunction w t bytes name args x; call = none } ∷ []) (startLeaves w t bytes name args x)) l
-            (p .begun name args x q));
+              subst (λ (a : Started). Good w t m (ledgerOf (rows t) es (startEvents (startedFunction w t bytes name args x) a)) (startLeaves w t bytes name args x)) (sym q)
+              (subst (λ (n : ℕ). Good w t n (record { func = startedFunction w t bytes name args x; call = none } ∷ []) (startLeaves w t bytes name args x)) l
+              (p .begun name args x q));
           whole = ap startBroke q;
         }
 
@@ -163,7 +165,7 @@ module _ (w : Width) (t : Tables) (bytes : List ℕ) (p : Parts w t bytes) where
         go (Refused k) q =
             record {
               good =
-                subst (λ (a : Started). Good w t m (ledgerOf (rows t) es (startEvents (startedFunction w t bytes name args x) a)) (begunBy w t bytes name args x a)) (sym q) g;
+                  subst (λ (a : Started). Good w t m (ledgerOf (rows t) es (startEvents (startedFunction w t bytes name args x) a)) (begunBy w t bytes name args x a)) (sym q) g;
               whole = ap startBroke q;
             }
         go (Unsound b) q = absurd (p .unbroken name args x b q)
@@ -191,16 +193,16 @@ module _ (w : Width) (t : Tables) (bytes : List ℕ) (p : Parts w t bytes) where
     pub list-good : (cs : List Turn) (es : Ledger) (x : World) → AllLong m cs → Good w t m es x → ListGood es x cs
     unfolding AllLong NoneBroken eventsAfter worldAfter refusalsAfter ledgerOf
     list-good [] es x a g = record { good = g; whole = tt }
-    list-good (c ∷ cs) es x (l , a) g =
+    list-good (c ∷ cs) es x (l, a) g =
         behind (turn-good c es x l g) (list-good cs (ledgerOf (rows t) es (turnOn w t bytes c x .events)) (turnOn w t bytes c x .world) a (turn-good c es x l g .good))
       where
         behind : TurnGood (turnOn w t bytes c x) es → ListGood (ledgerOf (rows t) es (turnOn w t bytes c x .events)) (turnOn w t bytes c x .world) cs → ListGood es x (c ∷ cs)
         behind h r =
             record {
               good =
-                subst (λ (us : Ledger). Good w t m us (worldAfter w t bytes (turnOn w t bytes c x .world) cs))
-                (sym (ledger-both t es (turnOn w t bytes c x .events) (eventsAfter w t bytes (turnOn w t bytes c x .world) cs))) (r .good);
-              whole = (h .whole , r .whole);
+                  subst (λ (us : Ledger). Good w t m us (worldAfter w t bytes (turnOn w t bytes c x .world) cs))
+                  (sym (ledger-both t es (turnOn w t bytes c x .events) (eventsAfter w t bytes (turnOn w t bytes c x .world) cs))) (r .good);
+              whole = (h .whole, r .whole);
             }
 
   -- ---- the demand
@@ -214,8 +216,9 @@ module _ (w : Width) (t : Tables) (bytes : List ℕ) (p : Parts w t bytes) where
 
       behind : TurnGood (length (x .memory)) (turnOn w t bytes first x) [] → Sound w t (ledgerOf (rows t) [] (eventsAfter w t bytes x (first ∷ cs))) (worldAfter w t bytes x (first ∷ cs))
           × NoneBroken (refusalsAfter w t bytes x (first ∷ cs))
-      behind h =
-          (subst (λ (us : Ledger). Sound w t us (worldAfter w t bytes (turnOn w t bytes first x .world) cs))
-          (sym (ledger-both t [] (turnOn w t bytes first x .events) (eventsAfter w t bytes (turnOn w t bytes first x .world) cs)))
-          (good-sound (length (x .memory)) _ _ (list-good (length (x .memory)) cs _ _ a (h .good) .good))
-          , (h .whole , list-good (length (x .memory)) cs _ _ a (h .good) .whole))
+      behind h = (
+        subst (λ (us : Ledger). Sound w t us (worldAfter w t bytes (turnOn w t bytes first x .world) cs))
+            (sym (ledger-both t [] (turnOn w t bytes first x .events) (eventsAfter w t bytes (turnOn w t bytes first x .world) cs)))
+            (good-sound (length (x .memory)) _ _ (list-good (length (x .memory)) cs _ _ a (h .good) .good)),
+        (h .whole, list-good (length (x .memory)) cs _ _ a (h .good) .whole),
+      )

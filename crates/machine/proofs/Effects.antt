@@ -34,7 +34,7 @@ use Rattle.machine.proofs.Kept.{on-read}
 
 -- ---- expressions
 
-unfoldable StopSome : Worked → Type 0
+unfoldable pub StopSome : Worked → Type 0
 StopSome (Value v top) = Unit {0}
 StopSome (Stop k) = 0 < k
 
@@ -123,33 +123,33 @@ module _ (w : Width) (f : ℕ → Row) (c : ℕ) (x : World) where
   unfolding Fine
   fine-full = omega arith
 
-  fine-goes : (n : ℕ) → Fine x (goesTo w f c x n)
+  pub fine-goes : (n : ℕ) → Fine x (goesTo w f c x n)
   unfolding Fine goesTo goingOn
-  fine-goes n = (refl , refl)
+  fine-goes n = (refl, refl)
 
   fine-keeps : (top i : ℕ) (vs : List ℕ) → Fine x (keeps w f c x top i vs)
   unfolding Fine keeps goingOn
-  fine-keeps top i vs = (refl , refl)
+  fine-keeps top i vs = (refl, refl)
 
   fine-stores : (top a : ℕ) (bs : List ℕ) → Fine x (stores w f c x top a bs)
   unfolding Fine stores goingOn
-  fine-stores top a bs = (refl , store-length (x .memory) a bs)
+  fine-stores top a bs = (refl, store-length (x .memory) a bs)
 
-  fine-block : Fine x (blockOf w f c x)
+  pub fine-block : Fine x (blockOf w f c x)
   unfolding blockOf
   fine-block = fine-keeps _ _ _
 
-  fine-end-block : Fine x (endBlockOf w f c x)
+  pub fine-end-block : Fine x (endBlockOf w f c x)
   unfolding endBlockOf
   fine-end-block = fine-keeps _ _ _
 
-  fine-test : Fine x (testOf w f c x)
+  pub fine-test : Fine x (testOf w f c x)
   unfolding testOf
   fine-test =
       on-read (Fine x) _ (stops 32) _ fine-stop
       (λ a. on-read (Fine x) _ (stops 32) _ fine-stop (λ b. fine-goes _))
 
-  fine-assigned : (r : Worked) → StopSome r → Fine x (assigned w f c x r)
+  pub fine-assigned : (r : Worked) → StopSome r → Fine x (assigned w f c x r)
   unfolding StopSome assigned Fine
   fine-assigned (Value v top) h = fine-keeps top _ _
   fine-assigned (Stop k) h = h
@@ -159,36 +159,36 @@ module _ (w : Width) (f : ℕ → Row) (c : ℕ) (x : World) where
   fine-assigned-at (Value v top) h = fine-stores top _ _
   fine-assigned-at (Stop k) h = h
 
-  some-worked : StopSome (workedOf w f c x)
+  pub some-worked : StopSome (workedOf w f c x)
   unfolding workedOf
   some-worked = some-eval w (x .stack) (x .machine .frame) (x .memory) (x .machine .top) _ _
 
-  fine-set-at : Fine x (setAtOf w f c x)
+  pub fine-set-at : Fine x (setAtOf w f c x)
   unfolding setAtOf
   fine-set-at = either-true (Fine x) _ _ _ (λ e. fine-assigned-at (workedOf w f c x) some-worked) (λ e. fine-stop)
 
-  fine-set-byte : (vs : Words) → Fine x (setByteBy w f c x vs)
+  pub fine-set-byte : (vs : Words) → Fine x (setByteBy w f c x vs)
   unfolding setByteBy
   fine-set-byte (words vs) = either-true (Fine x) _ _ _ (λ e. fine-stores _ _ _) (λ e. fine-stop)
   fine-set-byte bad = fine-stop
 
-  fine-set-word : (vs : Words) → Fine x (setWordBy w f c x vs)
+  pub fine-set-word : (vs : Words) → Fine x (setWordBy w f c x vs)
   unfolding setWordBy
   fine-set-word (words vs) = either-true (Fine x) _ _ _ (λ e. fine-stores _ _ _) (λ e. fine-stop)
   fine-set-word bad = fine-stop
 
   fine-call-by : (vs : Words) → Fine x (callBy w f c x vs)
   unfolding callBy Fine movedTo
-  fine-call-by (words vs) = either (Fine x) _ _ _ _ (λ e. fine-full) (λ e. (refl , refl))
+  fine-call-by (words vs) = either (Fine x) _ _ _ _ (λ e. fine-full) (λ e. (refl, refl))
   fine-call-by bad = fine-stop
 
-  fine-call : Fine x (callOf w f c x)
+  pub fine-call : Fine x (callOf w f c x)
   unfolding callOf
   fine-call = either-eq (Fine x) _ 7 _ _ (λ e. either-true (Fine x) _ _ _ (λ d. fine-call-by _) (λ d. fine-stop)) (λ e. fine-call-by _)
 
-  fine-tail-call : (vs : Words) → Fine x (tailCallBy w f c x vs)
+  pub fine-tail-call : (vs : Words) → Fine x (tailCallBy w f c x vs)
   unfolding tailCallBy Fine movedTo
-  fine-tail-call (words vs) = either (Fine x) _ _ _ _ (λ e. fine-full) (λ e. (refl , refl))
+  fine-tail-call (words vs) = either (Fine x) _ _ _ _ (λ e. fine-full) (λ e. (refl, refl))
   fine-tail-call bad = fine-stop
 
   -- ---- returns
@@ -205,7 +205,7 @@ module _ (w : Width) (f : ℕ → Row) (c : ℕ) (x : World) where
   numbered-returned (Value v top) h = numbered-to v _
   numbered-returned (Stop k) h = h
 
-  numbered-return : Numbered (returnOf w f c x)
+  pub numbered-return : Numbered (returnOf w f c x)
   unfolding returnOf
   numbered-return =
       either-eq Numbered _ 2 _ _ (λ e. numbered-returned (Value 0 0) (some-value 0 0))

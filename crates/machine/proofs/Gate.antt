@@ -63,11 +63,11 @@ unfoldable pub Low : ℕ → List ℕ → Type 0
 Low c [] = Unit {0}
 Low c (i ∷ is) = (i < c) × Low c is
 
-low-none : (c : ℕ) → Low c []
+pub low-none : (c : ℕ) → Low c []
 unfolding Low
 low-none c = tt
 
-low-cons : (c i : ℕ) (is : List ℕ) → i < c → Low c is → Low c (i ∷ is)
+pub low-cons : (c i : ℕ) (is : List ℕ) → i < c → Low c is → Low c (i ∷ is)
 unfolding Low
 low-cons c i is h a = (h, a)
 
@@ -77,7 +77,7 @@ low-both c [] js a b = b
 low-both c (i ∷ is) js a b = (a .0, low-both c is js (a .1) b)
 
 -- no bad row is found
-lowest-none : (p : ℕ → Bool) (c : ℕ) → ((i : ℕ) → i < c → p i ≡ false) → (is : List ℕ) → Low c is → lowest p is ≡ No
+pub lowest-none : (p : ℕ → Bool) (c : ℕ) → ((i : ℕ) → i < c → p i ≡ false) → (is : List ℕ) → Low c is → lowest p is ≡ No
 unfolding Low lowest
 lowest-none p c k [] a = refl
 lowest-none p c k (i ∷ is) a = ifTrue-no (lower i (lowest p is)) (lowest p is) (k i (a .0)) ∙ lowest-none p c k is (a .1)

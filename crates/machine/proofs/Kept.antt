@@ -305,9 +305,9 @@ module _ (w : Width) (t : Tables) (good : WellFormed t) (e : Entry) (es : Ledger
           (λ z.
           let a : x .machine .frame + rows t b .a ≡ (x .machine .frame + rows t (x .machine .next) .a) + 0 = omega (arith, ap (λ (y : ℕ). rows t y .a) z) in
           let v : getD (storeFrom (x .stack) (x .machine .frame + rows t (x .machine .next) .a) (x .machine .top ∷ replicate (rows t (x .machine .next) .b) 0)) (x .machine .frame + rows t b .a) 0 ≡ x .machine .top =
-              ap (λ (y : ℕ). getD (storeFrom (x .stack) (x .machine .frame + rows t (x .machine .next) .a) (x .machine .top ∷ replicate (rows t (x .machine .next) .b) 0)) y 0) a
-              ∙ store-at (x .stack) (x .machine .frame + rows t (x .machine .next) .a) (x .machine .top ∷ replicate (rows t (x .machine .next) .b) 0) 0
-              (omega (arith, own, block-within t good (x .machine .next) (i .frame .within) k, i .ends, i .lent)) (omega arith) in
+          ap (λ (y : ℕ). getD (storeFrom (x .stack) (x .machine .frame + rows t (x .machine .next) .a) (x .machine .top ∷ replicate (rows t (x .machine .next) .b) 0)) y 0) a
+          ∙ store-at (x .stack) (x .machine .frame + rows t (x .machine .next) .a) (x .machine .top ∷ replicate (rows t (x .machine .next) .b) 0) 0
+          (omega (arith, own, block-within t good (x .machine .next) (i .frame .within) k, i .ends, i .lent)) (omega arith) in
           omega (arith, i .top))
           (λ z u.
           store-most (x .stack) (x .machine .frame + rows t (x .machine .next) .a) (x .machine .top ∷ replicate (rows t (x .machine .next) .b) 0) (x .machine .frame + rows t b .a) (length (x .memory))

@@ -14,4 +14,6 @@ pub mod Causes
 pub mod Listed
 pub mod Effects
 pub mod Lists
+pub mod Stepped
 pub mod Claimed
+pub mod Demanded

@@ -54,7 +54,7 @@ module _ (w : Width) (t : Tables) (x : World) where
 pub data Good (w : Width) (t : Tables) (m : ℕ) : Ledger → World → Type 0 where
   runs : (e : Entry) (es : Ledger) (x : World) → length (x .memory) ≡ m → x .machine .state ≡ Running → Invariant w t e es x → Good w t m (e ∷ es) x
   stopsAt : (e : Entry) (es : Ledger) (x : World) (k i : ℕ) → length (x .memory) ≡ m → x .machine .state ≡ Stopped k i → Invariant w t e es x
-    → StopSound w t (e ∷ es) x k i → Good w t m (e ∷ es) x
+      → StopSound w t (e ∷ es) x k i → Good w t m (e ∷ es) x
   ends : (x : World) (v : ℕ) → length (x .memory) ≡ m → x .machine .state ≡ Finished v → x .machine .used ≡ 0 → Good w t m [] x
 
 -- what is proved of single statements and starts
@@ -65,13 +65,13 @@ pub record Parts (w : Width) (t : Tables) (bytes : List ℕ) : Type 0 where
   pub full : (e : Entry) (es : Ledger) (x : World) → Invariant w t e es x → stackFull w t (e ∷ es) x ≡ true → causeIn w t (e ∷ es) x ≡ 33
   pub fullOnly : (e : Entry) (es : Ledger) (x : World) → Invariant w t e es x → causeIn w t (e ∷ es) x ≡ 33 → stackFull w t (e ∷ es) x ≡ true
   pub kept : (e : Entry) (es : Ledger) (x y : World) → x .machine .state ≡ Running → Invariant w t e es x → effectOf w (rows t) (t .count) x ≡ leaves y
-    → Good w t (length (x .memory)) (countedIn (rows t) (x .machine .next) (e ∷ es)) y
+      → Good w t (length (x .memory)) (countedIn (rows t) (x .machine .next) (e ∷ es)) y
   pub sums : (e : Entry) (es : Ledger) (x : World) → Invariant w t e es x → x .machine .used ≡ sumOf (rows t) (e ∷ es)
   pub begun : (name args : List ℕ) (x : World) → startOf w t bytes name args x ≡ Begun
-    → Good w t (length (x .memory)) (record { func = startedFunction w t bytes name args x; call = none } ∷ []) (startLeaves w t bytes name args x)
+      → Good w t (length (x .memory)) (record { func = startedFunction w t bytes name args x; call = none } ∷ []) (startLeaves w t bytes name args x)
   pub unbroken : (name args : List ℕ) (x : World) (b : Broken) → startOf w t bytes name args x ≡ Unsound b → ⊥
   -- a stop's number is no 0
-  pub numbered : (e : Entry) (es : Ledger) (x : World) (k : ℕ) → Invariant w t e es x → effectOf w (rows t) (t .count) x ≡ stops k → 0 < k
+  pub numbered : (e : Entry) (es : Ledger) (x : World) (k : ℕ) → x .machine .state ≡ Running → Invariant w t e es x → effectOf w (rows t) (t .count) x ≡ stops k → 0 < k
 
 -- ---- state and memory's bytes do not matter to the invariant, nor the state to the causes
 
@@ -116,6 +116,14 @@ module _ (x : World) where
   unfolding effected
   effected-machine k = refl
 
+  pub effected-stack : (k : ℕ) → effected x (stops k) .world .stack ≡ x .stack
+  unfolding effected
+  effected-stack k = refl
+
+  pub effected-memory : (k : ℕ) → effected x (stops k) .world .memory ≡ x .memory
+  unfolding effected
+  effected-memory k = refl
+
   pub effected-count : (y : World) → effected x (leaves y) .count ≡ 1
   unfolding effected
   effected-count y = refl
@@ -130,13 +138,13 @@ module _ (w : Width) (t : Tables) (bytes : List ℕ) (p : Parts w t bytes) where
   runs-as e es x s i = step-running w t x s (p .gate e es x i)
 
   -- a stopped statement leaves a good world
-  stop-good : (m : ℕ) (e : Entry) (es : Ledger) (x : World) (k : ℕ) → length (x .memory) ≡ m → Invariant w t e es x
+  stop-good : (m : ℕ) (e : Entry) (es : Ledger) (x : World) (k : ℕ) → length (x .memory) ≡ m → x .machine .state ≡ Running → Invariant w t e es x
       → effectOf w (rows t) (t .count) x ≡ stops k → Good w t m (e ∷ es) (effected x (stops k) .world)
   unfolding effected stopped runningWith causeIn firstCause meetingsOf readsOf stopOf
-  stop-good m e es x k l i q =
+  stop-good m e es x k l s i q =
       stopsAt e es (effected x (stops k) .world) k (x .machine .next) l refl (with-state w t e es x i (Stopped k (x .machine .next)) (x .memory) refl)
       (record {
-        listed = subst Listed (sym met) (p .listed (e ∷ es) x (subst (λ (n : ℕ). 0 < n) met (p .numbered e es x k i q)));
+        listed = subst Listed (sym met) (p .listed (e ∷ es) x (subst (λ (n : ℕ). 0 < n) met (p .numbered e es x k s i q)));
         at = refl;
         then = x .memory;
         long = refl;
@@ -160,7 +168,7 @@ module _ (w : Width) (t : Tables) (bytes : List ℕ) (p : Parts w t bytes) where
       where
         go : (f : Effect) → effectOf w (rows t) (t .count) x ≡ f → Good w t m (e ∷ es) (stepOf w t x .world)
         go (stops k) q =
-            subst (λ (y : After). Good w t m (e ∷ es) (y .world)) (sym (runs-as e es x s i ∙ ap (effected x) q)) (stop-good m e es x k l i q)
+            subst (λ (y : After). Good w t m (e ∷ es) (y .world)) (sym (runs-as e es x s i ∙ ap (effected x) q)) (stop-good m e es x k l s i q)
         go (leaves y) q =
             absurd
             (let c : stepOf w t x .count ≡ 1 = ap (λ (y : After). y .count) (runs-as e es x s i ∙ ap (effected x) q) ∙ effected-count x y in omega (arith, c, z))
@@ -195,11 +203,11 @@ module _ (w : Width) (t : Tables) (bytes : List ℕ) (p : Parts w t bytes) where
     run-good (suc b) es x g =
         elim (ℕ-discrete (stepOf w t x .count) 0) [
           | yes z ↦ record {
-              good =
+            good =
                 subst (λ (vs : List Event). Good w t m (ledgerOf (rows t) es vs) (runOf w t (suc b) x .world)) (sym (ifEq-yes [] (counted (x .machine .next) ∷ eventsOf w t b (stepOf w t x .world)) z))
                 (subst (λ (y : After). Good w t m es (y .world)) (sym (ifEq-yes (stepOf w t x) (counting 1 (runOf w t b (stepOf w t x .world))) z)) (step-zero es x g z));
-              whole = ap (λ (y : After). y .broken) (ifEq-yes (stepOf w t x) (counting 1 (runOf w t b (stepOf w t x .world))) z) ∙ step-whole es x g;
-            }
+            whole = ap (λ (y : After). y .broken) (ifEq-yes (stepOf w t x) (counting 1 (runOf w t b (stepOf w t x .world))) z) ∙ step-whole es x g;
+          }
           | no z ↦ onward z (run-good b (countedIn (rows t) (x .machine .next) es) (stepOf w t x .world) (step-one es x g z))
         ]
       where
@@ -207,8 +215,8 @@ module _ (w : Width) (t : Tables) (bytes : List ℕ) (p : Parts w t bytes) where
         onward z r =
             record {
               good =
-                subst (λ (vs : List Event). Good w t m (ledgerOf (rows t) es vs) (runOf w t (suc b) x .world)) (sym (ifEq-no [] (counted (x .machine .next) ∷ eventsOf w t b (stepOf w t x .world)) z))
-                (subst (λ (y : After). Good w t m (ledgerOf (rows t) (countedIn (rows t) (x .machine .next) es) (eventsOf w t b (stepOf w t x .world))) (y .world))
-                (sym (ifEq-no (stepOf w t x) (counting 1 (runOf w t b (stepOf w t x .world))) z)) (r .good));
+                  subst (λ (vs : List Event). Good w t m (ledgerOf (rows t) es vs) (runOf w t (suc b) x .world)) (sym (ifEq-no [] (counted (x .machine .next) ∷ eventsOf w t b (stepOf w t x .world)) z))
+                  (subst (λ (y : After). Good w t m (ledgerOf (rows t) (countedIn (rows t) (x .machine .next) es) (eventsOf w t b (stepOf w t x .world))) (y .world))
+                  (sym (ifEq-no (stepOf w t x) (counting 1 (runOf w t b (stepOf w t x .world))) z)) (r .good));
               whole = ap (λ (y : After). y .broken) (ifEq-no (stepOf w t x) (counting 1 (runOf w t b (stepOf w t x .world))) z) ∙ r .whole;
             }

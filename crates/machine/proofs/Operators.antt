@@ -41,7 +41,7 @@ stopIn (Stop k) = k
 
 -- one number, or a greater one
 pub next : (P : ℕ → Type 0) (a e : ℕ) → a ≤ e → P a → (suc a ≤ e → P e) → P e
-next P a e h p f = elim (ℕ-discrete a e) [ | yes q ↦ subst P q p | no q ↦ f (omega arith) ]
+next P a e h p f = elim (ℕ-discrete a e) [ yes q ↦ subst P q p | no q ↦ f (omega arith) ]
 
 -- ---- the first cause
 
@@ -71,7 +71,7 @@ module _ (w : Width) (m s : ℕ) where
       elim (ℕ-discrete (causeOf w m s u) 0) [
         | yes h ↦ first-later u (us ++ vs) h ∙ first-both us vs ∙ sym (ap (λ (k : ℕ). ifEq k 0 (firstOf w m s vs) k) (first-later u us h))
         | no h ↦ ifEq-no (firstOf w m s (us ++ vs)) (causeOf w m s u) h
-          ∙ sym (ap (λ (k : ℕ). ifEq k 0 (firstOf w m s vs) k) (ifEq-no (firstOf w m s us) (causeOf w m s u) h) ∙ ifEq-no (firstOf w m s vs) (causeOf w m s u) h)
+            ∙ sym (ap (λ (k : ℕ). ifEq k 0 (firstOf w m s vs) k) (ifEq-no (firstOf w m s us) (causeOf w m s u) h) ∙ ifEq-no (firstOf w m s vs) (causeOf w m s u) h)
       ]
 
   pub word-good : (a : ℕ) → wordGood w m a ≡ true → causeOf w m s (wordAt a) ≡ 0
@@ -176,11 +176,11 @@ module _ (w : Width) (m : List ℕ) (l top x y : ℕ) where
   agrees-35 = shift-cause top _ _ ∙ sym (first-one w (length m) l (shiftsBy y))
 
   agrees-36 : Agrees 36
-  unfolding Agrees applied operatorMeets ifEq ifLt causeOf reserved byteOf byteGood fetchOf wordGood 
+  unfolding Agrees applied operatorMeets ifEq ifLt causeOf reserved byteOf byteGood fetchOf wordGood
   agrees-36 = reserve-cause (roundUp w top) (roundUp w top + x) (ltb (length m) (roundUp w top + x)) ∙ sym (first-one w (length m) l (reservesTo (roundUp w top + x)))
 
   agrees-37 : Agrees 37
-  unfolding Agrees applied operatorMeets ifEq ifLt causeOf reserved byteOf byteGood fetchOf wordGood 
+  unfolding Agrees applied operatorMeets ifEq ifLt causeOf reserved byteOf byteGood fetchOf wordGood
   agrees-37 = reserve-cause (roundUp w top) (roundUp w top + bytesOf w * x) (ltb (length m) (roundUp w top + bytesOf w * x)) ∙ sym (first-one w (length m) l (reservesTo (roundUp w top + bytesOf w * x)))
 
   agrees-38 : Agrees 38
@@ -192,11 +192,11 @@ module _ (w : Width) (m : List ℕ) (l top x y : ℕ) where
   agrees-39 = div-cause top (word.quotient (bitsOf w) x y) (eqb y 0) (eqb x (2 ^ (bitsOf w - 1))) (eqb y (2 ^ bitsOf w - 1)) ∙ sym (first-one w (length m) l (divides x y))
 
   agrees-40 : Agrees 40
-  unfolding Agrees applied operatorMeets ifEq ifLt causeOf reserved byteOf byteGood fetchOf wordGood 
+  unfolding Agrees applied operatorMeets ifEq ifLt causeOf reserved byteOf byteGood fetchOf wordGood
   agrees-40 = good-cause _ _ _ ∙ sym (first-one w (length m) l (byteAt (byteAddress w x y)))
 
   agrees-41 : Agrees 41
-  unfolding Agrees applied operatorMeets ifEq ifLt causeOf reserved byteOf byteGood fetchOf wordGood 
+  unfolding Agrees applied operatorMeets ifEq ifLt causeOf reserved byteOf byteGood fetchOf wordGood
   agrees-41 = fetched-cause top _ _ ∙ sym (first-one w (length m) l (wordAt (wordAddress w x y)))
 
   agrees-42 : Agrees 42
@@ -300,7 +300,7 @@ module _ (e : ℕ) (h0 : e ≡ 0 → ⊥) (h1 : e ≡ 1 → ⊥) (h2 : e ≡ 2 �
 
   operator-low : 33 ≤ e
   unfolding isOperator
-  operator-low = elim (decLt e 33) [ | yes q ↦ true-false (sym operator-is ∙ ifLt-yes false (ltb e 52) q) | no q ↦ omega arith ]
+  operator-low = elim (decLt e 33) [ yes q ↦ true-false (sym operator-is ∙ ifLt-yes false (ltb e 52) q) | no q ↦ omega arith ]
 
   operator-high : e < 52
   unfolding isOperator
@@ -361,7 +361,7 @@ module _ (w : Width) (st : List ℕ) (s : ℕ) (m : List ℕ) (l top : ℕ) wher
       elim (ℕ-discrete e 1) [
         | yes h ↦ subst (λ (k : ℕ). EvalAgrees k os) (sym h) (subst (EvalAgrees 1) (sym (q ∙ ap (λ (k : ℕ). take k (o ∷ p ∷ rest)) (uses-plain n e h))) (eval-plain o))
         | no h1 ↦ let a : 33 ≤ e = operator-low e h0 h1 h2 g in let b : e < 52 = operator-high e h0 h1 h2 g in
-          least-either e a b
-          (λ h. subst (EvalAgrees e) (sym (q ∙ ap (λ (k : ℕ). take k (o ∷ p ∷ rest)) (uses-operator e a b n ∙ h))) (eval-one e a b o h))
-          (λ h. subst (EvalAgrees e) (sym (q ∙ ap (λ (k : ℕ). take k (o ∷ p ∷ rest)) (uses-operator e a b n ∙ h))) (eval-two e a b o p h))
+            least-either e a b
+            (λ h. subst (EvalAgrees e) (sym (q ∙ ap (λ (k : ℕ). take k (o ∷ p ∷ rest)) (uses-operator e a b n ∙ h))) (eval-one e a b o h))
+            (λ h. subst (EvalAgrees e) (sym (q ∙ ap (λ (k : ℕ). take k (o ∷ p ∷ rest)) (uses-operator e a b n ∙ h))) (eval-two e a b o p h))
       ]

@@ -89,10 +89,10 @@ module _ (t : Tables) (good : WellFormed t) (n : ℕ) (h : n < t .count) where
           let k : labelsOf t (x .i) .kind ≡ 5 = eqb-true _ _ (both-left (eqb (labelsOf t (x .i) .kind) 5) (eqb (labelsOf t (x .i) .number) (rows t n .a)) (x .passes)) in
           let v : labelsOf t (x .i) .number ≡ rows t n .a = eqb-true _ _ (both-right (eqb (labelsOf t (x .i) .kind) 5) (eqb (labelsOf t (x .i) .number) (rows t n .a)) (x .passes)) in
           let a : both (ltb (labelsOf t (x .i) .number) (t .count)) (ifTrue (isFunctionLabel (labelsOf t (x .i) .kind)) (eqb (rows t (labelsOf t (x .i) .number) .kind) 1) (all (line (x .i)))) ≡ true =
-              sym (ifTrue-no (leb (labelsOf t (x .i) .number) (t .dataLength)) _ (ap isData k ∙ no-data)) ∙ names-at t good (x .i) (x .below) in
+          sym (ifTrue-no (leb (labelsOf t (x .i) .number) (t .dataLength)) _ (ap isData k ∙ no-data)) ∙ names-at t good (x .i) (x .below) in
           let b : all (line (x .i)) ≡ true =
-              sym (ifTrue-no (eqb (rows t (labelsOf t (x .i) .number) .kind) 1) (all (line (x .i))) (ap isFunctionLabel k ∙ no-function-label))
-              ∙ both-right (ltb (labelsOf t (x .i) .number) (t .count)) (ifTrue (isFunctionLabel (labelsOf t (x .i) .kind)) (eqb (rows t (labelsOf t (x .i) .number) .kind) 1) (all (line (x .i)))) a in
+          sym (ifTrue-no (eqb (rows t (labelsOf t (x .i) .number) .kind) 1) (all (line (x .i))) (ap isFunctionLabel k ∙ no-function-label))
+          ∙ both-right (ltb (labelsOf t (x .i) .number) (t .count)) (ifTrue (isFunctionLabel (labelsOf t (x .i) .kind)) (eqb (rows t (labelsOf t (x .i) .number) .kind) 1) (all (line (x .i)))) a in
           eqb-false _ _ (not-true _ (all-at (line (x .i)) 1 b (omega arith))) (ap (λ (y : ℕ). rows t y .kind) v ∙ d)
 
 -- ---- open blocks

@@ -49,6 +49,8 @@ pub record StepSound (w : Width) (t : Tables) (es : Ledger) (x : World) : Type 0
   -- meets."
   pub counts : causeIn w t es x ≡ 0 → stepOf w t x .count ≡ 1
   pub stops : 0 < causeIn w t es x → stepOf w t x .world .machine ≡ stopped (x .machine) (causeIn w t es x)
+  pub still : 0 < causeIn w t es x → stepOf w t x .world .stack ≡ x .stack
+  pub kept : 0 < causeIn w t es x → stepOf w t x .world .memory ≡ x .memory
   pub uncounted : 0 < causeIn w t es x → stepOf w t x .count ≡ 0
   pub listed : 0 < causeIn w t es x → Listed (causeIn w t es x)
   -- "The stack stop comes exactly when a call's or tail call's arguments are read and that sum with the new frame, for a tail call less
