@@ -1,0 +1,11 @@
+pub mod Access
+pub mod Operands
+pub mod Expressions
+pub mod Frames
+pub mod Broken
+pub mod Step
+pub mod Start
+pub mod Causes
+pub mod Ledger
+pub mod Play
+pub mod Claim
