@@ -1,5 +1,4 @@
 -- The table "Orders to get right": each field is a row, or a part of one, and holds by computation.
--- Row 2 comes with the machine.
 -- Assumes nothing.
 use mathlib.Core.Path.{_≡_, refl}
 use mathlib.Core.List.{List, [], _∷_}
@@ -12,6 +11,9 @@ use Rattle.lexer.specs.Lex.{lexOf, accepted}
 use Rattle.listing.specs.Listing.{listOf}
 use Rattle.listing.specs.Cases.{case1, case1-page, empty-page}
 use Rattle.listing.proofs.Examples.{case1-listed, empty-listed}
+use Rattle.soundness.specs.Program.{programOf}
+use Rattle.demand.specs.CaseTwo.{case1-check, CaseTwo}
+use Rattle.demand.proofs.CaseTwo.{case-two}
 use Rattle.orders.specs.Lexing.{text-two}
 use Rattle.word.specs.Word.{addOf, divOf, modOf, bsrOf, asrOf, shlOf}
 
@@ -26,6 +28,8 @@ quoted first next text = record { kind = 9; first = first; next = next; value = 
 pub record Orders : Type 0 where
   -- "(1) the page above": case 1 of the lister, from the bytes of its source
   pub row1 : listOf case1 ≡ case1-page
+  -- "(2) `top` with 30 gives 42 in 3 steps; 6 stack words suffice, 5 give 23": on the tables and data that the check of case 1 leaves
+  pub row2 : CaseTwo (programOf case1-check) (case1-check .bytes)
   -- "(3) empty source: `accepted 0 0 0`"
   pub row3 : listOf [] ≡ empty-page
   -- "(4) `add 2147483647 1` is -2147483648"
@@ -45,4 +49,4 @@ pub record Orders : Type 0 where
 
 pub orders : Orders
 unfolding addOf divOf modOf bsrOf asrOf shlOf
-orders = record { row1 = case1-listed; row3 = empty-listed; row4 = refl; row5-div = refl; row5-mod = refl; row6-bsr = refl; row6-asr = refl; row7 = text-two; row8 = refl }
+orders = record { row1 = case1-listed; row2 = case-two; row3 = empty-listed; row4 = refl; row5-div = refl; row5-mod = refl; row6-bsr = refl; row6-asr = refl; row7 = text-two; row8 = refl }
