@@ -487,6 +487,36 @@ p20 =
     ((3 ∷ 0 ∷ 0 ∷ 1 ∷ []) ∷ (4 ∷ 3 ∷ 0 ∷ 1 ∷ []) ∷ [])
     ((103 ∷ []) ∷ (102 ∷ []) ∷ []) 0
 
+-- section functions
+-- g: function
+-- block
+-- let x auto-bytes 8
+-- return x
+-- end block
+-- end function
+-- export f
+-- f: function
+-- call g
+-- let a auto-bytes 4
+-- return a
+-- end function
+abbrev p21 : Tables
+p21 =
+    program
+    ((1 ∷ 0 ∷ 0 ∷ 0 ∷ 5 ∷ [])
+    ∷ (3 ∷ 0 ∷ 0 ∷ 1 ∷ 3 ∷ 1 ∷ [])
+    ∷ (5 ∷ 0 ∷ 1 ∷ 2 ∷ 4 ∷ 0 ∷ 36 ∷ 0 ∷ 1 ∷ 0 ∷ 0 ∷ 1 ∷ 8 ∷ [])
+    ∷ (13 ∷ 0 ∷ 1 ∷ 2 ∷ 0 ∷ 0 ∷ 1 ∷ 0 ∷ 1 ∷ 0 ∷ 0 ∷ 2 ∷ 4 ∷ [])
+    ∷ (4 ∷ 0 ∷ 1 ∷ 1 ∷ 3 ∷ [])
+    ∷ (2 ∷ [])
+    ∷ (1 ∷ 6 ∷ 6 ∷ 0 ∷ 4 ∷ [])
+    ∷ (11 ∷ 6 ∷ 6 ∷ 7 ∷ [])
+    ∷ (5 ∷ 6 ∷ 6 ∷ 7 ∷ 3 ∷ 0 ∷ 36 ∷ 0 ∷ 1 ∷ 0 ∷ 0 ∷ 1 ∷ 4 ∷ [])
+    ∷ (13 ∷ 6 ∷ 6 ∷ 7 ∷ 0 ∷ 0 ∷ 1 ∷ 0 ∷ 1 ∷ 0 ∷ 0 ∷ 2 ∷ 3 ∷ [])
+    ∷ (2 ∷ 6 ∷ 6 ∷ []) ∷ [])
+    ((3 ∷ 0 ∷ 0 ∷ 1 ∷ []) ∷ (4 ∷ 6 ∷ 0 ∷ 1 ∷ []) ∷ [])
+    ((103 ∷ []) ∷ (102 ∷ []) ∷ []) 0
+
 -- ---- what they come to: program, data, name, arguments, stack words, memory bytes, budget
 
 run-case2 : ran p1 (12 ∷ 0 ∷ 0 ∷ 0 ∷ []) (116 ∷ 111 ∷ 112 ∷ []) (30 ∷ []) 6 4 3 ≡ came (Finished 42) 3 0
@@ -600,3 +630,7 @@ run-calls = refl
 run-setat-bad : ran p20 ([]) (102 ∷ []) ([]) 8 8 99 ≡ came (Stopped 32 4) 0 3
 unfolding m1.ifLt m1.ifEq m1.ifTrue m2.sameList m2.clearedFrom m2.overlay m3.freshOf m4.words m4.firstOf m4.isNamed m4.isNumber m4.entryNamed m4.entryOf m4.numberOf m4.leastOperands m4.mostOperands m5.wordBytes m6.addOf m6.subOf m6.mulOf m6.divOf m6.modOf m6.shlOf m6.bsrOf m6.asrOf m6.rolOf m6.rorOf m6.andOf m6.orOf m6.xorOf m6.notOf m6.ltOf m6.gtOf m6.geOf m6.leOf m6.eqOf m6.neOf m7.expressionListed m7.inFunction m7.sizeAt m7.operandFault m7.addressListed m7.kindFault m7.targetFault m7.calleeFault m7.sizeFault m7.ownWord m7.hasWord m7.wordFault m7.operandsFault m7.addressFault m7.rowFault m7.labelFault m7.countFault m7.tablesFault m8.labelAt m8.isData m8.isFunctionLabel m9.behind m9.openBefore m9.groundIn m9.funcIn m9.scopeIn m9.upIn m9.isListed m9.mayStand m9.followsJump m9.stands m9.allClosed m9.isArm m9.isEndIf m9.nextArm m9.endIfOf m9.pastArm m9.targetOf m9.hasTarget m9.depthOf m9.encloses m10.operandOf m10.operandKind m10.operandNumber m10.hasExpression m10.isTest m10.isOperator m10.isCall m10.expressionUses m10.usedBy m10.operandAt m10.slots m10.rowFrom m10.rowAt m10.slotWords m10.encode m11.all m11.some m11.allOf m11.someOf m11.allBelow m11.someBelow m11.countBelow m11.greatestBelow m11.firstFrom m12.byteAddress m12.wordAddress m12.byteGood m12.wordGood m12.wordFrom m12.loadOf m12.storeFrom m13.lower m13.lowest m13.orElse m13.nextBad m13.frameEnds m13.rowsUsed m13.recordGood m13.stepBroken m13.numbersBelow m13.startBroken m14.roundUp m14.reserved m14.answered m14.fetched m14.byteOf m14.applied m14.evalOf m14.holds m15.mark m15.frameWords m15.isFirst m15.isReturnCall m15.isReturn m15.isCalling m15.calledFrom m15.headGood m15.passesOn m15.leavesGood m15.rowsLeft m15.landingOf m16.isAt m16.numberIn m16.fetchOf m16.readOf m16.withWord m16.onRead m16.readAll m17.exportsAs m17.exportOf m17.startAnswer m17.startWorld m17.startBy m17.begunBy m17.startOf m17.startLeaves m18.stopOf m18.goingOn m18.movedTo m18.ended m18.stopped m18.goesTo m18.keeps m18.stores m18.blockOf m18.endBlockOf m18.testOf m18.workedOf m18.assigned m18.assignedAt m18.setAtOf m18.setByteBy m18.setWordBy m18.argumentsOf m18.callBy m18.callOf m18.tailCallBy m18.handedTo m18.handedBy m18.returned m18.returnOf m18.effectOf m18.idle m18.effected m18.gated m18.inState m18.stepOf m18.counting m18.runOf
 run-setat-bad = refl
+
+run-return-top : ran p21 ([]) (102 ∷ []) ([]) 9 8 99 ≡ came (Finished 0) 6 0
+unfolding m1.ifLt m1.ifEq m1.ifTrue m2.sameList m2.clearedFrom m2.overlay m3.freshOf m4.words m4.firstOf m4.isNamed m4.isNumber m4.entryNamed m4.entryOf m4.numberOf m4.leastOperands m4.mostOperands m5.wordBytes m6.addOf m6.subOf m6.mulOf m6.divOf m6.modOf m6.shlOf m6.bsrOf m6.asrOf m6.rolOf m6.rorOf m6.andOf m6.orOf m6.xorOf m6.notOf m6.ltOf m6.gtOf m6.geOf m6.leOf m6.eqOf m6.neOf m7.expressionListed m7.inFunction m7.sizeAt m7.operandFault m7.addressListed m7.kindFault m7.targetFault m7.calleeFault m7.sizeFault m7.ownWord m7.hasWord m7.wordFault m7.operandsFault m7.addressFault m7.rowFault m7.labelFault m7.countFault m7.tablesFault m8.labelAt m8.isData m8.isFunctionLabel m9.behind m9.openBefore m9.groundIn m9.funcIn m9.scopeIn m9.upIn m9.isListed m9.mayStand m9.followsJump m9.stands m9.allClosed m9.isArm m9.isEndIf m9.nextArm m9.endIfOf m9.pastArm m9.targetOf m9.hasTarget m9.depthOf m9.encloses m10.operandOf m10.operandKind m10.operandNumber m10.hasExpression m10.isTest m10.isOperator m10.isCall m10.expressionUses m10.usedBy m10.operandAt m10.slots m10.rowFrom m10.rowAt m10.slotWords m10.encode m11.all m11.some m11.allOf m11.someOf m11.allBelow m11.someBelow m11.countBelow m11.greatestBelow m11.firstFrom m12.byteAddress m12.wordAddress m12.byteGood m12.wordGood m12.wordFrom m12.loadOf m12.storeFrom m13.lower m13.lowest m13.orElse m13.nextBad m13.frameEnds m13.rowsUsed m13.recordGood m13.stepBroken m13.numbersBelow m13.startBroken m14.roundUp m14.reserved m14.answered m14.fetched m14.byteOf m14.applied m14.evalOf m14.holds m15.mark m15.frameWords m15.isFirst m15.isReturnCall m15.isReturn m15.isCalling m15.calledFrom m15.headGood m15.passesOn m15.leavesGood m15.rowsLeft m15.landingOf m16.isAt m16.numberIn m16.fetchOf m16.readOf m16.withWord m16.onRead m16.readAll m17.exportsAs m17.exportOf m17.startAnswer m17.startWorld m17.startBy m17.begunBy m17.startOf m17.startLeaves m18.stopOf m18.goingOn m18.movedTo m18.ended m18.stopped m18.goesTo m18.keeps m18.stores m18.blockOf m18.endBlockOf m18.testOf m18.workedOf m18.assigned m18.assignedAt m18.setAtOf m18.setByteBy m18.setWordBy m18.argumentsOf m18.callBy m18.callOf m18.tailCallBy m18.handedTo m18.handedBy m18.returned m18.returnOf m18.effectOf m18.idle m18.effected m18.gated m18.inState m18.stepOf m18.counting m18.runOf
+run-return-top = refl
