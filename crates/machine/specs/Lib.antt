@@ -9,3 +9,4 @@ pub mod Causes
 pub mod Ledger
 pub mod Play
 pub mod Claim
+pub mod Lent

@@ -1,4 +1,5 @@
 // The word machine: what a read, an expression, a return, a step and a start may come to.
+use limits::Machine;
 
 // An operand's word, or stop 32.
 pub enum Read {
@@ -37,4 +38,17 @@ pub enum Started {
     Begun,
     Refused(u32),
     Unsound(Broken),
+}
+
+// What a step or a run gives back: the record, the steps counted, refusal 35.
+pub struct Outcome {
+    pub machine: Machine,
+    pub count: u64,
+    pub broken: Broken,
+}
+
+// What a start gives back: the record and the answer.
+pub struct Opening {
+    pub machine: Machine,
+    pub answer: Started,
 }
