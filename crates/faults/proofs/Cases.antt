@@ -192,7 +192,7 @@ pub ruleset address-ways = (address-operand, address-unlisted, address-other)
 
 -- ---- the operands of a row, by a loop over its slots
 
-slot-at : (t : List ℕ) (at i : ℕ) → i < 8 → getD (slots t at) i Unlisted ≡ operandAt t (at + 11 + i * 2)
+pub slot-at : (t : List ℕ) (at i : ℕ) → i < 8 → getD (slots t at) i Unlisted ≡ operandAt t (at + 11 + i * 2)
 unfolding slots
 slot-at t at zero h = let e : at + 11 ≡ at + 11 + 0 = omega arith in ap (operandAt t) e
 slot-at t at (suc zero) h = let e : at + 13 ≡ at + 11 + 2 = omega arith in ap (operandAt t) e
@@ -204,7 +204,7 @@ slot-at t at (suc (suc (suc (suc (suc (suc zero)))))) h = let e : at + 23 ≡ at
 slot-at t at (suc (suc (suc (suc (suc (suc (suc zero))))))) h = let e : at + 25 ≡ at + 11 + 14 = omega arith in ap (operandAt t) e
 slot-at t at (suc (suc (suc (suc (suc (suc (suc (suc i)))))))) h = absurd (omega arith)
 
-slots-long : (t : List ℕ) (at : ℕ) → length (slots t at) ≡ 8
+pub slots-long : (t : List ℕ) (at : ℕ) → length (slots t at) ≡ 8
 unfolding slots
 slots-long t at = refl
 

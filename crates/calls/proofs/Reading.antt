@@ -1,0 +1,212 @@
+-- The operands of a row: those of its expression, and the arguments of a call by a loop over the slots.
+-- Assumes nothing.
+use mathlib.Core.Path.{_≡_, refl, sym, _∙_, ap, subst}
+use mathlib.Core.Bool.{Bool, true, false}
+use mathlib.Core.List.{List, [], _∷_, _++_, append-assoc, append-nil}
+use Prim.Native.Nat.{ℕ, zero, suc, _+_, _-_, _*_, _<_, _≤_, min}
+use native.Mathlib.Omega.{arith}
+use native.Mathlib.Nat.{not-suc-le-zero}
+use native.Mathlib.Decide.{ℕ-discrete, decLt}
+use lib.ListN.{length, getD, set, take, drop, length-set, drop-of-length-le}
+use lib.Seq.{take-suc, drop-cons, take-set-le, getD-set-same, take-all, length-take-le, getD-take}
+use lib.Dec.{eqb, ltb}
+use borrow.Author.Tests.{eq-eqb, ne-eqb, ltb-true}
+use Rattle.prelude.specs.Choice.{pick, ifEq, ifLt, ifTrue}
+use Rattle.prelude.specs.Lists.{zeros}
+use Rattle.prelude.proofs.Choice.{true-false, ifEq-yes, ifEq-no, ifTrue-yes, either}
+use Rattle.limits.specs.declared.Width.the-variants.{Bits32}
+use Rattle.limits.specs.declared.Machine.{Machine}
+use Rattle.vocabulary.specs.Words.{words, firstOf, isNumber, entryOf, leastOperands}
+use Rattle.tables.specs.Layout.{plain, callExpression}
+use Rattle.tables.specs.Tests.{given, allBelow}
+use Rattle.tables.specs.Statement.{Row, hasExpression, isOperator, expressionUses, usedBy, operandAt, slots, rowFrom, rowAt}
+use Rattle.tables.specs.Faults.{expressionListed}
+use Rattle.tables.proofs.Each.{below-at, given-then}
+use Rattle.tables.specs.declared.Operand.{Operand}
+use Rattle.tables.specs.declared.Operand.the-variants.{Unlisted}
+use Rattle.faults.proofs.Cases.{slot-at, slots-long}
+use Rattle.machine.specs.Operands as machine
+use Rattle.machine.specs.Operands.{Words, bad, withWord, readOf, onRead, readAll}
+use Rattle.machine.specs.Expressions.{evalOf}
+use Rattle.machine.specs.Step.{workedOf, argumentsOf}
+use Rattle.machine.specs.Lent.{world}
+use Rattle.machine.specs.declared.Read.{Read}
+use Rattle.machine.specs.declared.Read.the-variants.{Got, Bad}
+use Rattle.machine.specs.declared.Worked.{Worked}
+use Rattle.calls.specs.Outcomes.{slotRead, wordsIn, Expressed, Calls}
+
+-- ---- the expression of a row
+
+-- every operator has an operand: over the whole table
+some-operand : allBelow (λ e. given (isOperator e) (ltb 0 (leastOperands e))) 52 ≡ true
+unfolding allBelow isOperator leastOperands entryOf firstOf isNumber words ifEq ifLt
+some-operand = refl
+
+operator-low : (e : ℕ) → isOperator e ≡ true → e < 52
+unfolding isOperator
+operator-low e h = either (λ (b : Bool). b ≡ true → e < 52) e 33 false (ltb e 52) (λ l q. omega arith) (λ l q. ltb-true e 52 q) h
+
+has-operand : (e : ℕ) → isOperator e ≡ true → 0 < leastOperands e
+has-operand e h =
+    ltb-true 0 (leastOperands e)
+    (given-then (isOperator e) (ltb 0 (leastOperands e)) (below-at (λ e. given (isOperator e) (ltb 0 (leastOperands e))) 52 e some-operand (operator-low e h)) h)
+
+module _ (st : List ℕ) (s : ℕ) (m : List ℕ) (top e : ℕ) (a b : Operand) (os : List Operand) where
+  plain-first : e ≡ 1 → evalOf Bits32 st s m top e (a ∷ b ∷ []) ≡ evalOf Bits32 st s m top e (take 1 (a ∷ b ∷ os))
+  unfolding evalOf ifEq
+  plain-first h = rw (eq-eqb _ _ h)
+
+  firsts : (n : ℕ) → 0 < n → n ≡ leastOperands e → evalOf Bits32 st s m top e (a ∷ b ∷ []) ≡ evalOf Bits32 st s m top e (take n (a ∷ b ∷ os))
+  unfolding evalOf ifEq
+  firsts zero h l = absurd (not-suc-le-zero h)
+  firsts (suc zero) h l = rw (← l)
+  firsts (suc (suc n)) h l = refl
+
+abbrev usedAt : List ℕ → ℕ → ℕ
+usedAt t n = usedBy (rowAt t n .kind) (rowAt t n .expr) (rowAt t n .count)
+
+module _ (k e n : ℕ) (h : hasExpression k ≡ true) where
+  used-plain : e ≡ 1 → usedBy k e n ≡ 1
+  unfolding usedBy expressionUses ifTrue ifEq
+  used-plain d = rw (h, eq-eqb _ _ d)
+
+  used-operator : (e ≡ 1 → ⊥) → (e ≡ 2 → ⊥) → isOperator e ≡ true → usedBy k e n ≡ leastOperands e
+  unfolding usedBy expressionUses ifTrue ifEq
+  used-operator p q d = rw (h, ne-eqb _ _ p, ne-eqb _ _ q, d)
+
+  is-operator : expressionListed k e ≡ true → (e ≡ 0 → ⊥) → (e ≡ 1 → ⊥) → (e ≡ 2 → ⊥) → isOperator e ≡ true
+  unfolding expressionListed ifEq
+  is-operator l p q r = rw (ne-eqb _ _ p, ne-eqb _ _ q, ne-eqb _ _ r) at l
+
+module _ (t st m : List ℕ) (c : ℕ) (r : Machine) where
+  abbrev n : ℕ
+  n = r .next
+
+  abbrev first : Operand
+  first = operandAt t (n * 27 + 11)
+
+  abbrev second : Operand
+  second = operandAt t (n * 27 + 13)
+
+  row-operands : Expressed (rowAt t n) → evalOf Bits32 st (r .frame) m (r .top) (rowAt t n .expr) (first ∷ second ∷ [])
+      ≡ evalOf Bits32 st (r .frame) m (r .top) (rowAt t n .expr) (take (usedAt t n) (slots t (n * 27)))
+  unfolding slots
+  row-operands x = elim (ℕ-discrete (rowAt t n .expr) 1) [
+    | yes d ↦
+        subst (λ (u : ℕ). evalOf Bits32 st (r .frame) m (r .top) (rowAt t n .expr) (first ∷ second ∷ []) ≡ evalOf Bits32 st (r .frame) m (r .top) (rowAt t n .expr) (take u (slots t (n * 27))))
+        (sym (used-plain (rowAt t n .kind) (rowAt t n .expr) (rowAt t n .count) (x .has) d))
+        (plain-first st (r .frame) m (r .top) (rowAt t n .expr) first second (drop 2 (slots t (n * 27))) d)
+    | no d ↦
+        let o = is-operator (rowAt t n .kind) (rowAt t n .expr) (rowAt t n .count) (x .has) (x .listed) (x .some) d (x .plain) in
+        subst (λ (u : ℕ). evalOf Bits32 st (r .frame) m (r .top) (rowAt t n .expr) (first ∷ second ∷ []) ≡ evalOf Bits32 st (r .frame) m (r .top) (rowAt t n .expr) (take u (slots t (n * 27))))
+        (sym (used-operator (rowAt t n .kind) (rowAt t n .expr) (rowAt t n .count) (x .has) d (x .plain) o))
+        (firsts st (r .frame) m (r .top) (rowAt t n .expr) first second (drop 2 (slots t (n * 27))) (leastOperands (rowAt t n .expr)) (has-operand (rowAt t n .expr) o) refl)
+  ]
+
+  pub work-row : (e : ℕ) (a b : Operand) (x : Worked) → Expressed (rowAt t (r .next)) → e ≡ rowAt t (r .next) .expr
+      → a ≡ operandAt t (r .next * 27 + 11 + 0 * 2) → b ≡ operandAt t (r .next * 27 + 11 + 1 * 2)
+      → x ≡ evalOf Bits32 st (r .frame) m (r .top) e (a ∷ b ∷ []) → x ≡ workedOf Bits32 (rowAt t) c (world r st m)
+  unfolding workedOf rowAt rowFrom
+  work-row e a b x h d p q w =
+      let i : r .next * 27 + 11 + 1 * 2 ≡ r .next * 27 + 13 = omega arith in
+      let j : r .next * 27 + 11 + 0 * 2 ≡ r .next * 27 + 11 = omega arith in
+      w
+      ∙ ap (λ (z : ℕ). evalOf Bits32 st (r .frame) m (r .top) z (a ∷ b ∷ [])) d
+      ∙ ap (λ (z : Operand). evalOf Bits32 st (r .frame) m (r .top) (rowAt t n .expr) (z ∷ b ∷ [])) (p ∙ ap (operandAt t) j)
+      ∙ ap (λ (z : Operand). evalOf Bits32 st (r .frame) m (r .top) (rowAt t n .expr) (first ∷ z ∷ [])) (q ∙ ap (operandAt t) i)
+      ∙ row-operands h
+
+-- ---- the arguments of a call
+
+unfoldable pub joined : List ℕ → Words → Words
+joined vs (machine.words ws) = machine.words (vs ++ ws)
+joined vs bad = bad
+
+abbrev argued : List ℕ → ℕ → ℕ → List Operand
+argued t n k = take k (slots t (n * 27))
+
+abbrev readOn : List ℕ → List ℕ → ℕ → List Operand → Words
+readOn st m s os = readAll Bits32 st s m os
+
+-- the first i of k arguments are read into ws
+pub record Reading (t : List ℕ) (n k : ℕ) (st : List ℕ) (s : ℕ) (m ws : List ℕ) (i : ℕ) : Type 0 where
+  pub below : i ≤ k
+  pub few : k ≤ 8
+  pub long : length ws ≡ 8
+  pub rest : joined (take i ws) (readOn st m s (drop i (argued t n k))) ≡ readOn st m s (argued t n k)
+
+join-none : (w : Words) → joined [] w ≡ w
+unfolding joined
+join-none (machine.words ws) = refl
+join-none bad = refl
+
+join-more : (vs : List ℕ) (v : ℕ) (w : Words) → joined (vs ++ (v ∷ [])) w ≡ joined vs (withWord v w)
+unfolding joined withWord
+join-more vs v (machine.words ws) = ap machine.words (append-assoc vs (v ∷ []) ws)
+join-more vs v bad = refl
+
+module _ (t : List ℕ) (n k : ℕ) (st : List ℕ) (s : ℕ) (m : List ℕ) where
+  pub reading-none : k ≤ 8 → Reading t n k st s m (zeros 8) 0
+  reading-none h = record { below = omega arith; few = h; long = refl; rest = join-none (readOn st m s (argued t n k)) }
+
+  -- the operands from i on
+  next-slot : (i : ℕ) → i < k → k ≤ 8 → drop i (argued t n k) ≡ operandAt t (n * 27 + 11 + i * 2) ∷ drop (suc i) (argued t n k)
+  next-slot i h l =
+      drop-cons (argued t n k) i Unlisted (omega (arith, length-take-le k (slots t (n * 27)) (omega (arith, slots-long t (n * 27)))))
+      ∙ ap (λ (z : Operand). z ∷ drop (suc i) (argued t n k)) (getD-take k (slots t (n * 27)) i Unlisted h ∙ slot-at t (n * 27) i (omega arith))
+
+  module _ (ws : List ℕ) (i : ℕ) (x : Read) (h : Reading t n k st s m ws i) (l : i < k) (e : x ≡ slotRead t n st s m i) where
+    step-on : readOn st m s (drop i (argued t n k)) ≡ onRead x bad (λ v. withWord v (readOn st m s (drop (suc i) (argued t n k))))
+    unfolding readAll
+    step-on = rw (next-slot i l (h .few), e)
+
+    pub reading-more : (v : ℕ) → x ≡ Got v → Reading t n k st s m (set ws i v) (i + 1)
+    unfolding onRead
+    reading-more v g =
+        let one : i + 1 ≡ suc i = omega arith in
+        record {
+          below = omega (arith, h .below);
+          few = h .few;
+          long = length-set ws i v ∙ h .long;
+          rest =
+              ap (λ (j : ℕ). joined (take j (set ws i v)) (readOn st m s (drop j (argued t n k)))) one
+              ∙ ap (λ (z : List ℕ). joined z (readOn st m s (drop (suc i) (argued t n k))))
+              (take-suc (set ws i v) i 0 (omega (arith, length-set ws i v, h .long, h .few, l))
+              ∙ ap (λ (z : List ℕ). z ++ (getD (set ws i v) i 0 ∷ [])) (take-set-le i ws i v (omega arith))
+              ∙ ap (λ (z : ℕ). take i ws ++ (z ∷ [])) (getD-set-same ws i v 0 (omega (arith, h .long, h .few, l))))
+              ∙ join-more (take i ws) v (readOn st m s (drop (suc i) (argued t n k)))
+              ∙ ap (joined (take i ws)) (sym (step-on ∙ ap (λ (z : Read). onRead z bad (λ v. withWord v (readOn st m s (drop (suc i) (argued t n k))))) g))
+              ∙ h .rest;
+        }
+
+    pub reading-stops : x ≡ Bad → wordsIn false ws k ≡ readAll Bits32 st s m (take k (slots t (n * 27)))
+    unfolding ifTrue joined onRead
+    reading-stops g =
+        ap (joined (take i ws)) (sym (step-on ∙ ap (λ (z : Read). onRead z bad (λ v. withWord v (readOn st m s (drop (suc i) (argued t n k))))) g)) ∙ h .rest
+
+  pub reading-done : (ws : List ℕ) (i : ℕ) → Reading t n k st s m ws i → k ≤ i → wordsIn true ws k ≡ readAll Bits32 st s m (take k (slots t (n * 27)))
+  unfolding ifTrue joined readAll
+  reading-done ws i h l =
+      let same : i ≡ k = omega (arith, h .below, l) in
+      let all : drop i (argued t n k) ≡ [] = drop-of-length-le (argued t n k) {i = i} (omega (arith, length-take-le k (slots t (n * 27)) (omega (arith, slots-long t (n * 27), h .few)), l)) in
+      ap machine.words (sym (append-nil (take k ws)))
+      ∙ ap (λ (j : ℕ). joined (take j ws) (readOn st m s [])) (sym same)
+      ∙ ap (λ (z : List Operand). joined (take i ws) (readOn st m s z)) (sym all)
+      ∙ h .rest
+
+pub ruleset reading = (reading-none, reading-more, reading-stops, reading-done)
+
+-- a call's operands are its arguments
+pub arguments-are : (t : List ℕ) (c : ℕ) (r : Machine) (st m : List ℕ) (b : Bool) (ws : List ℕ) (k : ℕ) → Calls (rowAt t (r .next)) c
+    → k ≡ min (rowAt t (r .next) .count) 8 → wordsIn b ws k ≡ readAll Bits32 st (r .frame) m (take k (slots t (r .next * 27)))
+    → wordsIn b ws k ≡ argumentsOf Bits32 (rowAt t) c (world r st m)
+unfolding argumentsOf rowAt rowFrom
+arguments-are t c r st m b ws k h e w =
+    w ∙ ap (λ (z : List Operand). readAll Bits32 st (r .frame) m z)
+    (ap (λ (j : ℕ). take j (slots t (r .next * 27))) e ∙ take-min (rowAt t (r .next) .count) (slots t (r .next * 27)) (slots-long t (r .next * 27)) ∙ ap (λ (j : ℕ). take j (slots t (r .next * 27))) (sym (h .used)))
+  where
+    take-min : (j : ℕ) (l : List Operand) → length l ≡ 8 → take (min j 8) l ≡ take j l
+    take-min j l q = elim (decLt j 8) [
+      | yes p ↦ let d : min j 8 ≡ j = omega arith in ap (λ (i : ℕ). take i l) d
+      | no p ↦ take-all (min j 8) l (omega arith) ∙ sym (take-all j l (omega arith))
+    ]

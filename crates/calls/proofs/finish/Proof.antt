@@ -1,0 +1,21 @@
+use Rattle.machine.specs.Step.{ended}
+use Rattle.machine.specs.Frames.{mark}
+use native.Mathlib.Omega.{arith}
+use mathlib.Core.Path.{_≡_, refl, sym, _∙_, ap, subst}
+use borrow.Author.Needs.{needs}
+use Rattle.calls.proofs.finish.Statement.{statement}
+use Rattle.calls.proofs.finish.Tie as tie
+use Rattle.calls.proofs.finish.Reads as reads
+use Rattle.calls.proofs.finish.Lts as lts
+use Rattle.calls.proofs.count_one.Reads as count-one-reads
+
+count-one-requires : tie.Need-count-one-requires
+count-one-requires c κs = search needs
+
+returns : tie.Need-returns
+unfolding ended mark
+returns c =
+    cc
+
+pub finish-spec : {M : Type 1} → statement M
+finish-spec = tie.close (tie.spec count-one-requires returns)
