@@ -1,4 +1,4 @@
-pub mod Examples
+pub mod Answers
 pub mod Invariant
 pub mod Chain
 pub mod Gate
