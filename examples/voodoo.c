@@ -1,0 +1,379 @@
+/*
+ * Checks and runs files of Voodoo rules: a host of include/voodoo.h.
+ *
+ *     voodoo check FILE
+ *     voodoo run [--steps N] [--stack WORDS] [--memory BYTES] FILE NAME [ARGUMENT..]
+ *
+ * Exit status 0: accepted, or run to its end; 1: refused; 2: wrong use, or a file that
+ * cannot be read; 3: stopped; 4: the steps are used up.
+ */
+#include "voodoo.h"
+
+#include <errno.h>
+#include <inttypes.h>
+#include <stdbool.h>
+#include <stdio.h>
+#include <stdlib.h>
+#include <string.h>
+
+enum { OK = 0, REFUSED = 1, MISUSED = 2, STOPPED = 3, USED_UP = 4 };
+
+/* One byte more than a source may have, so that a longer file is seen to be longer. */
+static uint8_t source[VOODOO_SOURCE_BYTES + 1];
+static size_t source_size;
+
+/* The checked program. */
+static uint32_t tokens[VOODOO_TOKEN_WORDS];
+static uint32_t statements[VOODOO_STATEMENT_WORDS];
+static uint32_t labels[VOODOO_LABEL_WORDS];
+static uint8_t names[VOODOO_NAME_BYTES];
+static uint8_t data[VOODOO_DATA_BYTES];
+static uint32_t checked[VOODOO_RESULT_WORDS];
+
+/* A run of it. */
+static uint32_t record[VOODOO_RECORD_WORDS];
+static uint32_t stack[VOODOO_STACK_WORDS];
+static uint8_t memory[VOODOO_MEMORY_BYTES];
+static uint32_t result[VOODOO_RESULT_WORDS];
+
+static const char *const meanings[] = {
+    [VOODOO_SOURCE_TOO_LONG] = "source longer than 16,384 bytes",
+    [VOODOO_NO_TOKEN] = "no token can be read here",
+    [VOODOO_BAD_ESCAPE] = "bad escape",
+    [VOODOO_OPEN_STRING] = "string not closed on its line",
+    [VOODOO_BIG_INTEGER] = "integer out of range",
+    [VOODOO_LONG_NAME] = "name longer than 64 bytes",
+    [VOODOO_BAD_SHAPE] = "unknown word, or not its operands",
+    [VOODOO_NOT_HERE] = "not allowed here",
+    [VOODOO_LEFT_OUT] = "left out of this Voodoo",
+    [VOODOO_UNKNOWN_NAME] = "unknown name",
+    [VOODOO_WRONG_KIND] = "name of the wrong kind",
+    [VOODOO_SECOND_NAME] = "second name in one scope",
+    [VOODOO_ARGUMENT_COUNT] = "wrong number of arguments",
+    [VOODOO_LIMIT] = "a limit is passed",
+    [VOODOO_BIG_DATA] = "more than 32,768 bytes of data",
+    [VOODOO_SHORT_BUFFER] = "a buffer is too short",
+    [VOODOO_LATE_EXPORT] = "export after the first use",
+    [VOODOO_NO_FUNCTION] = "no exported function of that name",
+    [VOODOO_START_COUNT] = "wrong number of arguments",
+    [VOODOO_MEMORY_LENGTH] = "memory shorter than the data, or over 65,536 bytes",
+    [VOODOO_STACK_LENGTH] = "stack shorter than the first frame, or over 16,384 words",
+    [VOODOO_STOP_DIVISION] = "division by zero, or a quotient that has no word",
+    [VOODOO_STOP_SHIFT] = "negative shift count",
+    [VOODOO_STOP_ADDRESS] = "address outside of memory, or no multiple of 4",
+    [VOODOO_STOP_STACK] = "stack full",
+    [VOODOO_STOP_AUTO] = "auto memory full",
+    [VOODOO_BROKEN] = "broken tables or record",
+};
+
+static const char usage[] =
+    "usage: voodoo check FILE\n"
+    "       voodoo run [--steps N] [--stack WORDS] [--memory BYTES] FILE NAME [ARGUMENT..]\n"
+    "\n"
+    "check says whether a file of rules is accepted, with its counts and labels, or shows\n"
+    "where it is refused. run checks it, starts the exported function NAME with arguments\n"
+    "from -2147483648 to 4294967295 and prints the word it returns, as a signed number.\n"
+    "\n"
+    "  --steps N        the most statements to take (default 100000000)\n"
+    "  --stack WORDS    the stack lent to the run (default and most 16384)\n"
+    "  --memory BYTES   the memory lent to the run (default and most 65536)\n"
+    "\n"
+    "exit status: 0 accepted or run to its end, 1 refused, 2 wrong use or a file that\n"
+    "cannot be read, 3 stopped, 4 steps used up\n";
+
+/* ---- places in the source */
+
+enum { BEFORE = 60, AROUND = 76 }; /* bytes shown before the place, and of a line in all */
+
+/* A byte that goes on a character of UTF-8 takes no column of its own. */
+static bool goes_on(uint8_t b)
+{
+    return b >= 0x80 && b < 0xc0;
+}
+
+static void print_line(size_t from, size_t to)
+{
+    for (size_t i = from; i < to; i++) {
+        uint8_t b = source[i];
+        putchar(b == '\r' ? ' ' : (b < 32 && b != '\t') || b == 127 ? '?' : b);
+    }
+}
+
+static void print_caret(size_t from, size_t place)
+{
+    for (size_t i = from; i < place; i++)
+        if (!goes_on(source[i]))
+            putchar(source[i] == '\t' ? '\t' : ' ');
+    printf("^\n");
+}
+
+/* The line that holds a place, or what is around it in a long one, and a caret. */
+static void show_line(size_t start, size_t place)
+{
+    size_t end = place;
+    while (end < source_size && source[end] != '\n')
+        end++;
+    if (start == end)
+        return;
+    size_t from = place - start > BEFORE ? place - BEFORE : start;
+    while (from < place && goes_on(source[from]))
+        from++;
+    size_t to = end - from > AROUND ? from + AROUND : end;
+    while (to < end && goes_on(source[to]))
+        to++;
+    printf("    %s", from > start ? "..." : "");
+    print_line(from, to);
+    printf("%s\n    %s", to < end ? "..." : "", from > start ? "   " : "");
+    print_caret(from, place);
+}
+
+static void show(const char *path, size_t place, const char *what, uint32_t number, const char *meaning)
+{
+    size_t line = 1, start = 0;
+    for (size_t i = 0; i < place; i++) {
+        if (source[i] == '\n') {
+            line++;
+            start = i + 1;
+        }
+    }
+    printf("%s:%zu:%zu: %s %" PRIu32 ": %s\n", path, line, place - start + 1, what, number, meaning);
+    show_line(start, place);
+}
+
+/* Where a statement begins: the token row that names it. */
+static size_t place_of(uint32_t statement)
+{
+    for (uint32_t i = 0; i < checked[VOODOO_TOKENS]; i++) {
+        const uint32_t *row = tokens + i * VOODOO_TOKEN_ROW;
+        if (row[7] == statement + 1)
+            return row[1];
+    }
+    return source_size;
+}
+
+/* ---- check */
+
+static void print_name(uint32_t label)
+{
+    const uint8_t *name = names + label * VOODOO_NAME_ROW;
+    uint32_t length = labels[label * VOODOO_LABEL_ROW + 3];
+    for (uint32_t i = 0; i < length; i++) {
+        uint8_t b = name[i];
+        bool plain = (b >= 'a' && b <= 'z') || (b >= 'A' && b <= 'Z') || (b >= '0' && b <= '9') || b == '_' || b == '-';
+        if (plain)
+            putchar(b);
+        else
+            printf("\\x%02x", b);
+    }
+}
+
+static void print_label(uint32_t label)
+{
+    uint32_t kind = labels[label * VOODOO_LABEL_ROW];
+    uint32_t number = labels[label * VOODOO_LABEL_ROW + 1];
+    const char *exported = kind == 2 || kind == 4 ? ", exported" : "";
+    printf("  ");
+    print_name(label);
+    if (kind == 1 || kind == 2) {
+        printf(": data at %" PRIu32 "%s\n", number, exported);
+    } else if (kind == 3 || kind == 4) {
+        const uint32_t *row = statements + number * VOODOO_STATEMENT_ROW;
+        printf(": function at statement %" PRIu32 "%s; parameters %" PRIu32 ", frame words %" PRIu32 "\n", number, exported,
+               row[5], row[4]);
+    } else {
+        printf(": place at statement %" PRIu32 "\n", number);
+    }
+}
+
+static void print_accepted(const char *path)
+{
+    printf("%s: accepted\n", path);
+    printf("tokens %" PRIu32 ", statements %" PRIu32 ", labels %" PRIu32 ", bytes of data %" PRIu32 "\n", checked[VOODOO_TOKENS],
+           checked[VOODOO_STATEMENTS], checked[VOODOO_LABELS], checked[VOODOO_DATA]);
+    for (uint32_t i = 0; i < checked[VOODOO_LABELS]; i++)
+        print_label(i);
+}
+
+static int read_source(const char *path)
+{
+    FILE *file = fopen(path, "rb");
+    if (file == NULL) {
+        perror(path);
+        return MISUSED;
+    }
+    source_size = fread(source, 1, sizeof source, file);
+    bool failed = ferror(file) != 0;
+    fclose(file);
+    if (failed)
+        fprintf(stderr, "%s: cannot be read\n", path);
+    return failed ? MISUSED : OK;
+}
+
+/* Reads and checks a file; shows the place of a refusal. */
+static int check(const char *path)
+{
+    int status = read_source(path);
+    if (status != OK)
+        return status;
+    uint32_t number = voodoo_check(source, source_size, tokens, VOODOO_TOKEN_WORDS, statements, VOODOO_STATEMENT_WORDS, labels,
+                                   VOODOO_LABEL_WORDS, names, VOODOO_NAME_BYTES, data, VOODOO_DATA_BYTES, checked,
+                                   VOODOO_RESULT_WORDS);
+    if (number == VOODOO_ACCEPTED)
+        return OK;
+    size_t place = checked[VOODOO_PLACE];
+    bool open = number == VOODOO_NOT_HERE && place == source_size;
+    show(path, place, "refusal", number, open ? "the source ends while something is open" : meanings[number]);
+    return REFUSED;
+}
+
+/* ---- run */
+
+enum { ARGUMENTS = 16, BUDGET = 1000000 }; /* arguments taken; steps of one call */
+
+struct options {
+    uint64_t steps;
+    size_t stack_words;
+    size_t memory_bytes;
+};
+
+/* A whole number from `least` to `most`. */
+static bool read_number(const char *text, intmax_t least, intmax_t most, intmax_t *number)
+{
+    char *end;
+    errno = 0;
+    *number = strtoimax(text, &end, 10);
+    return errno == 0 && end != text && *end == '\0' && least <= *number && *number <= most;
+}
+
+static uint32_t start(const struct options *options, const char *name, const uint32_t *arguments, size_t count)
+{
+    return voodoo_start(statements, VOODOO_STATEMENT_WORDS, checked[VOODOO_STATEMENTS], labels, VOODOO_LABEL_WORDS,
+                        checked[VOODOO_LABELS], names, VOODOO_NAME_BYTES, checked[VOODOO_DATA], data, VOODOO_DATA_BYTES,
+                        (const uint8_t *)name, strlen(name), arguments, count, record, VOODOO_RECORD_WORDS, stack,
+                        options->stack_words, memory, options->memory_bytes, result, VOODOO_RESULT_WORDS);
+}
+
+static uint32_t run(const struct options *options, uint64_t budget)
+{
+    return voodoo_run(statements, VOODOO_STATEMENT_WORDS, checked[VOODOO_STATEMENTS], labels, VOODOO_LABEL_WORDS,
+                      checked[VOODOO_LABELS], names, VOODOO_NAME_BYTES, checked[VOODOO_DATA], budget, record,
+                      VOODOO_RECORD_WORDS, stack, options->stack_words, memory, options->memory_bytes, result,
+                      VOODOO_RESULT_WORDS);
+}
+
+static int refuse_start(const char *path, const char *name, uint32_t number)
+{
+    printf("%s: refusal %" PRIu32 ": %s: %s\n", path, number, meanings[number], name);
+    for (uint32_t i = 0; i < checked[VOODOO_LABELS]; i++)
+        if (labels[i * VOODOO_LABEL_ROW] == 4)
+            print_label(i);
+    return REFUSED;
+}
+
+/* A word as the signed number that it stands for. */
+static int64_t signed_word(uint32_t word)
+{
+    return word < UINT32_C(2147483648) ? (int64_t)word : (int64_t)word - INT64_C(4294967296);
+}
+
+/* Runs in budgets, as a host does that has other work between them. */
+static int run_on(const char *path, const struct options *options)
+{
+    uint64_t taken = 0;
+    while (taken < options->steps) {
+        uint64_t left = options->steps - taken;
+        uint32_t number = run(options, left < BUDGET ? left : BUDGET);
+        taken += voodoo_count(result);
+        if (number == VOODOO_BROKEN) {
+            printf("%s: number 35: %s\n", path, meanings[number]);
+            return STOPPED;
+        }
+        if (number != 0) {
+            show(path, place_of(result[VOODOO_PLACE]), "stop", number, meanings[number]);
+            return STOPPED;
+        }
+        if (result[VOODOO_FINISHED] == 1) {
+            printf("%" PRId64 "\n", signed_word(result[VOODOO_WORD]));
+            fflush(stdout);
+            fprintf(stderr, "%" PRIu64 " steps\n", taken);
+            return OK;
+        }
+    }
+    printf("%s: not at its end after %" PRIu64 " steps\n", path, taken);
+    return USED_UP;
+}
+
+static int run_file(const struct options *options, int count, char **words)
+{
+    uint32_t arguments[ARGUMENTS];
+    int given = count - 2;
+    if (given > ARGUMENTS) {
+        fprintf(stderr, "voodoo: more than %d arguments\n", ARGUMENTS);
+        return MISUSED;
+    }
+    for (int i = 0; i < given; i++) {
+        intmax_t number;
+        if (!read_number(words[i + 2], INT32_MIN, UINT32_MAX, &number)) {
+            fprintf(stderr, "voodoo: no word: %s\n", words[i + 2]);
+            return MISUSED;
+        }
+        arguments[i] = (uint32_t)number;
+    }
+    int status = check(words[0]);
+    if (status != OK)
+        return status;
+    uint32_t number = start(options, words[1], arguments, (size_t)given);
+    return number == 0 ? run_on(words[0], options) : refuse_start(words[0], words[1], number);
+}
+
+/* ---- the command line */
+
+static int misuse(void)
+{
+    fputs(usage, stderr);
+    return MISUSED;
+}
+
+/* Takes one option with its number; false where it is none. */
+static bool take_option(struct options *options, const char *name, const char *text)
+{
+    intmax_t number;
+    if (strcmp(name, "--steps") == 0 && read_number(text, 0, INTMAX_MAX, &number))
+        options->steps = (uint64_t)number;
+    else if (strcmp(name, "--stack") == 0 && read_number(text, 0, VOODOO_STACK_WORDS, &number))
+        options->stack_words = (size_t)number;
+    else if (strcmp(name, "--memory") == 0 && read_number(text, 0, VOODOO_MEMORY_BYTES, &number))
+        options->memory_bytes = (size_t)number;
+    else
+        return false;
+    return true;
+}
+
+static int run_command(int count, char **words)
+{
+    struct options options = {100000000, VOODOO_STACK_WORDS, VOODOO_MEMORY_BYTES};
+    while (count >= 2 && strncmp(words[0], "--", 2) == 0) {
+        if (!take_option(&options, words[0], words[1]))
+            return misuse();
+        count -= 2;
+        words += 2;
+    }
+    return count < 2 ? misuse() : run_file(&options, count, words);
+}
+
+int main(int count, char **words)
+{
+    if (count == 2 && (strcmp(words[1], "--help") == 0 || strcmp(words[1], "-h") == 0)) {
+        fputs(usage, stdout);
+        return OK;
+    }
+    if (count == 3 && strcmp(words[1], "check") == 0) {
+        int status = check(words[2]);
+        if (status == OK)
+            print_accepted(words[2]);
+        return status;
+    }
+    if (count >= 2 && strcmp(words[1], "run") == 0)
+        return run_command(count - 2, words + 2);
+    return misuse();
+}
