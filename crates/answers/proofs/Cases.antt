@@ -39,7 +39,7 @@ module _ (out : List ℕ) (i v : ℕ) where
   unfolding placed
   placed-past h = set-past out i v h
 
-overlay-none : (out : List ℕ) → out ≡ overlay [] out
+pub overlay-none : (out : List ℕ) → out ≡ overlay [] out
 unfolding overlay
 overlay-none [] = refl
 overlay-none (x ∷ xs) = ap (λ (l : List ℕ). x ∷ l) (overlay-none xs)
@@ -53,7 +53,7 @@ unfolding overlay
 overlay-one x xs y out = refl
 
 -- what a list of words written one by one leaves
-over : (x : ℕ) (xs : List ℕ) (y : ℕ) (out r : List ℕ) → r ≡ overlay xs out → x ∷ r ≡ overlay (x ∷ xs) (y ∷ out)
+pub over : (x : ℕ) (xs : List ℕ) (y : ℕ) (out r : List ℕ) → r ≡ overlay xs out → x ∷ r ≡ overlay (x ∷ xs) (y ∷ out)
 over x xs y out r e = ap (λ (l : List ℕ). x ∷ l) e ∙ sym (overlay-one x xs y out)
 
 one-put : (a : ℕ) (out : List ℕ) → set out 0 a ≡ overlay (a ∷ []) out

@@ -201,7 +201,7 @@ fn finished_word(s: State) -> u32
 {
     match s {
         State::Running => 0,
-        State::Finished(v) => v,
+        State::Finished(word) => word,
         State::Stopped { number, statement } => 0,
     }
 }

@@ -118,7 +118,7 @@ pub extern "C" fn voodoo_step(
     let x = answers::load_record(record);
     match x {
         Loaded::Fit(r) => {
-            let o = runner::step(
+            let stepped = runner::step(
                 statements,
                 count,
                 labels,
@@ -129,7 +129,7 @@ pub extern "C" fn voodoo_step(
                 stack,
                 memory,
             );
-            answers::reply_outcome(o, record, result)
+            answers::reply_outcome(stepped, record, result)
         }
         Loaded::Unfit => answers::reply_unfit(result),
     }
@@ -155,7 +155,7 @@ pub extern "C" fn voodoo_run(
     let x = answers::load_record(record);
     match x {
         Loaded::Fit(r) => {
-            let o = runner::run(
+            let ran = runner::run(
                 statements,
                 count,
                 labels,
@@ -167,7 +167,7 @@ pub extern "C" fn voodoo_run(
                 stack,
                 memory,
             );
-            answers::reply_outcome(o, record, result)
+            answers::reply_outcome(ran, record, result)
         }
         Loaded::Unfit => answers::reply_unfit(result),
     }
