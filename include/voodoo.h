@@ -1,15 +1,48 @@
 /*
- * voodoo.h - check Voodoo 1.1 rules from C.
+ * voodoo.h - check and run Voodoo 1.1 rules from C.
  *
  *     voodoo_check   reads a source text and answers either "accepted", with the
  *                    tables of the checked program and its data, or "refused",
  *                    with a number and the place of the fault.
+ *     voodoo_start   begins a run of an exported function, or refuses it.
+ *     voodoo_run     takes steps of a run, at most as many as a budget says.
+ *     voodoo_step    takes one step.
  *
- * Everything is proved: for every source and all buffers the answer and every
- * word of every buffer are those of one definition (crates/tracker/specs and
- * crates/checker/specs). The function returns for every input, allocates nothing,
- * keeps nothing between calls and calls nothing but memcpy and memset, so any
- * number of threads may call it at once, each with its own buffers.
+ * A run in slices of 1,000 steps, behind an accepted check whose result is `check`:
+ *
+ *     uint32_t record[VOODOO_RECORD_WORDS], stack[VOODOO_STACK_WORDS];
+ *     uint8_t memory[VOODOO_MEMORY_BYTES] = {0};
+ *     uint32_t result[VOODOO_RESULT_WORDS], arguments[1] = {30};
+ *
+ *     uint32_t number = voodoo_start(
+ *         statements, VOODOO_STATEMENT_WORDS, check[VOODOO_STATEMENTS],
+ *         labels, VOODOO_LABEL_WORDS, check[VOODOO_LABELS],
+ *         names, VOODOO_NAME_BYTES, check[VOODOO_DATA], data, VOODOO_DATA_BYTES,
+ *         (const uint8_t *)"top", 3, arguments, 1,
+ *         record, VOODOO_RECORD_WORDS, stack, VOODOO_STACK_WORDS,
+ *         memory, VOODOO_MEMORY_BYTES, result, VOODOO_RESULT_WORDS);
+ *     uint64_t steps = 0;
+ *     while (number == 0 && !result[VOODOO_FINISHED]) {
+ *         number = voodoo_run(
+ *             statements, VOODOO_STATEMENT_WORDS, check[VOODOO_STATEMENTS],
+ *             labels, VOODOO_LABEL_WORDS, check[VOODOO_LABELS],
+ *             names, VOODOO_NAME_BYTES, check[VOODOO_DATA], 1000,
+ *             record, VOODOO_RECORD_WORDS, stack, VOODOO_STACK_WORDS,
+ *             memory, VOODOO_MEMORY_BYTES, result, VOODOO_RESULT_WORDS);
+ *         steps += voodoo_count(result);
+ *     }
+ *     if (number == 0)
+ *         printf("%u after %llu steps\n", (unsigned)result[VOODOO_WORD], (unsigned long long)steps);
+ *     else
+ *         printf("number %u\n", (unsigned)number);
+ *
+ * Everything is proved: for all inputs and all buffers the answer and every word
+ * of every buffer are those of one definition (voodoo_check: crates/tracker/specs
+ * and crates/checker/specs; the others: crates/tracker/specs/Calls.antt over
+ * crates/machine/specs and crates/answers/specs). The functions return for every
+ * input, allocate nothing, keep nothing between calls and call nothing but memcpy
+ * and memset, so any number of threads may call them at once, each with its own
+ * buffers. Nothing checks that these declarations and the compiled code agree.
  *
  * Link target/staticlib/libtracker.a (x86-64 Linux; `rt staticlib tracker`).
  */
@@ -99,6 +132,172 @@ uint32_t voodoo_check(
     uint8_t *names,        size_t name_bytes,
     uint8_t *data,         size_t data_bytes,
     uint32_t *result,      size_t result_words);
+
+/* ---- running a checked program */
+
+#define VOODOO_RECORD_WORDS    16 /* the run record; fewer is number 35, more are not used */
+#define VOODOO_STACK_WORDS  16384 /* the longest stack: enough for what can run at all     */
+#define VOODOO_MEMORY_BYTES 65536 /* the longest memory                                    */
+
+#define VOODOO_NONE 4294967295u /* result[VOODOO_PLACE]: no place */
+
+/*
+ * The words of the record. The host keeps them from one call to the next, in this
+ * program or another, and need not look at them. Words 7 to 15 are not used: they
+ * are never read and never written.
+ */
+enum {
+    VOODOO_STATE, /* one of the states below                                   */
+    VOODOO_NEXT,  /* running, stopped: the next statement                      */
+    VOODOO_FRAME, /* running, stopped: the first stack word of the frame       */
+    VOODOO_USED,  /* stack words in use; finished: 0                           */
+    VOODOO_TOP,   /* the auto top: first byte of memory behind data and autos  */
+    VOODOO_VALUE, /* finished: the word; stopped: the number, 30 to 34; else 0 */
+    VOODOO_AT     /* stopped: the statement; else 0                            */
+};
+
+/* The states. Any other number is number 35. */
+enum {
+    VOODOO_STATE_RUNNING  = 1,
+    VOODOO_STATE_FINISHED = 2,
+    VOODOO_STATE_STOPPED  = 3
+};
+
+/*
+ * The words of `result` behind a start, a step or a run; VOODOO_NUMBER and
+ * VOODOO_PLACE are words 0 and 1, as behind a check:
+ *
+ *     VOODOO_NUMBER   0, or one of the numbers below
+ *     VOODOO_PLACE    the statement of a stop or of number 35; else VOODOO_NONE
+ */
+enum {
+    VOODOO_COUNT_LOW = 2, /* the steps that this call counted, see voodoo_count; */
+    VOODOO_COUNT_HIGH,    /* 0 behind a start                                    */
+    VOODOO_FINISHED,      /* 1: the record has finished; else 0                  */
+    VOODOO_WORD           /* finished: the word that the function returned; else 0 */
+};
+
+/* The numbers. The place is what stands in brackets. */
+enum {
+    VOODOO_NO_FUNCTION    = 20, /* start: no exported function of that name [none]     */
+    VOODOO_START_COUNT    = 21, /* start: another count of arguments [none]            */
+    VOODOO_MEMORY_LENGTH  = 22, /* start: memory shorter than the data, or over 65,536
+                                   bytes [none]                                        */
+    VOODOO_STACK_LENGTH   = 23, /* start: stack shorter than the first frame, or over
+                                   16,384 words [none]                                 */
+    VOODOO_STOP_DIVISION  = 30, /* zero divisor, or -2147483648 by -1 [the statement]  */
+    VOODOO_STOP_SHIFT     = 31, /* a negative count of a shift [the statement]         */
+    VOODOO_STOP_ADDRESS   = 32, /* outside of memory, or a word at no multiple of 4
+                                   [the statement]                                     */
+    VOODOO_STOP_STACK     = 33, /* no room for a frame [the statement]                 */
+    VOODOO_STOP_AUTO      = 34, /* no room for auto memory [the statement]             */
+    VOODOO_BROKEN         = 35  /* broken tables or record, docs/TABLES.md [the lowest
+                                   such statement, or none]                            */
+};
+
+/* The steps that the call behind `result` (at least four words) counted. */
+static inline uint64_t voodoo_count(const uint32_t *result)
+{
+    return (uint64_t)result[VOODOO_COUNT_HIGH] << 32 | result[VOODOO_COUNT_LOW];
+}
+
+/*
+ * The three functions take what an accepted check has left: `statements`, `labels`,
+ * `names` (with the lengths of these buffers), `data`, and from its result
+ *
+ *     statement_count = result[VOODOO_STATEMENTS]
+ *     label_count     = result[VOODOO_LABELS]
+ *     data_length     = result[VOODOO_DATA]
+ *
+ * and only read it. Buffers that hold anything else are safe too: what is broken in
+ * them is number 35.
+ *
+ * `record`, `stack` and `memory` belong to one run, from its start on: hand the same
+ * contents and the same lengths to each later call. The host may read and write
+ * memory between calls. `stack` and `memory` may be shorter than their limits: a run
+ * that then lacks room stops with 33, 34 or 32.
+ *
+ * In all three: `result` gets its first six words, or as many as it has; others are
+ * left as they are. The function returns result[VOODOO_NUMBER]. A record of fewer
+ * than 16 words is number 35 with no place, and but for `result` nothing changes.
+ *
+ * Each buffer is a pointer and its length: words for uint32_t, bytes for uint8_t.
+ * A pointer is valid and aligned also where the length is 0. No two buffers of a
+ * call may overlap.
+ *
+ * Each uses at most 1.6 KB of stack (measured); have 4 KB free.
+ */
+
+/*
+ * Starts the exported function `name` (its bytes as the label table has them, with no
+ * 0 at the end) with its arguments. What `record` holds does not matter.
+ *
+ *   0          the run has begun and no step is taken. Words 0 to 6 of `record` are
+ *              written. `stack` holds the first frame from word 0 on, `memory` the
+ *              data from byte 0 on; their other words and bytes are left as they are.
+ *   20 to 23,  `record`, `stack` and `memory` are left as they are. Where several
+ *   35         numbers hold, the answer is the first of 35, 20, 21, 22, 23.
+ */
+uint32_t voodoo_start(
+    const uint32_t *statements, size_t statement_words, uint32_t statement_count,
+    const uint32_t *labels,     size_t label_words,     uint32_t label_count,
+    const uint8_t *names,       size_t name_bytes,      uint32_t data_length,
+    const uint8_t *data,        size_t data_bytes,
+    const uint8_t *name,        size_t name_length,
+    const uint32_t *arguments,  size_t argument_count,
+    uint32_t *record,           size_t record_words,
+    uint32_t *stack,            size_t stack_words,
+    uint8_t *memory,            size_t memory_bytes,
+    uint32_t *result,           size_t result_words);
+
+/*
+ * Takes one step: one statement.
+ *
+ *   0, count 1         the statement is done. Words 0 to 6 of `record` are written,
+ *                      and `stack` and `memory` as the statement says. If the run
+ *                      has ended, VOODOO_FINISHED is 1 and VOODOO_WORD its word.
+ *   0, count 0         the record had finished before: it says so again, nothing
+ *                      else changes.
+ *   30 to 34, count 0  the statement could not be done. Words 0 to 6 of `record` are
+ *                      written: the state is stopped, for good. `stack` and `memory`
+ *                      are left as they are. A record that had stopped before says
+ *                      the same again, and is not written.
+ *   35, count 0        the tables or the record are broken, or its state is none of
+ *                      the three: `record`, `stack` and `memory` are left as they
+ *                      are. The same call on good tables goes on.
+ */
+uint32_t voodoo_step(
+    const uint32_t *statements, size_t statement_words, uint32_t statement_count,
+    const uint32_t *labels,     size_t label_words,     uint32_t label_count,
+    const uint8_t *names,       size_t name_bytes,      uint32_t data_length,
+    uint32_t *record,           size_t record_words,
+    uint32_t *stack,            size_t stack_words,
+    uint8_t *memory,            size_t memory_bytes,
+    uint32_t *result,           size_t result_words);
+
+/*
+ * Steps until `budget` steps are counted, the run has ended or stopped, or number 35
+ * comes: the same as so many calls of voodoo_step, and quicker.
+ *
+ *   0          the budget is used up, or the run has ended: VOODOO_FINISHED says
+ *              which. `record`, `stack` and `memory` are those behind the last step.
+ *   30 to 34   the run stopped behind the counted steps: as voodoo_step.
+ *   35         broken tables or record, found behind the counted steps: `record`,
+ *              `stack` and `memory` are those behind the last counted step.
+ *   count 0    words 0 to 6 of `record` are written only if a running record has
+ *              stopped in this call; `stack` and `memory` are left as they are. So
+ *              with a budget of 0, and on a record that had finished or stopped
+ *              before, nothing but `result` changes.
+ */
+uint32_t voodoo_run(
+    const uint32_t *statements, size_t statement_words, uint32_t statement_count,
+    const uint32_t *labels,     size_t label_words,     uint32_t label_count,
+    const uint8_t *names,       size_t name_bytes,      uint32_t data_length,
+    uint64_t budget,
+    uint32_t *record,           size_t record_words,
+    uint32_t *stack,            size_t stack_words,
+    uint8_t *memory,            size_t memory_bytes,
+    uint32_t *result,           size_t result_words);
 
 #ifdef __cplusplus
 }

@@ -2,78 +2,29 @@
 -- Assumes nothing.
 use mathlib.Core.Path.{_≡_, refl, sym, _∙_, ap, ap₂}
 use mathlib.Core.List.{List, [], _∷_}
-use Prim.Native.Nat.{ℕ, zero, suc, _+_, _%_, _<_, _≤_}
-use native.Mathlib.Omega.{arith}
-use lib.ListN.{length, set}
+use Prim.Native.Nat.{ℕ, _%_, _<_, _≤_}
+use lib.ListN.{length}
 use Rattle.prelude.specs.Lists.{overlay}
+use Rattle.prelude.proofs.Choice.{ifLt-yes, ifLt-no}
 use Rattle.checker.specs.Check.{Left, left}
 use Rattle.checker.specs.declared.Checked.{Checked}
 use Rattle.checker.specs.declared.Checked.the-variants.{Accepted, Refused}
-use Rattle.tracker.specs.Placed.{placed, threeAt}
+use Rattle.limits.specs.declared.Width.the-variants.{Bits32}
+use Rattle.limits.specs.declared.Machine.{Machine}
+use Rattle.limits.specs.Fresh.{freshOf}
+use Rattle.tables.specs.Label.{Tables}
+use Rattle.machine.specs.Step.{After, stepOf, runOf}
+use Rattle.machine.specs.Lent.{tablesOf, world}
+use Rattle.machine.specs.Lent as lent
+use Rattle.machine.specs.declared.Outcome.{Outcome}
+use Rattle.machine.specs.declared.Opening.{Opening}
+use Rattle.starter.specs.Opening.{Opened, opened, openingOf}
+use Rattle.answers.specs.Record.{recordOf}
+use Rattle.answers.specs.Reply.{Reply, reply, unfitWords, outcomeReply, openingReply}
+use Rattle.answers.specs.declared.Loaded.{Loaded}
+use Rattle.answers.specs.declared.Loaded.the-variants.{Fit, Unfit}
 use Rattle.tracker.specs.Answer.{numberOf, resultWords, Told, told, toldOf}
-
-set-past : (out : List ℕ) (i v : ℕ) → length out ≤ i → out ≡ set out i v
-set-past [] i v h = refl
-set-past (x ∷ xs) zero v h = let z : ⊥ = omega arith in absurd z
-set-past (x ∷ xs) (suc i) v h = ap (λ (l : List ℕ). x ∷ l) (set-past xs i v (omega arith))
-
-module _ (out : List ℕ) (i v : ℕ) where
-  pub placed-in : i < length out → set out i v ≡ placed out i v
-  unfolding placed
-  placed-in h = refl
-
-  pub placed-past : length out ≤ i → out ≡ placed out i v
-  unfolding placed
-  placed-past h = set-past out i v h
-
-overlay-none : (out : List ℕ) → out ≡ overlay [] out
-unfolding overlay
-overlay-none [] = refl
-overlay-none (x ∷ xs) = ap (λ (l : List ℕ). x ∷ l) (overlay-none xs)
-
-overlay-full : (xs : List ℕ) → [] ≡ overlay xs []
-unfolding overlay
-overlay-full xs = refl
-
-overlay-one : (x : ℕ) (xs : List ℕ) (y : ℕ) (out : List ℕ) → overlay (x ∷ xs) (y ∷ out) ≡ x ∷ overlay xs out
-unfolding overlay
-overlay-one x xs y out = refl
-
--- what a list of words written one by one leaves
-over : (x : ℕ) (xs : List ℕ) (y : ℕ) (out r : List ℕ) → r ≡ overlay xs out → x ∷ r ≡ overlay (x ∷ xs) (y ∷ out)
-over x xs y out r e = ap (λ (l : List ℕ). x ∷ l) e ∙ sym (overlay-one x xs y out)
-
-one-put : (a : ℕ) (out : List ℕ) → set out 0 a ≡ overlay (a ∷ []) out
-one-put a [] = overlay-full (a ∷ [])
-one-put a (x ∷ xs) = over a [] x xs xs (overlay-none xs)
-
-two-put : (a b : ℕ) (out : List ℕ) → set (set out 0 a) 1 b ≡ overlay (a ∷ b ∷ []) out
-two-put a b [] = overlay-full (a ∷ b ∷ [])
-two-put a b (x ∷ xs) = over a (b ∷ []) x xs (set xs 0 b) (one-put b xs)
-
-three-put : (a b c : ℕ) (out : List ℕ) → set (set (set out 0 a) 1 b) 2 c ≡ overlay (a ∷ b ∷ c ∷ []) out
-three-put a b c [] = overlay-full (a ∷ b ∷ c ∷ [])
-three-put a b c (x ∷ xs) = over a (b ∷ c ∷ []) x xs (set (set xs 0 b) 1 c) (two-put b c xs)
-
-four-put : (a b c d : ℕ) (out : List ℕ) → set (set (set (set out 0 a) 1 b) 2 c) 3 d ≡ overlay (a ∷ b ∷ c ∷ d ∷ []) out
-four-put a b c d [] = overlay-full (a ∷ b ∷ c ∷ d ∷ [])
-four-put a b c d (x ∷ xs) = over a (b ∷ c ∷ d ∷ []) x xs (set (set (set xs 0 b) 1 c) 2 d) (three-put b c d xs)
-
-five-put : (a b c d e : ℕ) (out : List ℕ) → set (set (set (set (set out 0 a) 1 b) 2 c) 3 d) 4 e ≡ overlay (a ∷ b ∷ c ∷ d ∷ e ∷ []) out
-five-put a b c d e [] = overlay-full (a ∷ b ∷ c ∷ d ∷ e ∷ [])
-five-put a b c d e (x ∷ xs) = over a (b ∷ c ∷ d ∷ e ∷ []) x xs (set (set (set (set xs 0 b) 1 c) 2 d) 3 e) (four-put b c d e xs)
-
-six-put : (a b c d e f : ℕ) (out : List ℕ)
-    → set (set (set (set (set (set out 0 a) 1 b) 2 c) 3 d) 4 e) 5 f ≡ overlay (a ∷ b ∷ c ∷ d ∷ e ∷ f ∷ []) out
-six-put a b c d e f [] = overlay-full (a ∷ b ∷ c ∷ d ∷ e ∷ f ∷ [])
-six-put a b c d e f (x ∷ xs) =
-    over a (b ∷ c ∷ d ∷ e ∷ f ∷ []) x xs (set (set (set (set (set xs 0 b) 1 c) 2 d) 3 e) 4 f) (five-put b c d e f xs)
-
-pub six-placed : (a b c d e f : ℕ) (out o₀ o₁ : List ℕ) → o₁ ≡ threeAt o₀ 3 d e f → o₀ ≡ threeAt out 0 a b c
-    → o₁ ≡ overlay (a ∷ b ∷ c ∷ d ∷ e ∷ f ∷ []) out
-unfolding threeAt placed
-six-placed a b c d e f out o₀ o₁ q p =
-    q ∙ ap (λ (l : List ℕ). set (set (set l 3 d) 4 e) 5 f) p ∙ six-put a b c d e f out
+use Rattle.tracker.specs.Calls.{Answered, answered, replied, unfit, outcomeAnswer, openingAnswer, stepBy, stepCall, runBy, runCall, startCall}
 
 -- ---- the answer in words
 
@@ -101,3 +52,58 @@ pub told-is : (x : Checked) (a b c d e : List ℕ) (y : Left) (number : ℕ) (ou
 unfolding toldOf
 told-is x a b c d e y number out o p q =
     ap₂ (λ (n : ℕ) (l : List ℕ). told n a b c d e l) (q .0) (q .1) ∙ ap (λ (z : Left). toldOf z out) p
+
+-- ---- start, step and run
+
+module _ (ws st m out : List ℕ) (n : ℕ) (out′ : List ℕ) where
+  -- the answer where there is no record
+  none : (n ≡ 35) × (out′ ≡ overlay unfitWords out) → answered n ws st m out′ ≡ unfit ws st m out
+  unfolding unfit
+  none q = rw (q .0, q .1)
+
+  module _ (x : Loaded) (e : x ≡ recordOf ws) (t : List ℕ) (c : ℕ) (l : List ℕ) (k : ℕ) (names : List ℕ) (d : ℕ) where
+    abbrev T : Tables
+    T = tablesOf t c l k names d
+
+    pub step-unfit : x ≡ Unfit → (n ≡ 35) × (out′ ≡ overlay unfitWords out) → answered n ws st m out′ ≡ stepCall ws st m out T
+    unfolding stepCall stepBy
+    step-unfit h q = none q ∙ ap (stepBy ws st m out T) (sym h ∙ e)
+
+    pub run-unfit : (budget : ℕ) → x ≡ Unfit → (n ≡ 35) × (out′ ≡ overlay unfitWords out) → answered n ws st m out′ ≡ runCall ws st m out T budget
+    unfolding runCall runBy
+    run-unfit budget h q = none q ∙ ap (runBy ws st m out T budget) (sym h ∙ e)
+
+    module _ (r : Machine) (h : x ≡ Fit r) (o : Outcome) (ws′ st′ m′ : List ℕ) (q : reply n ws′ out′ ≡ outcomeReply o ws out) where
+      after : (y : After) → lent.left o st′ m′ ≡ y → answered n ws′ st′ m′ out′ ≡ outcomeAnswer ws st m out y
+      unfolding outcomeAnswer
+      after y g = ap (λ (p : Reply). replied p st′ m′) q ∙ ap (outcomeAnswer ws st m out) g
+
+      pub step-fit : lent.left o st′ m′ ≡ stepOf Bits32 T (world r st m) → answered n ws′ st′ m′ out′ ≡ stepCall ws st m out T
+      unfolding stepCall stepBy
+      step-fit g = after (stepOf Bits32 T (world r st m)) g ∙ ap (stepBy ws st m out T) (sym h ∙ e)
+
+      pub run-fit : (budget : ℕ) → lent.left o st′ m′ ≡ runOf Bits32 T budget (world r st m) → answered n ws′ st′ m′ out′ ≡ runCall ws st m out T budget
+      unfolding runCall runBy
+      run-fit budget g = after (runOf Bits32 T budget (world r st m)) g ∙ ap (runBy ws st m out T budget) (sym h ∙ e)
+
+  module _ (t : List ℕ) (c : ℕ) (l : List ℕ) (k : ℕ) (names : List ℕ) (d : ℕ) (bytes name args : List ℕ) where
+    pub start-unfit : length ws < 16 → (n ≡ 35) × (out′ ≡ overlay unfitWords out)
+        → answered n ws st m out′ ≡ startCall ws st m out (tablesOf t c l k names d) bytes name args
+    unfolding startCall
+    start-unfit h q = none q ∙ sym (ifLt-yes (unfit ws st m out) _ h)
+
+    pub start-fit : (r : Machine) (o : Opening) (ws′ st′ m′ : List ℕ) → 16 ≤ length ws → r ≡ freshOf 0 0 0
+        → opened o st′ m′ ≡ openingOf Bits32 (tablesOf t c l k names d) bytes name args (world r st m)
+        → reply n ws′ out′ ≡ openingReply o ws out
+        → answered n ws′ st′ m′ out′ ≡ startCall ws st m out (tablesOf t c l k names d) bytes name args
+    unfolding startCall openingAnswer
+    start-fit r o ws′ st′ m′ h f g q =
+        ap (λ (p : Reply). replied p st′ m′) q ∙ ap (openingAnswer ws st m out) g
+        ∙ ap (λ (z : Machine). openingAnswer ws st m out (openingOf Bits32 (tablesOf t c l k names d) bytes name args (world z st m))) f
+        ∙ sym (ifLt-no (unfit ws st m out) _ h)
+
+pub ruleset steps = (step-unfit, step-fit)
+
+pub ruleset runs = (run-unfit, run-fit)
+
+pub ruleset starts = (start-unfit, start-fit)

@@ -1,43 +1,16 @@
 // What the tracker, a C program, calls.
+use answers::Loaded;
 use checker::Checked;
+use limits::Machine;
 use limits::Width;
 ghost use mathlib.Core.Path.{_≡_};
-ghost use mathlib.Core.List.{[], _∷_};
-ghost use Prim.Native.Nat.{_≤_};
 ghost use lib.ListN.{length};
 ghost use Rattle.limits.specs.declared.Width.the-variants.{Bits32};
 ghost use Rattle.prelude.specs.Lists.{overlay};
 ghost use Rattle.checker.specs.Check.{lent, checkOf};
-ghost use Rattle.tracker.specs.Placed.{placed, threeAt};
+ghost use Rattle.machine.specs.Lent.{tablesOf};
 ghost use Rattle.tracker.specs.Answer.{numberOf, resultWords, told, toldOf};
-
-// A word at a place of a buffer, if it is long enough.
-fn put_word(out: &mut [u32], i: usize, v: u32)
-    ensures { λ _. ⌜ now (out .exit) ≡ placed (now (out .entry)) i v ⌝ }
-{
-    if i < out.len() {
-        out[i] = v;
-    }
-}
-
-// Three words from a place on.
-fn put_three(out: &mut [u32], i: usize, a: u32, b: u32, c: u32)
-    requires { ⌜ i ≤ 3 ⌝ }
-    ensures { λ _. ⌜ now (out .exit) ≡ threeAt (now (out .entry)) i a b c ⌝ }
-{
-    put_word(out, i, a);
-    put_word(out, i + 1, b);
-    put_word(out, i + 2, c);
-}
-
-// Six words over the front of a buffer; gives the first.
-fn put_six(out: &mut [u32], a: u32, b: u32, c: u32, d: u32, e: u32, f: u32) -> u32
-    ensures { λ r. ⌜ (r ≡ a) × (now (out .exit) ≡ overlay (a ∷ b ∷ c ∷ d ∷ e ∷ f ∷ []) (now (out .entry))) ⌝ }
-{
-    put_three(out, 0, a, b, c);
-    put_three(out, 3, d, e, f);
-    a
-}
+ghost use Rattle.tracker.specs.Calls.{answered, startCall, stepCall, runCall};
 
 // Writes an answer in six words, and gives its number.
 fn put_answer(x: Checked, out: &mut [u32]) -> u32
@@ -49,8 +22,8 @@ fn put_answer(x: Checked, out: &mut [u32]) -> u32
             statements,
             labels,
             size,
-        } => put_six(out, 0, 0, tokens, statements, labels, size),
-        Checked::Refused { number, place } => put_six(
+        } => answers::put_six(out, 0, 0, tokens, statements, labels, size),
+        Checked::Refused { number, place } => answers::put_six(
             out,
             number,
             (place % 4294967296) as u32,
@@ -85,4 +58,117 @@ pub extern "C" fn voodoo_check(
         bytes,
     );
     put_answer(x, result)
+}
+
+// Starts the exported function of that name; include/voodoo.h says how it is called from C.
+#[no_mangle]
+pub extern "C" fn voodoo_start(
+    statements: &[u32],
+    count: u32,
+    labels: &[u32],
+    label_count: u32,
+    names: &[u8],
+    data_length: u32,
+    bytes: &[u8],
+    name: &[u8],
+    arguments: &[u32],
+    record: &mut [u32],
+    stack: &mut [u32],
+    memory: &mut [u8],
+    result: &mut [u32],
+) -> u32
+    ensures { λ r. ⌜ answered r (now («record» .exit)) (now (stack .exit)) (now (memory .exit)) (now (result .exit)) ≡ startCall (now («record» .entry)) (now (stack .entry)) (now (memory .entry)) (now (result .entry)) (tablesOf (now (statements .entry)) count (now (labels .entry)) «label_count» (now (names .entry)) «data_length») (now (bytes .entry)) (now (name .entry)) (now (arguments .entry)) ⌝ }
+{
+    if record.len() < 16 {
+        return answers::reply_unfit(result);
+    }
+    let o = starter::start(
+        statements,
+        count,
+        labels,
+        label_count,
+        names,
+        data_length,
+        bytes,
+        name,
+        arguments,
+        Machine::fresh(0, 0, 0),
+        stack,
+        memory,
+    );
+    answers::reply_opening(o, record, result)
+}
+
+// One step of the lent record; include/voodoo.h says how it is called from C.
+#[no_mangle]
+pub extern "C" fn voodoo_step(
+    statements: &[u32],
+    count: u32,
+    labels: &[u32],
+    label_count: u32,
+    names: &[u8],
+    data_length: u32,
+    record: &mut [u32],
+    stack: &mut [u32],
+    memory: &mut [u8],
+    result: &mut [u32],
+) -> u32
+    ensures { λ r. ⌜ answered r (now («record» .exit)) (now (stack .exit)) (now (memory .exit)) (now (result .exit)) ≡ stepCall (now («record» .entry)) (now (stack .entry)) (now (memory .entry)) (now (result .entry)) (tablesOf (now (statements .entry)) count (now (labels .entry)) «label_count» (now (names .entry)) «data_length») ⌝ }
+{
+    let x = answers::load_record(record);
+    match x {
+        Loaded::Fit(r) => {
+            let stepped = runner::step(
+                statements,
+                count,
+                labels,
+                label_count,
+                names,
+                data_length,
+                r,
+                stack,
+                memory,
+            );
+            answers::reply_outcome(stepped, record, result)
+        }
+        Loaded::Unfit => answers::reply_unfit(result),
+    }
+}
+
+// Steps of the lent record within a budget; include/voodoo.h says how it is called from C.
+#[no_mangle]
+pub extern "C" fn voodoo_run(
+    statements: &[u32],
+    count: u32,
+    labels: &[u32],
+    label_count: u32,
+    names: &[u8],
+    data_length: u32,
+    budget: u64,
+    record: &mut [u32],
+    stack: &mut [u32],
+    memory: &mut [u8],
+    result: &mut [u32],
+) -> u32
+    ensures { λ r. ⌜ answered r (now («record» .exit)) (now (stack .exit)) (now (memory .exit)) (now (result .exit)) ≡ runCall (now («record» .entry)) (now (stack .entry)) (now (memory .entry)) (now (result .entry)) (tablesOf (now (statements .entry)) count (now (labels .entry)) «label_count» (now (names .entry)) «data_length») budget ⌝ }
+{
+    let x = answers::load_record(record);
+    match x {
+        Loaded::Fit(r) => {
+            let ran = runner::run(
+                statements,
+                count,
+                labels,
+                label_count,
+                names,
+                data_length,
+                budget,
+                r,
+                stack,
+                memory,
+            );
+            answers::reply_outcome(ran, record, result)
+        }
+        Loaded::Unfit => answers::reply_unfit(result),
+    }
 }

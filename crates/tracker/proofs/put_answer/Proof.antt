@@ -6,7 +6,7 @@ use Rattle.tracker.proofs.put_answer.Statement.{statement}
 use Rattle.tracker.proofs.put_answer.Tie as tie
 use Rattle.tracker.proofs.put_answer.Reads as reads
 use Rattle.tracker.proofs.put_answer.Lts as lts
-use Rattle.tracker.proofs.put_six.Reads as put-six-reads
+use Rattle.answers.proofs.put_six.Reads as put-six-reads
 
 enum-known-x : tie.Need-enum-known-x
 enum-known-x c = search needs

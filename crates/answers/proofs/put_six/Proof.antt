@@ -1,12 +1,12 @@
-use Rattle.tracker.proofs.Cases.{six-placed}
+use Rattle.answers.proofs.Cases.{six-placed}
 use native.Mathlib.Omega.{arith}
 use mathlib.Core.Path.{_≡_, refl, sym, _∙_, ap, subst}
 use borrow.Author.Needs.{needs}
-use Rattle.tracker.proofs.put_six.Statement.{statement}
-use Rattle.tracker.proofs.put_six.Tie as tie
-use Rattle.tracker.proofs.put_six.Reads as reads
-use Rattle.tracker.proofs.put_six.Lts as lts
-use Rattle.tracker.proofs.put_three.Reads as put-three-reads
+use Rattle.answers.proofs.put_six.Statement.{statement}
+use Rattle.answers.proofs.put_six.Tie as tie
+use Rattle.answers.proofs.put_six.Reads as reads
+use Rattle.answers.proofs.put_six.Lts as lts
+use Rattle.answers.proofs.put_three.Reads as put-three-reads
 
 put-three-requires : tie.Need-put-three-requires
 put-three-requires c κs = search needs

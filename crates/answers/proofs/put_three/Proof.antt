@@ -1,12 +1,12 @@
-use Rattle.tracker.specs.Placed.{threeAt}
+use Rattle.answers.specs.Placed.{threeAt}
 use native.Mathlib.Omega.{arith}
 use mathlib.Core.Path.{_≡_, refl, sym, _∙_, ap, subst}
 use borrow.Author.Needs.{needs}
-use Rattle.tracker.proofs.put_three.Statement.{statement}
-use Rattle.tracker.proofs.put_three.Tie as tie
-use Rattle.tracker.proofs.put_three.Reads as reads
-use Rattle.tracker.proofs.put_three.Lts as lts
-use Rattle.tracker.proofs.put_word.Reads as put-word-reads
+use Rattle.answers.proofs.put_three.Statement.{statement}
+use Rattle.answers.proofs.put_three.Tie as tie
+use Rattle.answers.proofs.put_three.Reads as reads
+use Rattle.answers.proofs.put_three.Lts as lts
+use Rattle.answers.proofs.put_word.Reads as put-word-reads
 
 put-word-requires : tie.Need-put-word-requires
 put-word-requires c κs = search needs

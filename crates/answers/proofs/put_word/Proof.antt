@@ -1,11 +1,11 @@
-use Rattle.tracker.proofs.Cases.{placed-in, placed-past}
+use Rattle.answers.proofs.Cases.{placed-in, placed-past}
 use native.Mathlib.Omega.{arith}
 use mathlib.Core.Path.{_≡_, refl, sym, _∙_, ap, subst}
 use borrow.Author.Needs.{needs}
-use Rattle.tracker.proofs.put_word.Statement.{statement}
-use Rattle.tracker.proofs.put_word.Tie as tie
-use Rattle.tracker.proofs.put_word.Reads as reads
-use Rattle.tracker.proofs.put_word.Lts as lts
+use Rattle.answers.proofs.put_word.Statement.{statement}
+use Rattle.answers.proofs.put_word.Tie as tie
+use Rattle.answers.proofs.put_word.Reads as reads
+use Rattle.answers.proofs.put_word.Lts as lts
 
 mul-out : tie.Need-mul-out
 mul-out c = search needs
