@@ -295,7 +295,7 @@ static int run_on(const char *path, const struct options *options)
         if (result[VOODOO_FINISHED] == 1) {
             printf("%" PRId64 "\n", signed_word(result[VOODOO_WORD]));
             fflush(stdout);
-            fprintf(stderr, "%" PRIu64 " steps\n", taken);
+            fprintf(stderr, "%" PRIu64 " step%s\n", taken, taken == 1 ? "" : "s");
             return OK;
         }
     }
