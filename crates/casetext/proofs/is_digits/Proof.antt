@@ -1,0 +1,54 @@
+-- `casetext::is_digits` is safe and ends.
+-- Assumes nothing.
+use borrow.Author.Needs.{needs}
+use Prim.Native.Nat.{_≤_, _-_}
+use lib.ListN.{length}
+use Rattle.casetext.proofs.is_digits.Statement.{statement}
+use Rattle.casetext.proofs.is_digits.Tie as tie
+
+abbrev Inv-loop : tie.InvT-loop
+Inv-loop l from i₀ i =
+    i ≤ i
+
+abbrev μ-loop : tie.MeasureT-loop
+μ-loop l from i₀ i =
+    length l - i
+
+loop-holds : tie.Need-loop-holds Inv-loop μ-loop
+loop-holds c = search needs
+
+byte-at-requires : tie.Need-byte-at-requires Inv-loop μ-loop
+byte-at-requires c κs = search needs
+
+add-i : tie.Need-add-i Inv-loop μ-loop
+add-i c = search needs
+
+returns : tie.Need-returns Inv-loop μ-loop
+returns c = search needs
+
+returns-2 : tie.Need-returns-2 Inv-loop μ-loop
+returns-2 c = search needs
+
+loop-less : tie.Need-loop-less Inv-loop μ-loop
+loop-less c = search needs
+
+loop-again : tie.Need-loop-again Inv-loop μ-loop
+loop-again c = search needs
+
+returns-3 : tie.Need-returns-3 Inv-loop μ-loop
+returns-3 c = search needs
+
+pub is-digits-spec : {M : Type 1} → statement M
+is-digits-spec =
+    tie.close
+    (tie.spec
+    Inv-loop
+    μ-loop
+    loop-holds
+    byte-at-requires
+    add-i
+    returns
+    returns-2
+    loop-less
+    loop-again
+    returns-3)

@@ -1,0 +1,616 @@
+// The words of machine cases: numbers with a sign, answers as text, and the buffers that a case lends.
+use casefile::Case;
+use casefile::add_byte;
+use casefile::add_text;
+use casefile::field;
+use casefile::field_start;
+use casefile::starts_with;
+use limits::Machine;
+use limits::State;
+use machine::Broken;
+use machine::Outcome;
+use machine::Started;
+use prelude::byte_at;
+ghost use Prim.Native.Nat.{_≤_, _<_};
+ghost use lib.ListN.{length};
+
+// Sizes of the buffers of a case.
+pub struct Room {}
+
+impl Room {
+    // The most words of stack and bytes of memory that a case lends.
+    pub const STACK: usize = 16385;
+
+    pub const MEMORY: usize = 65537;
+
+    // The stack lent, behind it the stack before the last call; the same of the memory.
+    pub const TWO_STACKS: usize = 32770;
+
+    pub const TWO_MEMORIES: usize = 131074;
+
+    // Statements, behind them labels.
+    pub const ROWS: usize = 28672;
+
+    // Names, behind them data.
+    pub const BYTES: usize = 49152;
+}
+
+// An answer, or the line that expects one.
+type Text = [u8; Case::SOURCE];
+
+// Statements, behind them labels.
+type Rows = [u32; Room::ROWS];
+
+// Names, behind them data.
+type Bytes = [u8; Room::BYTES];
+
+// The stack lent, behind it the stack before the last call.
+type Stack = [u32; Room::TWO_STACKS];
+
+// The memory lent, behind it the memory before the last call.
+type Memory = [u8; Room::TWO_MEMORIES];
+
+// How many fields a line has.
+pub fn count_fields(l: &[u8]) -> u64 {
+    let mut n: u64 = 1;
+    let mut i: usize = 0;
+    while i < l.len() {
+        let c = byte_at(l, i);
+        i += 1;
+        if c == 32 {
+            n = casefile::one_more(n);
+        }
+    }
+    n
+}
+
+// Whether the field behind k blanks starts with a word.
+pub fn has_word(l: &[u8], k: u64, word: &[u8]) -> bool {
+    starts_with(&l[field_start(l, k)..], word)
+}
+
+// The place of the blank from a place on, or the end.
+pub fn word_end(l: &[u8], at: usize) -> usize
+    requires { ⌜ at ≤ length (now l) ⌝ }
+    ensures { λ r. ⌜ (at ≤ r) × (r ≤ length (now (l .entry))) ⌝ }
+{
+    let mut i = at;
+    while i < l.len() {
+        if byte_at(l, i) == 32 {
+            return i;
+        }
+        i += 1;
+    }
+    i
+}
+
+// A number below zero, modulo 2^32.
+fn negated(n: u64) -> u64 {
+    if Case::NO_NUMBER <= n {
+        return Case::NO_NUMBER;
+    }
+    (Case::NO_NUMBER - n) % Case::NO_NUMBER
+}
+
+// The number in a field, modulo 2^32 where it has a sign; NO_NUMBER or more where it is none.
+pub fn value(l: &[u8], k: u64) -> u64 {
+    let at = field_start(l, k);
+    if at < l.len() {
+        if byte_at(l, at) == 45 {
+            return negated(field(&l[at + 1..], 0));
+        }
+    }
+    field(l, k)
+}
+
+// Whether the fields from one to before another are numbers, and the last of the line.
+pub fn has_values(l: &[u8], from: u64, end: u64) -> bool {
+    if count_fields(l) != end {
+        return false;
+    }
+    let mut k = from;
+    while k < end {
+        if Case::NO_NUMBER <= value(l, k) {
+            return false;
+        }
+        k += 1;
+    }
+    true
+}
+
+// Whether a line has digits alone from a place on, and one at least.
+pub fn is_digits(l: &[u8], from: usize) -> bool {
+    let mut i = from;
+    while i < l.len() {
+        let c = byte_at(l, i);
+        i += 1;
+        if c < 48 {
+            return false;
+        }
+        if 57 < c {
+            return false;
+        }
+    }
+    from < i
+}
+
+// A budget with one more digit.
+fn with_digit(n: u64, c: u32) -> u64 {
+    if c < 48 {
+        return n;
+    }
+    if 57 < c {
+        return n;
+    }
+    if 1844674407370955161 < n {
+        return n;
+    }
+    std::num::wrapping_add_u64(n * 10, (c - 48) as u64)
+}
+
+// The number of 64 bits whose digits stand from a place on.
+pub fn long_number(l: &[u8], from: usize) -> u64 {
+    let mut n: u64 = 0;
+    let mut i = from;
+    while i < l.len() {
+        n = with_digit(n, byte_at(l, i));
+        i += 1;
+    }
+    n
+}
+
+// A number's digit of ten to some power; none before the first.
+fn add_digit(n: u64, unit: u64, text: &mut Text, size: usize) -> usize
+    requires { ⌜ 1 ≤ unit ⌝ }
+{
+    if n < unit {
+        if 1 < unit {
+            return size;
+        }
+    }
+    add_byte(text, size, (n / unit % 10) as u32 + 48)
+}
+
+// A number in decimal.
+pub fn add_number(n: u64, text: &mut Text, size: usize) -> usize {
+    let mut end = size;
+    let mut unit: u64 = 10000000000000000000;
+    while 0 < unit {
+        end = add_digit(n, unit, text, end);
+        unit = unit / 10;
+    }
+    end
+}
+
+// A blank and a number.
+pub fn add_next(n: u64, text: &mut Text, size: usize) -> usize {
+    let at = add_byte(text, size, 32);
+    add_number(n, text, at)
+}
+
+// The bytes of a word as they are.
+fn add_raw(l: &[u8], from: usize, text: &mut Text, size: usize) -> usize {
+    let mut end = size;
+    let mut i = from;
+    while i < l.len() {
+        let c = byte_at(l, i);
+        if c == 32 {
+            return end;
+        }
+        end = add_byte(text, end, c);
+        i += 1;
+    }
+    end
+}
+
+// A field: a number in decimal, another word as it is.
+fn add_field(l: &[u8], k: u64, text: &mut Text, size: usize) -> usize {
+    let n = value(l, k);
+    if n < Case::NO_NUMBER {
+        return add_number(n, text, size);
+    }
+    add_raw(l, field_start(l, k), text, size)
+}
+
+// A line with its numbers modulo 2^32.
+pub fn plain_line(l: &[u8], text: &mut Text) -> usize {
+    let count = count_fields(l);
+    let mut size = add_field(l, 0, text, 0);
+    let mut k: u64 = 1;
+    while k < count {
+        size = add_byte(text, size, 32);
+        size = add_field(l, k, text, size);
+        k += 1;
+    }
+    size
+}
+
+// The place of a 35.
+fn add_broken(b: Broken, text: &mut Text, size: usize) -> usize {
+    match b {
+        Broken::No => size,
+        Broken::At(i) => add_next(i as u64, text, size),
+        Broken::Somewhere => add_text(b" none", 0, text, size),
+    }
+}
+
+// What a start answers.
+pub fn add_started(a: Started, text: &mut Text) -> usize {
+    match a {
+        Started::Begun => add_text(b"begun", 0, text, 0),
+        Started::Refused(n) => {
+            let size = add_text(b"refused", 0, text, 0);
+            add_next(n as u64, text, size)
+        }
+        Started::Unsound(b) => {
+            let size = add_text(b"broken", 0, text, 0);
+            add_broken(b, text, size)
+        }
+    }
+}
+
+// A refusal of the source.
+pub fn add_rejected(number: u32, place: usize, text: &mut Text) -> usize {
+    let size = add_text(b"rejected", 0, text, 0);
+    let at = add_next(number as u64, text, size);
+    add_next(place as u64, text, at)
+}
+
+// A word and a count.
+fn add_counted(word: &[u8], count: u64, text: &mut Text) -> usize {
+    let size = add_text(word, 0, text, 0);
+    add_next(count, text, size)
+}
+
+// A stop.
+fn add_stopped(count: u64, number: u32, statement: u32, text: &mut Text) -> usize {
+    let size = add_counted(b"stopped", count, text);
+    let at = add_next(number as u64, text, size);
+    add_next(statement as u64, text, at)
+}
+
+// The end of a run.
+fn add_finished(count: u64, word: u32, text: &mut Text) -> usize {
+    let size = add_counted(b"finished", count, text);
+    add_next(word as u64, text, size)
+}
+
+// What a step or a run answers without a 35.
+fn add_state(q: State, count: u64, text: &mut Text) -> usize {
+    match q {
+        State::Running => add_counted(b"going", count, text),
+        State::Finished(word) => add_finished(count, word, text),
+        State::Stopped { number, statement } => add_stopped(count, number, statement, text),
+    }
+}
+
+// A 35 of a step or a run.
+fn add_unsound(b: Broken, count: u64, text: &mut Text) -> usize {
+    let size = add_counted(b"broken", count, text);
+    add_broken(b, text, size)
+}
+
+// What a step or a run answers.
+pub fn add_outcome(o: Outcome, text: &mut Text) -> usize {
+    let b = o.broken;
+    let r = o.machine;
+    let q = r.state;
+    match b {
+        Broken::No => add_state(q, o.count, text),
+        Broken::At(i) => add_unsound(Broken::At(i), o.count, text),
+        Broken::Somewhere => add_unsound(Broken::Somewhere, o.count, text),
+    }
+}
+
+// The numbers of a record.
+pub fn add_record(r: Machine, text: &mut Text) -> usize {
+    let size = add_counted(b"record", r.next as u64, text);
+    let a = add_next(r.frame as u64, text, size);
+    let b = add_next(r.used as u64, text, a);
+    add_next(r.top as u64, text, b)
+}
+
+// Words from a place on, as many as a line has behind its place.
+pub fn add_words(l: &[u8], at: usize, stack: &[u32], text: &mut Text) -> usize {
+    let count = count_fields(l);
+    let mut size = add_counted(b"words", at as u64, text);
+    let mut i = at;
+    let mut k: u64 = 2;
+    while k < count {
+        if stack.len() <= i {
+            return add_text(b" none", 0, text, size);
+        }
+        size = add_next(tables::word_at(stack, i) as u64, text, size);
+        i += 1;
+        k += 1;
+    }
+    size
+}
+
+// Bytes from a place on, as many as a line has behind its place.
+pub fn add_bytes(l: &[u8], at: usize, memory: &[u8], text: &mut Text) -> usize {
+    let count = count_fields(l);
+    let mut size = add_counted(b"holds", at as u64, text);
+    let mut i = at;
+    let mut k: u64 = 2;
+    while k < count {
+        if memory.len() <= i {
+            return add_text(b" none", 0, text, size);
+        }
+        size = add_next(byte_at(memory, i) as u64, text, size);
+        i += 1;
+        k += 1;
+    }
+    size
+}
+
+// The arguments behind the name of a start, at most 16; 17 where they are no numbers or more.
+pub fn read_arguments(l: &[u8], arguments: &mut [u32; 16]) -> usize
+    ensures { λ r. ⌜ r ≤ 17 ⌝ }
+{
+    let count = count_fields(l);
+    let mut n: usize = 0;
+    while n < 16 {
+        let k = n as u64 + 2;
+        if count <= k {
+            return n;
+        }
+        let v = value(l, k);
+        if Case::NO_NUMBER <= v {
+            return 17;
+        }
+        arguments[n] = casefile::narrow(v);
+        n += 1;
+    }
+    if count <= 18 { 16 } else { 17 }
+}
+
+// A record with one of its numbers changed.
+pub fn poke_number(l: &[u8], mut r: Machine) -> Machine {
+    let v = casefile::narrow(value(l, 3));
+    if has_word(l, 2, b"next ") {
+        r.next = v;
+        return r;
+    }
+    if has_word(l, 2, b"frame ") {
+        r.frame = v;
+        return r;
+    }
+    if has_word(l, 2, b"used ") {
+        r.used = v;
+        return r;
+    }
+    if has_word(l, 2, b"top ") {
+        r.top = v;
+        return r;
+    }
+    r
+}
+
+// A record in another state.
+fn with_state(q: State, r: Machine) -> Machine {
+    Machine {
+        state: q,
+        next: r.next,
+        frame: r.frame,
+        used: r.used,
+        top: r.top,
+    }
+}
+
+// A record with its state changed.
+pub fn poke_state(l: &[u8], r: Machine) -> Machine {
+    let v = casefile::narrow(value(l, 3));
+    if has_word(l, 2, b"finished ") {
+        return with_state(State::Finished(v), r);
+    }
+    if has_word(l, 2, b"stopped ") {
+        let at = casefile::narrow(value(l, 4));
+        return with_state(
+            State::Stopped {
+                number: v,
+                statement: at,
+            },
+            r,
+        );
+    }
+    with_state(State::Running, r)
+}
+
+// Whether a line names a number of the record.
+fn is_number_poke(l: &[u8]) -> bool {
+    if has_word(l, 2, b"next ") {
+        return true;
+    }
+    if has_word(l, 2, b"frame ") {
+        return true;
+    }
+    if has_word(l, 2, b"used ") {
+        return true;
+    }
+    has_word(l, 2, b"top ")
+}
+
+// Whether a line names a state of the record.
+pub fn is_state_poke(l: &[u8]) -> bool {
+    if has_word(l, 2, b"state 0") {
+        return has_values(l, 3, 4);
+    }
+    if has_word(l, 2, b"finished ") {
+        return has_values(l, 3, 4);
+    }
+    if has_word(l, 2, b"stopped ") {
+        return has_values(l, 3, 5);
+    }
+    false
+}
+
+// Whether a line changes a record.
+pub fn is_record_poke(l: &[u8]) -> bool {
+    if is_state_poke(l) {
+        return true;
+    }
+    if is_number_poke(l) {
+        return has_values(l, 3, 4);
+    }
+    false
+}
+
+// A record as a line changes it.
+pub fn poke_record(l: &[u8], r: Machine) -> Machine {
+    if is_state_poke(l) {
+        return poke_state(l, r);
+    }
+    poke_number(l, r)
+}
+
+// The lesser of two numbers.
+pub fn at_most(n: usize, most: usize) -> usize
+    ensures { λ r. ⌜ r ≤ most ⌝ }
+{
+    if n <= most { n } else { most }
+}
+
+// The first words of a table.
+pub fn front_words(t: &[u32], size: usize) -> &[u32] {
+    if size <= t.len() {
+        return &t[0..size];
+    }
+    t
+}
+
+// The labels behind the statements.
+pub fn behind(t: &[u32]) -> &[u32] {
+    if 27648 <= t.len() {
+        return &t[27648..];
+    }
+    t
+}
+
+// The data behind the names.
+pub fn behind_names(b: &[u8]) -> &[u8] {
+    if 16384 <= b.len() {
+        return &b[16384..];
+    }
+    b
+}
+
+pub fn copy_words(from: &[u32], to: &mut Rows, at: usize) {
+    let mut i: usize = 0;
+    let mut j = at;
+    while i < from.len() {
+        if 28672 <= j {
+            return;
+        }
+        to[j] = tables::word_at(from, i);
+        i += 1;
+        j += 1;
+    }
+}
+
+pub fn copy_bytes(from: &[u8], to: &mut Bytes, at: usize) {
+    let mut i: usize = 0;
+    let mut j = at;
+    while i < from.len() {
+        if 49152 <= j {
+            return;
+        }
+        to[j] = from[i];
+        i += 1;
+        j += 1;
+    }
+}
+
+// Zeros from a place on.
+pub fn clear_stack(k: &mut Stack, from: usize) {
+    let mut i = from;
+    while i < Room::STACK {
+        k[i] = 0;
+        i += 1;
+    }
+}
+
+pub fn clear_memory(m: &mut Memory, from: usize) {
+    let mut i = from;
+    while i < Room::MEMORY {
+        m[i] = 0;
+        i += 1;
+    }
+}
+
+// Keeps the first words as they are before a call.
+pub fn keep_stack(k: &mut Stack, n: usize) {
+    let mut i: usize = 0;
+    while i < n {
+        if Room::STACK <= i {
+            return;
+        }
+        let v = k[i];
+        k[i + Room::STACK] = v;
+        i += 1;
+    }
+}
+
+pub fn keep_memory(m: &mut Memory, n: usize) {
+    let mut i: usize = 0;
+    while i < n {
+        if Room::MEMORY <= i {
+            return;
+        }
+        let v = m[i];
+        m[i + Room::MEMORY] = v;
+        i += 1;
+    }
+}
+
+// The first word that the last call changed, or n.
+pub fn changed_word(k: &Stack, n: usize) -> usize {
+    let mut i: usize = 0;
+    while i < n {
+        if Room::STACK <= i {
+            return n;
+        }
+        if k[i] != k[i + Room::STACK] {
+            return i;
+        }
+        i += 1;
+    }
+    n
+}
+
+pub fn changed_byte(m: &Memory, n: usize) -> usize {
+    let mut i: usize = 0;
+    while i < n {
+        if Room::MEMORY <= i {
+            return n;
+        }
+        if m[i] != m[i + Room::MEMORY] {
+            return i;
+        }
+        i += 1;
+    }
+    n
+}
+
+// Stores the bytes of a line from a place on; whether it has some and all fit.
+pub fn put_bytes(l: &[u8], at: usize, n: usize, m: &mut Memory) -> bool {
+    let count = count_fields(l);
+    let mut i = at;
+    let mut f: u64 = 2;
+    while f < count {
+        if n <= i {
+            return false;
+        }
+        if Room::MEMORY <= i {
+            return false;
+        }
+        let v = value(l, f);
+        if 255 < v {
+            return false;
+        }
+        m[i] = v as u8;
+        i += 1;
+        f += 1;
+    }
+    at < i
+}
