@@ -1,9 +1,10 @@
 // Broken rows: refusal 35 for a statement row.
 use tables::Operand;
 ghost use mathlib.Core.Path.{_≡_};
+ghost use mathlib.Core.List.{[], _∷_};
 ghost use Prim.Native.Nat.{_+_, _*_, _≤_, _<_, min};
 ghost use lib.Dec.{eqb};
-ghost use Rattle.tables.specs.Tests.{oneOf};
+ghost use Rattle.tables.specs.Tests.{oneOf, some};
 ghost use Rattle.tables.specs.Statement.{usedBy, operandAt, rowAt};
 ghost use Rattle.tables.specs.Nesting.{isListed, hasTarget};
 ghost use Rattle.tables.specs.Faults.{expressionListed, inFunction, sizeAt, operandFault, addressListed, kindFault, targetFault, calleeFault, sizeFault, ownWord, hasWord, wordFault, operandsFault, addressFault, rowFault};
@@ -289,27 +290,93 @@ fn address_fault(t: &[u32], c: u32, d: u32, n: u32) -> bool
     false
 }
 
-// Whether a row of c rows is broken, d being the data's length.
-pub fn row_fault(t: &[u32], c: u32, d: u32, n: u32) -> bool
-    ensures { λ r. ⌜ r ≡ rowFault (rowAt (now (t .entry))) c d n ⌝ }
+// A broken test: its target, its operands.
+fn test_fault(t: &[u32], c: u32, d: u32, n: u32) -> bool
+    ensures { λ r. ⌜ r ≡ some (targetFault (rowAt (now (t .entry))) c n ∷ operandsFault (rowAt (now (t .entry))) c d n ∷ []) ⌝ }
+{
+    if target_fault(t, c, n) {
+        return true;
+    }
+    operands_fault(t, c, d, n)
+}
+
+// A broken call: its callee, its arguments.
+fn call_fault(t: &[u32], c: u32, d: u32, n: u32) -> bool
+    ensures { λ r. ⌜ r ≡ some (calleeFault (rowAt (now (t .entry))) c n ∷ operandsFault (rowAt (now (t .entry))) c d n ∷ []) ⌝ }
+{
+    if callee_fault(t, c, n) {
+        return true;
+    }
+    operands_fault(t, c, d, n)
+}
+
+// A broken `return`: its expression.
+fn return_fault(t: &[u32], c: u32, d: u32, n: u32) -> bool
+    ensures { λ r. ⌜ r ≡ some (kindFault (rowAt (now (t .entry))) n ∷ calleeFault (rowAt (now (t .entry))) c n ∷ operandsFault (rowAt (now (t .entry))) c d n ∷ []) ⌝ }
 {
     if kind_fault(t, n) {
         return true;
     }
-    if target_fault(t, c, n) {
+    call_fault(t, c, d, n)
+}
+
+// A broken `let` or `set` of a local: its expression, its destination.
+fn local_fault(t: &[u32], c: u32, d: u32, n: u32) -> bool
+    ensures { λ r. ⌜ r ≡ some (kindFault (rowAt (now (t .entry))) n ∷ calleeFault (rowAt (now (t .entry))) c n ∷ wordFault (rowAt (now (t .entry))) c n ∷ operandsFault (rowAt (now (t .entry))) c d n ∷ []) ⌝ }
+{
+    if kind_fault(t, n) {
         return true;
     }
     if callee_fault(t, c, n) {
         return true;
     }
-    if size_fault(t, n) {
+    if word_fault(t, c, n) {
         return true;
     }
-    if word_fault(t, c, n) {
+    operands_fault(t, c, d, n)
+}
+
+// A broken `set @`: its expression, its address.
+fn set_at_fault(t: &[u32], c: u32, d: u32, n: u32) -> bool
+    ensures { λ r. ⌜ r ≡ some (kindFault (rowAt (now (t .entry))) n ∷ calleeFault (rowAt (now (t .entry))) c n ∷ operandsFault (rowAt (now (t .entry))) c d n ∷ addressFault (rowAt (now (t .entry))) c d n ∷ []) ⌝ }
+{
+    if kind_fault(t, n) {
+        return true;
+    }
+    if callee_fault(t, c, n) {
         return true;
     }
     if operands_fault(t, c, d, n) {
         return true;
     }
     address_fault(t, c, d, n)
+}
+
+// Whether a row of c rows is broken, d being the data's length: by its kind, since a row of one kind has not what another has.
+pub fn row_fault(t: &[u32], c: u32, d: u32, n: u32) -> bool
+    ensures { λ r. ⌜ r ≡ rowFault (rowAt (now (t .entry))) c d n ⌝ }
+{
+    let k = tables::kind_at(t, n);
+    if tables::is_test(k) {
+        return test_fault(t, c, d, n);
+    }
+    match k {
+        1 => size_fault(t, n),
+        2 => false,
+        3 => word_fault(t, c, n),
+        4 => word_fault(t, c, n),
+        5 => local_fault(t, c, d, n),
+        6 => local_fault(t, c, d, n),
+        7 => set_at_fault(t, c, d, n),
+        8 => operands_fault(t, c, d, n),
+        9 => operands_fault(t, c, d, n),
+        10 => target_fault(t, c, n),
+        11 => call_fault(t, c, d, n),
+        12 => call_fault(t, c, d, n),
+        13 => return_fault(t, c, d, n),
+        20 => target_fault(t, c, n),
+        21 => target_fault(t, c, n),
+        22 => false,
+        _ => true,
+    }
 }
