@@ -11,6 +11,9 @@ ghost use Rattle.tables.specs.Statement.{rowAt};
 ghost use Rattle.tables.specs.Faults.{sizeAt};
 ghost use Rattle.machine.specs.Frames.{isFirst, isReturnCall, isReturn, isCalling, calledFrom, headGood, passesOn, leavesGood, rowsLeft, landingOf};
 ghost use Rattle.machine.specs.Broken.{lower, lowest, nextBad, frameEnds, rowsUsed, recordGood};
+ghost use Rattle.machine.specs.declared.Broken.the-variants.{No};
+ghost use Rattle.sure.specs.Sure.{Sure};
+ghost use Rattle.gate.specs.Framed.{Framed};
 ghost use Rattle.gate.specs.Gate.{rowBad, withinBroken, marked, callMarked, leftBroken, calleeMarked, functionMarked, shapeGood, keptGood};
 
 // Whether row n is `return call`.
@@ -409,8 +412,8 @@ fn record_good(t: &[u32], c: u32, m: usize, r: Machine, st: &[u32]) -> bool
     false
 }
 
-// 35 of a step but for the counts of the tables.
-pub fn find_broken(t: &[u32], c: u32, d: u32, r: Machine, st: &[u32], m: usize) -> Broken
+// 35 of a step but for the counts of the tables, with every test.
+fn find_exactly(t: &[u32], c: u32, d: u32, r: Machine, st: &[u32], m: usize) -> Broken
     ensures { λ x. ⌜ x ≡ withinBroken Bits32 (rowAt (now (t .entry))) c d r (now (st .entry)) m ⌝ }
 {
     let b = find_used(t, c, d, r, st);
@@ -424,4 +427,65 @@ pub fn find_broken(t: &[u32], c: u32, d: u32, r: Machine, st: &[u32], m: usize) 
         Broken::At(i) => Broken::At(i),
         Broken::Somewhere => Broken::Somewhere,
     }
+}
+
+// ---- the cheap test, which nearly every step passes
+
+// Whether the record's numbers, what is lent and the head of the frame are good, the frame size being known.
+fn is_framed(t: &[u32], c: u32, m: usize, r: Machine, size: u32, st: &[u32]) -> bool
+    requires { ⌜ sizeAt (rowAt (now t)) c (r .next) ≡ size ⌝ }
+    ensures { λ x. ⌜ Sure x (Framed (rowAt (now (t .entry))) c m r (now (st .entry))) ⌝ }
+{
+    let top = r.top;
+    if m < top as usize {
+        return false;
+    }
+    if 65536 < m {
+        return false;
+    }
+    if 16384 < st.len() {
+        return false;
+    }
+    let frame = r.frame;
+    let used = r.used;
+    if st.len() < used as usize {
+        return false;
+    }
+    let end = frame as u64 + size as u64;
+    if end == used as u64 {
+        return has_head(t, c, st, frame);
+    }
+    false
+}
+
+// Whether a step is surely not refused: each word is read once, and nothing is said of a step that fails.
+fn is_sure(t: &[u32], c: u32, d: u32, r: Machine, st: &[u32], m: usize) -> bool
+    ensures { λ x. ⌜ Sure x (withinBroken Bits32 (rowAt (now (t .entry))) c d r (now (st .entry)) m ≡ No) ⌝ }
+{
+    let next = r.next;
+    if c <= next {
+        return false;
+    }
+    if t.len() < next as usize * 27 + 27 {
+        return false;
+    }
+    let g = tables::func_at(t, next);
+    let size = sure::size_of(t, c, g);
+    if size == 0 {
+        return false;
+    }
+    if sure::plain(t, c, d, next, g, size) {
+        return is_framed(t, c, m, r, size, st);
+    }
+    false
+}
+
+// 35 of a step but for the counts of the tables.
+pub fn find_broken(t: &[u32], c: u32, d: u32, r: Machine, st: &[u32], m: usize) -> Broken
+    ensures { λ x. ⌜ x ≡ withinBroken Bits32 (rowAt (now (t .entry))) c d r (now (st .entry)) m ⌝ }
+{
+    if is_sure(t, c, d, r, st, m) {
+        return Broken::No;
+    }
+    find_exactly(t, c, d, r, st, m)
 }
