@@ -11,8 +11,11 @@ use machine::Broken;
 use machine::Outcome;
 use machine::Started;
 use prelude::byte_at;
+ghost use mathlib.Core.Path.{_≡_};
 ghost use Prim.Native.Nat.{_≤_, _<_};
-ghost use lib.ListN.{length};
+ghost use lib.ListN.{length, take};
+ghost use Rattle.casetext.specs.Fields.{countFields, hasWord, wordEnd};
+ghost use Rattle.casetext.specs.Parts.{lesserOf, behindOf};
 
 // Sizes of the buffers of a case.
 pub struct Room {}
@@ -51,7 +54,9 @@ type Stack = [u32; Room::TWO_STACKS];
 type Memory = [u8; Room::TWO_MEMORIES];
 
 // How many fields a line has.
-pub fn count_fields(l: &[u8]) -> u64 {
+pub fn count_fields(l: &[u8]) -> u64
+    ensures { λ r. ⌜ r ≡ countFields (now (l .entry)) ⌝ }
+{
     let mut n: u64 = 1;
     let mut i: usize = 0;
     while i < l.len() {
@@ -65,13 +70,16 @@ pub fn count_fields(l: &[u8]) -> u64 {
 }
 
 // Whether the field behind k blanks starts with a word.
-pub fn has_word(l: &[u8], k: u64, word: &[u8]) -> bool {
+pub fn has_word(l: &[u8], k: u64, word: &[u8]) -> bool
+    ensures { λ r. ⌜ r ≡ hasWord (now (l .entry)) k (now (word .entry)) ⌝ }
+{
     starts_with(&l[field_start(l, k)..], word)
 }
 
 // The place of the blank from a place on, or the end.
 pub fn word_end(l: &[u8], at: usize) -> usize
     requires { ⌜ at ≤ length (now l) ⌝ }
+    ensures { λ r. ⌜ r ≡ wordEnd (now (l .entry)) at ⌝ }
     ensures { λ r. ⌜ (at ≤ r) × (r ≤ length (now (l .entry))) ⌝ }
 {
     let mut i = at;
@@ -172,7 +180,7 @@ fn add_digit(n: u64, unit: u64, text: &mut Text, size: usize) -> usize
 }
 
 // A number in decimal.
-pub fn add_number(n: u64, text: &mut Text, size: usize) -> usize {
+fn add_number(n: u64, text: &mut Text, size: usize) -> usize {
     let mut end = size;
     let mut unit: u64 = 10000000000000000000;
     while 0 < unit {
@@ -183,7 +191,7 @@ pub fn add_number(n: u64, text: &mut Text, size: usize) -> usize {
 }
 
 // A blank and a number.
-pub fn add_next(n: u64, text: &mut Text, size: usize) -> usize {
+fn add_next(n: u64, text: &mut Text, size: usize) -> usize {
     let at = add_byte(text, size, 32);
     add_number(n, text, at)
 }
@@ -366,7 +374,7 @@ pub fn read_arguments(l: &[u8], arguments: &mut [u32; 16]) -> usize
 }
 
 // A record with one of its numbers changed.
-pub fn poke_number(l: &[u8], mut r: Machine) -> Machine {
+fn poke_number(l: &[u8], mut r: Machine) -> Machine {
     let v = casefile::narrow(value(l, 3));
     if has_word(l, 2, b"next ") {
         r.next = v;
@@ -399,7 +407,7 @@ fn with_state(q: State, r: Machine) -> Machine {
 }
 
 // A record with its state changed.
-pub fn poke_state(l: &[u8], r: Machine) -> Machine {
+fn poke_state(l: &[u8], r: Machine) -> Machine {
     let v = casefile::narrow(value(l, 3));
     if has_word(l, 2, b"finished ") {
         return with_state(State::Finished(v), r);
@@ -432,7 +440,7 @@ fn is_number_poke(l: &[u8]) -> bool {
 }
 
 // Whether a line names a state of the record.
-pub fn is_state_poke(l: &[u8]) -> bool {
+fn is_state_poke(l: &[u8]) -> bool {
     if has_word(l, 2, b"state 0") {
         return has_values(l, 3, 4);
     }
@@ -466,13 +474,19 @@ pub fn poke_record(l: &[u8], r: Machine) -> Machine {
 
 // The lesser of two numbers.
 pub fn at_most(n: usize, most: usize) -> usize
+    ensures { λ r. ⌜ r ≡ lesserOf n most ⌝ }
     ensures { λ r. ⌜ r ≤ most ⌝ }
 {
-    if n <= most { n } else { most }
+    if n <= most {
+        return n;
+    }
+    most
 }
 
 // The first words of a table.
-pub fn front_words(t: &[u32], size: usize) -> &[u32] {
+pub fn front_words(t: &[u32], size: usize) -> &[u32]
+    ensures { λ r. ⌜ now r ≡ take size (now (t .entry)) ⌝ }
+{
     if size <= t.len() {
         return &t[0..size];
     }
@@ -480,7 +494,9 @@ pub fn front_words(t: &[u32], size: usize) -> &[u32] {
 }
 
 // The labels behind the statements.
-pub fn behind(t: &[u32]) -> &[u32] {
+pub fn behind(t: &[u32]) -> &[u32]
+    ensures { λ r. ⌜ now r ≡ behindOf 27648 (now (t .entry)) ⌝ }
+{
     if 27648 <= t.len() {
         return &t[27648..];
     }
@@ -488,7 +504,9 @@ pub fn behind(t: &[u32]) -> &[u32] {
 }
 
 // The data behind the names.
-pub fn behind_names(b: &[u8]) -> &[u8] {
+pub fn behind_names(b: &[u8]) -> &[u8]
+    ensures { λ r. ⌜ now r ≡ behindOf 16384 (now (b .entry)) ⌝ }
+{
     if 16384 <= b.len() {
         return &b[16384..];
     }

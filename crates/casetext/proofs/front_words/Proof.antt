@@ -1,0 +1,30 @@
+-- `casetext::front_words` gives the first words.
+-- Assumes nothing.
+use Rattle.casefile.proofs.Cases.{fronts}
+use native.Mathlib.Omega.{arith}
+use mathlib.Core.Path.{_≡_, refl, sym, _∙_, ap, subst}
+use borrow.Author.Needs.{needs}
+use Rattle.casetext.proofs.front_words.Statement.{statement}
+use Rattle.casetext.proofs.front_words.Tie as tie
+use Rattle.casetext.proofs.front_words.Reads as reads
+use Rattle.casetext.proofs.front_words.Lts as lts
+
+sub-result : tie.Need-sub-result
+sub-result c = search needs
+
+part-result-start : tie.Need-part-result-start
+part-result-start c = search needs
+
+part-result-end : tie.Need-part-result-end
+part-result-end c = search needs
+
+returns : tie.Need-returns
+returns c =
+    search fronts
+
+returns-2 : tie.Need-returns-2
+returns-2 c =
+    search fronts
+
+pub front-words-spec : {M : Type 1} → statement M
+front-words-spec = tie.close (tie.spec sub-result part-result-start part-result-end returns returns-2)
