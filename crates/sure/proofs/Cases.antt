@@ -295,17 +295,17 @@ module _ (t : List ℕ) (c d n g size k : ℕ) (h : Inside t c n g size) (e : k 
       let q : rowAt t n .kind ≡ 5 = kind ∙ l in
       record {
         holds = λ z.
-          let v = o .holds z .value in
-          record {
-            good = no-fault (rowAt t) c d n (rw (q, v .listed 5)) (rw q) (rw (q, v .bare)) (rw q)
-            (rw (q, h .words, lt-leb size (rowAt t n .a) (o .holds z .word))) (rw (used, q, h .words) (v .operands)) (rw q);
-            line = rw q;
-            ends = rw q;
-            block = rw q;
-            tail = rw q;
-            gives = rw q;
-            calls = rw (q, v .bare);
-          };
+            let v = o .holds z .value in
+            record {
+              good = no-fault (rowAt t) c d n (rw (q, v .listed 5)) (rw q) (rw (q, v .bare)) (rw q)
+                  (rw (q, h .words, lt-leb size (rowAt t n .a) (o .holds z .word))) (rw (used, q, h .words) (v .operands)) (rw q);
+              line = rw q;
+              ends = rw q;
+              block = rw q;
+              tail = rw q;
+              gives = rw q;
+              calls = rw (q, v .bare);
+            };
       }
 
   pub plain-6 : (b : Bool) → k ≡ 6 → Sure b (Assigned t size d n) → Sure b (Plain (rowAt t) c d n)
@@ -314,17 +314,17 @@ module _ (t : List ℕ) (c d n g size k : ℕ) (h : Inside t c n g size) (e : k 
       let q : rowAt t n .kind ≡ 6 = kind ∙ l in
       record {
         holds = λ z.
-          let v = o .holds z .value in
-          record {
-            good = no-fault (rowAt t) c d n (rw (q, v .listed 6)) (rw q) (rw (q, v .bare)) (rw q)
-            (rw (q, h .words, lt-leb size (rowAt t n .a) (o .holds z .word))) (rw (used, q, h .words) (v .operands)) (rw q);
-            line = rw q;
-            ends = rw q;
-            block = rw q;
-            tail = rw q;
-            gives = rw q;
-            calls = rw (q, v .bare);
-          };
+            let v = o .holds z .value in
+            record {
+              good = no-fault (rowAt t) c d n (rw (q, v .listed 6)) (rw q) (rw (q, v .bare)) (rw q)
+                  (rw (q, h .words, lt-leb size (rowAt t n .a) (o .holds z .word))) (rw (used, q, h .words) (v .operands)) (rw q);
+              line = rw q;
+              ends = rw q;
+              block = rw q;
+              tail = rw q;
+              gives = rw q;
+              calls = rw (q, v .bare);
+            };
       }
 
   module _ (v : Bool) (y : v ≡ isTest k) (l : v ≡ true) where
@@ -355,9 +355,9 @@ module _ (t : List ℕ) (c d n g size k : ℕ) (h : Inside t c n g size) (e : k 
         record {
           holds = λ z. record {
             good = no-fault (rowAt t) c d n (rw (kind, p0, l23, l5, l8, p13)) (o .holds z .target) (rw (kind, p11, p12, l5, l8, p13)) (rw (kind, p1))
-            (rw (kind, l3, l7))
-            (rw (used, kind, l5, l8, p13, p11, p12, l14, l20, h .words) (first-two t (n * 27) (operandFault size d) (o .holds z .operands .first) (o .holds z .operands .second)))
-            (rw (kind, p7));
+                (rw (kind, l3, l7))
+                (rw (used, kind, l5, l8, p13, p11, p12, l14, l20, h .words) (first-two t (n * 27) (operandFault size d) (o .holds z .operands .first) (o .holds z .operands .second)))
+                (rw (kind, p7));
             line = rw (kind, p1);
             ends = rw (kind, p2);
             block = rw (kind, p4);
