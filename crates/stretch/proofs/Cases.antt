@@ -27,7 +27,7 @@ use Rattle.stretch.specs.declared.Move.the-variants.{To, Stays}
 use Rattle.stretch.specs.declared.Three.{Three}
 use Rattle.stretch.specs.declared.Three.the-variants.{All, Unread}
 use Rattle.stretch.specs.declared.Stretch.{Stretch}
-use Rattle.stretch.specs.Stretch.{Taken, taken, aimed, quickJump, quickBlock, quickEnd, threeRead, assignedBy, quickAssign, byteBy, quickByte, wordBy, quickWord, storedBy, storedAt, quickAt, quickTest, quickKind, quickForm, quickStep, Ended, stretched, adding, onMove, stretchOf}
+use Rattle.stretch.specs.Stretch.{Taken, taken, aimed, quickJump, quickBlock, quickEnd, threeRead, assignedBy, quickAssign, byteBy, quickByte, wordBy, quickWord, storedBy, storedAt, quickAt, quickTest, quickJumps, quickStores, quickKind, quickForm, quickStep, Ended, stretched, adding, onMove, stretchOf}
 
 pub one-more : (n : ℕ) → n + 1 ≡ suc n
 one-more n = omega arith
@@ -279,36 +279,36 @@ module _ (t : List ℕ) (c g d size : ℕ) (st : List ℕ) (s : ℕ) (m : List �
     form-set h q = rw (← e, h) q
 
     pub form-at : k ≡ 7 → taken r st m′ ≡ quickAt t d size st s m n top → taken r st m′ ≡ quickForm t c g d size st s m n top
-    unfolding quickForm quickKind isTest ifLt ifEq ifTrue
+    unfolding quickForm quickKind quickStores isTest ifLt ifEq ifTrue
     form-at h q = rw (← e, h) q
 
     pub form-byte : k ≡ 8 → taken r st m′ ≡ quickByte t d size st s m n top → taken r st m′ ≡ quickForm t c g d size st s m n top
-    unfolding quickForm quickKind isTest ifLt ifEq ifTrue
+    unfolding quickForm quickKind quickStores isTest ifLt ifEq ifTrue
     form-byte h q = rw (← e, h) q
 
     pub form-word : k ≡ 9 → taken r st m′ ≡ quickWord t d size st s m n top → taken r st m′ ≡ quickForm t c g d size st s m n top
-    unfolding quickForm quickKind isTest ifLt ifEq ifTrue
+    unfolding quickForm quickKind quickStores isTest ifLt ifEq ifTrue
     form-word h q = rw (← e, h) q
 
     pub form-goto : k ≡ 10 → r ≡ quickJump t c g n top → taken r st m ≡ quickForm t c g d size st s m n top
-    unfolding quickForm quickKind isTest ifLt ifEq ifTrue
+    unfolding quickForm quickKind quickStores quickJumps isTest ifLt ifEq ifTrue
     form-goto h q = rw (← e, h) (ap (λ (x : Move). taken x st m) q)
 
     pub form-else : k ≡ 20 → r ≡ quickJump t c g n top → taken r st m ≡ quickForm t c g d size st s m n top
-    unfolding quickForm quickKind isTest ifLt ifEq ifTrue
+    unfolding quickForm quickKind quickStores quickJumps isTest ifLt ifEq ifTrue
     form-else h q = rw (← e, h) (ap (λ (x : Move). taken x st m) q)
 
     pub form-arm : k ≡ 21 → r ≡ quickJump t c g n top → taken r st m ≡ quickForm t c g d size st s m n top
-    unfolding quickForm quickKind isTest ifLt ifEq ifTrue
+    unfolding quickForm quickKind quickStores quickJumps isTest ifLt ifEq ifTrue
     form-arm h q = rw (← e, h) (ap (λ (x : Move). taken x st m) q)
 
   pub form-end-if : k ≡ 22 → taken (To (n + 1) top) st m ≡ quickForm t c g d size st s m n top
-  unfolding quickForm quickKind isTest ifLt ifEq ifTrue
+  unfolding quickForm quickKind quickStores quickJumps isTest ifLt ifEq ifTrue
   form-end-if h = onward n top st m ∙ rw (← e, h)
 
   pub form-none : b ≡ false → (k ≡ 3 → ⊥) → (k ≡ 4 → ⊥) → (k ≡ 5 → ⊥) → (k ≡ 6 → ⊥) → (k ≡ 7 → ⊥) → (k ≡ 8 → ⊥) → (k ≡ 9 → ⊥) → (k ≡ 10 → ⊥) → (k ≡ 20 → ⊥) → (k ≡ 21 → ⊥)
       → (k ≡ 22 → ⊥) → taken Stays st m ≡ quickForm t c g d size st s m n top
-  unfolding quickForm quickKind ifTrue ifEq
+  unfolding quickForm quickKind quickStores quickJumps ifTrue ifEq
   form-none h a3 a4 a5 a6 a7 a8 a9 a10 a20 a21 a22 =
       rw (
         ← e,

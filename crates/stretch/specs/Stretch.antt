@@ -127,7 +127,24 @@ module _ (t : List ℕ) (c g d size : ℕ) (st : List ℕ) (s : ℕ) (m : List �
       (λ y. taken (To (ifTrue (holds Bits32 k x y) (suc n) (getD t (n * 27 + 4) 0)) top) st m)))
       (taken Stays st m)
 
-  -- the statement of kind k
+  -- the statement of kind k: jumps and `end if`
+  unfoldable pub quickJumps : ℕ → Taken
+  quickJumps k =
+      ifEq k 10 (taken (quickJump t c g n top) st m)
+      (ifEq k 20 (taken (quickJump t c g n top) st m)
+      (ifEq k 21 (taken (quickJump t c g n top) st m)
+      (ifEq k 22 (taken (To (suc n) top) st m)
+      (taken Stays st m))))
+
+  -- stores into memory
+  unfoldable pub quickStores : ℕ → Taken
+  quickStores k =
+      ifEq k 7 (quickAt t d size st s m n top)
+      (ifEq k 8 (quickByte t d size st s m n top)
+      (ifEq k 9 (quickWord t d size st s m n top)
+      (quickJumps k)))
+
+  -- tests, blocks, `let` and `set` of a local
   unfoldable pub quickKind : ℕ → Taken
   quickKind k =
       ifTrue (isTest k) (quickTest k)
@@ -135,14 +152,7 @@ module _ (t : List ℕ) (c g d size : ℕ) (st : List ℕ) (s : ℕ) (m : List �
       (ifEq k 4 (taken (quickEnd t size st s (length m) n) st m)
       (ifEq k 5 (quickAssign t d size st s m n top)
       (ifEq k 6 (quickAssign t d size st s m n top)
-      (ifEq k 7 (quickAt t d size st s m n top)
-      (ifEq k 8 (quickByte t d size st s m n top)
-      (ifEq k 9 (quickWord t d size st s m n top)
-      (ifEq k 10 (taken (quickJump t c g n top) st m)
-      (ifEq k 20 (taken (quickJump t c g n top) st m)
-      (ifEq k 21 (taken (quickJump t c g n top) st m)
-      (ifEq k 22 (taken (To (suc n) top) st m)
-      (taken Stays st m))))))))))))
+      (quickStores k)))))
 
   unfoldable pub quickForm : Taken
   quickForm = quickKind (getD t (n * 27) 0)
