@@ -33,6 +33,8 @@ use Rattle.machine.specs.Lent.{world}
 use Rattle.machine.specs.declared.Read.{Read}
 use Rattle.machine.specs.declared.Read.the-variants.{Got, Bad}
 use Rattle.machine.specs.declared.Worked.{Worked}
+use Rattle.fast.specs.Fast.{readEach}
+use Rattle.fast.proofs.Reading.{Reading, reading-none, reading-more, reading-stops, reading-done}
 use Rattle.calls.specs.Outcomes.{slotRead, wordsIn, Expressed, Calls}
 
 -- ---- the expression of a row
@@ -118,83 +120,20 @@ module _ (t st m : List ℕ) (c : ℕ) (r : Machine) where
 
 -- ---- the arguments of a call
 
-unfoldable pub joined : List ℕ → Words → Words
-joined vs (machine.words ws) = machine.words (vs ++ ws)
-joined vs bad = bad
+-- reading all operands is reading each
+each-all : (st : List ℕ) (s : ℕ) (m : List ℕ) (os : List Operand) → readEach (readOf Bits32 st s m) os ≡ readAll Bits32 st s m os
+unfolding readEach readAll
+each-all st s m [] = refl
+each-all st s m (o ∷ os) = ap (λ (w : Words). onRead (readOf Bits32 st s m o) bad (λ v. withWord v w)) (each-all st s m os)
 
-abbrev argued : List ℕ → ℕ → ℕ → List Operand
-argued t n k = take k (slots t (n * 27))
+module _ (t : List ℕ) (n k : ℕ) (st : List ℕ) (s : ℕ) (m ws : List ℕ) (i : ℕ) (h : Reading (readOf Bits32 st s m) t (n * 27) k ws i) where
+  pub arguments-stop : (x : Read) → i < k → x ≡ slotRead t n st s m i → x ≡ Bad → wordsIn false ws k ≡ readAll Bits32 st s m (take k (slots t (n * 27)))
+  arguments-stop x l e g = reading-stops (readOf Bits32 st s m) t (n * 27) k ws i x h l e g ∙ each-all st s m (take k (slots t (n * 27)))
 
-abbrev readOn : List ℕ → List ℕ → ℕ → List Operand → Words
-readOn st m s os = readAll Bits32 st s m os
+  pub arguments-read : k ≤ i → wordsIn true ws k ≡ readAll Bits32 st s m (take k (slots t (n * 27)))
+  arguments-read l = reading-done (readOf Bits32 st s m) t (n * 27) k ws i h l ∙ each-all st s m (take k (slots t (n * 27)))
 
--- the first i of k arguments are read into ws
-pub record Reading (t : List ℕ) (n k : ℕ) (st : List ℕ) (s : ℕ) (m ws : List ℕ) (i : ℕ) : Type 0 where
-  pub below : i ≤ k
-  pub few : k ≤ 8
-  pub long : length ws ≡ 8
-  pub rest : joined (take i ws) (readOn st m s (drop i (argued t n k))) ≡ readOn st m s (argued t n k)
-
-join-none : (w : Words) → joined [] w ≡ w
-unfolding joined
-join-none (machine.words ws) = refl
-join-none bad = refl
-
-join-more : (vs : List ℕ) (v : ℕ) (w : Words) → joined (vs ++ (v ∷ [])) w ≡ joined vs (withWord v w)
-unfolding joined withWord
-join-more vs v (machine.words ws) = ap machine.words (append-assoc vs (v ∷ []) ws)
-join-more vs v bad = refl
-
-module _ (t : List ℕ) (n k : ℕ) (st : List ℕ) (s : ℕ) (m : List ℕ) where
-  pub reading-none : k ≤ 8 → Reading t n k st s m (zeros 8) 0
-  reading-none h = record { below = omega arith; few = h; long = refl; rest = join-none (readOn st m s (argued t n k)) }
-
-  -- the operands from i on
-  next-slot : (i : ℕ) → i < k → k ≤ 8 → drop i (argued t n k) ≡ operandAt t (n * 27 + 11 + i * 2) ∷ drop (suc i) (argued t n k)
-  next-slot i h l =
-      drop-cons (argued t n k) i Unlisted (omega (arith, length-take-le k (slots t (n * 27)) (omega (arith, slots-long t (n * 27)))))
-      ∙ ap (λ (z : Operand). z ∷ drop (suc i) (argued t n k)) (getD-take k (slots t (n * 27)) i Unlisted h ∙ slot-at t (n * 27) i (omega arith))
-
-  module _ (ws : List ℕ) (i : ℕ) (x : Read) (h : Reading t n k st s m ws i) (l : i < k) (e : x ≡ slotRead t n st s m i) where
-    step-on : readOn st m s (drop i (argued t n k)) ≡ onRead x bad (λ v. withWord v (readOn st m s (drop (suc i) (argued t n k))))
-    unfolding readAll
-    step-on = rw (next-slot i l (h .few), e)
-
-    pub reading-more : (v : ℕ) → x ≡ Got v → Reading t n k st s m (set ws i v) (i + 1)
-    unfolding onRead
-    reading-more v g =
-        let one : i + 1 ≡ suc i = omega arith in
-        record {
-          below = omega (arith, h .below);
-          few = h .few;
-          long = length-set ws i v ∙ h .long;
-          rest =
-              ap (λ (j : ℕ). joined (take j (set ws i v)) (readOn st m s (drop j (argued t n k)))) one
-              ∙ ap (λ (z : List ℕ). joined z (readOn st m s (drop (suc i) (argued t n k))))
-              (take-suc (set ws i v) i 0 (omega (arith, length-set ws i v, h .long, h .few, l))
-              ∙ ap (λ (z : List ℕ). z ++ (getD (set ws i v) i 0 ∷ [])) (take-set-le i ws i v (omega arith))
-              ∙ ap (λ (z : ℕ). take i ws ++ (z ∷ [])) (getD-set-same ws i v 0 (omega (arith, h .long, h .few, l))))
-              ∙ join-more (take i ws) v (readOn st m s (drop (suc i) (argued t n k)))
-              ∙ ap (joined (take i ws)) (sym (step-on ∙ ap (λ (z : Read). onRead z bad (λ v. withWord v (readOn st m s (drop (suc i) (argued t n k))))) g))
-              ∙ h .rest;
-        }
-
-    pub reading-stops : x ≡ Bad → wordsIn false ws k ≡ readAll Bits32 st s m (take k (slots t (n * 27)))
-    unfolding ifTrue joined onRead
-    reading-stops g =
-        ap (joined (take i ws)) (sym (step-on ∙ ap (λ (z : Read). onRead z bad (λ v. withWord v (readOn st m s (drop (suc i) (argued t n k))))) g)) ∙ h .rest
-
-  pub reading-done : (ws : List ℕ) (i : ℕ) → Reading t n k st s m ws i → k ≤ i → wordsIn true ws k ≡ readAll Bits32 st s m (take k (slots t (n * 27)))
-  unfolding ifTrue joined readAll
-  reading-done ws i h l =
-      let same : i ≡ k = omega (arith, h .below, l) in
-      let all : drop i (argued t n k) ≡ [] = drop-of-length-le (argued t n k) {i = i} (omega (arith, length-take-le k (slots t (n * 27)) (omega (arith, slots-long t (n * 27), h .few)), l)) in
-      ap machine.words (sym (append-nil (take k ws)))
-      ∙ ap (λ (j : ℕ). joined (take j ws) (readOn st m s [])) (sym same)
-      ∙ ap (λ (z : List Operand). joined (take i ws) (readOn st m s z)) (sym all)
-      ∙ h .rest
-
-pub ruleset reading = (reading-none, reading-more, reading-stops, reading-done)
+pub ruleset reading = (reading-none, reading-more, arguments-stop, arguments-read)
 
 -- a call's operands are its arguments
 pub arguments-are : (t : List ℕ) (c : ℕ) (r : Machine) (st m : List ℕ) (b : Bool) (ws : List ℕ) (k : ℕ) → Calls (rowAt t (r .next)) c

@@ -2,7 +2,7 @@
 -- machine give (proofs/Good.antt), else nothing is said of it here.
 -- Assumes nothing.
 use Prim.Native.Nat.{ℕ, _+_}
-use mathlib.Core.List.{List}
+use mathlib.Core.List.{List, [], _∷_}
 use lib.ListN.{getD}
 use Rattle.prelude.specs.Choice.{ifLt, ifEq, ifTrue}
 use Rattle.limits.specs.declared.Width.the-variants.{Bits32}
@@ -10,7 +10,7 @@ use Rattle.tables.specs.Layout.{plain}
 use Rattle.tables.specs.Statement.{Row, expressionUses, operandAt}
 use Rattle.tables.specs.Faults.{operandFault}
 use Rattle.tables.specs.declared.Operand.{Operand}
-use Rattle.machine.specs.Operands.{readOf, onRead}
+use Rattle.machine.specs.Operands.{Words, words, bad, withWord, readOf, onRead}
 use Rattle.machine.specs.Expressions.{applied}
 use Rattle.machine.specs.declared.Read.{Read}
 use Rattle.machine.specs.declared.Read.the-variants.{Bad}
@@ -20,6 +20,11 @@ use Rattle.machine.specs.declared.Worked.the-variants.{Value, Stop}
 -- an operand's word in the frame at s, where the operand is good: the frame has this size, the data d bytes
 unfoldable pub goodRead : ℕ → ℕ → List ℕ → ℕ → List ℕ → Operand → Read
 goodRead size d st s m o = ifTrue (operandFault size d o) Bad (readOf Bits32 st s m o)
+
+-- all of some operands, left to right, by what reads one
+unfoldable pub readEach : (Operand → Read) → List Operand → Words
+readEach rd [] = words []
+readEach rd (o ∷ os) = onRead (rd o) bad (λ v. withWord v (readEach rd os))
 
 -- the expression of the row whose first word is at a place
 module _ (t : List ℕ) (at size d : ℕ) (st : List ℕ) (s : ℕ) (m : List ℕ) (top : ℕ) where

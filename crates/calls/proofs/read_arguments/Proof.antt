@@ -1,6 +1,9 @@
 use borrow.Author.Needs.{needs}
-use Rattle.calls.proofs.Reading.{Reading, reading}
-use Prim.Native.Nat.{_-_}
+use Rattle.limits.specs.declared.Width.the-variants.{Bits32}
+use Rattle.machine.specs.Operands.{readOf}
+use Rattle.fast.proofs.Reading.{Reading}
+use Rattle.calls.proofs.Reading.{reading}
+use Prim.Native.Nat.{_-_, _*_}
 use native.Mathlib.Omega.{arith}
 use mathlib.Core.Path.{_≡_, refl, sym, _∙_, ap, subst}
 use Rattle.calls.proofs.read_arguments.Statement.{statement}
@@ -11,7 +14,7 @@ use Rattle.calls.proofs.read_slot.Reads as read-slot-reads
 
 abbrev Inv-loop : tie.InvT-loop
 Inv-loop t n k st s m words₀ i₀ words i =
-    Reading t n k st s m words i
+    Reading (readOf Bits32 st s m) t (n * 27) k words i
 
 abbrev μ-loop : tie.MeasureT-loop
 μ-loop t n k st s m words₀ i₀ words i =

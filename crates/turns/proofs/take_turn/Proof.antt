@@ -1,0 +1,61 @@
+use Rattle.turns.proofs.Cases.{turning}
+use native.Mathlib.Omega.{arith}
+use mathlib.Core.Path.{_≡_, refl, sym, _∙_, ap, subst}
+use borrow.Author.Needs.{needs}
+use Rattle.turns.proofs.take_turn.Statement.{statement}
+use Rattle.turns.proofs.take_turn.Tie as tie
+use Rattle.turns.proofs.take_turn.Reads as reads
+use Rattle.turns.proofs.take_turn.Lts as lts
+use Rattle.tables.proofs.func_at.Reads as func-at-reads
+use Rattle.turns.proofs.call.Reads as call-reads
+use Rattle.turns.proofs.calls_any.Reads as calls-any-reads
+use Rattle.turns.proofs.give_back.Reads as give-back-reads
+
+returns : tie.Need-returns
+returns c =
+    search turning
+
+func-at-requires : tie.Need-func-at-requires
+func-at-requires c κs = search needs
+
+calls-any-requires : tie.Need-calls-any-requires
+calls-any-requires c κs = search needs
+
+call-requires : tie.Need-call-requires
+call-requires c κs = search needs
+
+same-length : tie.Need-same-length
+same-length c = search needs
+
+returns-2 : tie.Need-returns-2
+returns-2 c =
+    search turning
+
+give-back-requires : tie.Need-give-back-requires
+give-back-requires c κs = search needs
+
+same-length-2 : tie.Need-same-length-2
+same-length-2 c = search needs
+
+returns-3 : tie.Need-returns-3
+returns-3 c =
+    search turning
+
+returns-4 : tie.Need-returns-4
+returns-4 c =
+    search turning
+
+pub take-turn-spec : {M : Type 1} → statement M
+take-turn-spec =
+    tie.close
+    (tie.spec
+    returns
+    func-at-requires
+    calls-any-requires
+    call-requires
+    same-length
+    returns-2
+    give-back-requires
+    same-length-2
+    returns-3
+    returns-4)
