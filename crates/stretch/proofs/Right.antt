@@ -54,7 +54,7 @@ aims t c g a =
     either (λ (b : Bool). b ≡ true → Aims t c g a) a c (eqb (getD t (a * 27 + 1) 0) g) false
     (λ l e. record { below = l; own = eqb-true _ g e }) (λ l e. true-false (sym e))
 
-no-both : (b : Bool) → both b false ≡ false
+pub no-both : (b : Bool) → both b false ≡ false
 no-both true = refl
 no-both false = refl
 
