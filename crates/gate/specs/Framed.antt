@@ -1,20 +1,26 @@
--- What the cheap test of a step's record says.
+-- The frame in use, tested once for all statements inside it.
 -- Assumes nothing.
-use mathlib.Core.Path.{_≡_}
-use mathlib.Core.Bool.{true}
+use Prim.Native.Nat.{ℕ, _+_}
+use mathlib.Core.Bool.{Bool, false}
 use mathlib.Core.List.{List}
-use Prim.Native.Nat.{ℕ, _≤_}
 use lib.ListN.{length}
+use Rattle.prelude.specs.Choice.{ifLt, ifEq, ifTrue}
 use Rattle.limits.specs.declared.Width.the-variants.{Bits32}
 use Rattle.limits.specs.declared.Machine.{Machine}
 use Rattle.tables.specs.Statement.{Row}
 use Rattle.machine.specs.Frames.{headGood}
-use Rattle.machine.specs.Broken.{frameEnds}
+use Rattle.fast.specs.Fast.{sizeOf}
 
--- m bytes of memory
-pub record Framed (f : ℕ → Row) (c m : ℕ) (r : Machine) (st : List ℕ) : Type 0 where
-  pub ends : frameEnds f c r (length st) ≡ true
-  pub top : r .top ≤ m
-  pub memory : m ≤ 65536
-  pub stack : length st ≤ 16384
-  pub head : headGood Bits32 f c st (r .frame) ≡ true
+-- the record's numbers, what is lent and the head of the frame are good, the frame having z words; m bytes of memory
+unfoldable pub framed : (ℕ → Row) → ℕ → ℕ → Machine → ℕ → List ℕ → Bool
+framed f c m r z st =
+    ifLt m (r .top) false
+    (ifLt 65536 m false
+    (ifLt 16384 (length st) false
+    (ifLt (length st) (r .used) false
+    (ifEq (r .frame + z) (r .used) (headGood Bits32 f c st (r .frame)) false))))
+
+-- the words of the frame in use, where the record stands in a good one; else 0
+unfoldable pub heldSize : (ℕ → Row) → ℕ → ℕ → Machine → List ℕ → ℕ
+heldSize f c m r st =
+    ifLt (r .next) c (ifTrue (framed f c m r (sizeOf f c (f (r .next) .func)) st) (sizeOf f c (f (r .next) .func)) 0) 0

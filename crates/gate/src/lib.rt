@@ -3,17 +3,15 @@ use limits::Machine;
 use machine::Broken;
 use machine::Landing;
 ghost use mathlib.Core.Path.{_≡_};
-ghost use Prim.Native.Nat.{suc, _+_, min};
+ghost use Prim.Native.Nat.{suc, _+_, _*_, _≤_, min};
 ghost use lib.Dec.{eqb};
-ghost use lib.ListN.{getD};
+ghost use lib.ListN.{length, getD};
 ghost use Rattle.limits.specs.declared.Width.the-variants.{Bits32};
 ghost use Rattle.tables.specs.Statement.{rowAt};
 ghost use Rattle.tables.specs.Faults.{sizeAt};
 ghost use Rattle.machine.specs.Frames.{isFirst, isReturnCall, isReturn, isCalling, calledFrom, headGood, passesOn, leavesGood, rowsLeft, landingOf};
 ghost use Rattle.machine.specs.Broken.{lower, lowest, nextBad, frameEnds, rowsUsed, recordGood};
-ghost use Rattle.machine.specs.declared.Broken.the-variants.{No};
-ghost use Rattle.sure.specs.Sure.{Sure};
-ghost use Rattle.gate.specs.Framed.{Framed};
+ghost use Rattle.gate.specs.Framed.{framed, heldSize};
 ghost use Rattle.gate.specs.Gate.{rowBad, withinBroken, marked, callMarked, leftBroken, calleeMarked, functionMarked, shapeGood, keptGood};
 
 // Whether row n is `return call`.
@@ -412,8 +410,8 @@ fn record_good(t: &[u32], c: u32, m: usize, r: Machine, st: &[u32]) -> bool
     false
 }
 
-// 35 of a step but for the counts of the tables, with every test.
-fn find_exactly(t: &[u32], c: u32, d: u32, r: Machine, st: &[u32], m: usize) -> Broken
+// 35 of a step but for the counts of the tables.
+pub fn find_broken(t: &[u32], c: u32, d: u32, r: Machine, st: &[u32], m: usize) -> Broken
     ensures { λ x. ⌜ x ≡ withinBroken Bits32 (rowAt (now (t .entry))) c d r (now (st .entry)) m ⌝ }
 {
     let b = find_used(t, c, d, r, st);
@@ -429,12 +427,11 @@ fn find_exactly(t: &[u32], c: u32, d: u32, r: Machine, st: &[u32], m: usize) -> 
     }
 }
 
-// ---- the cheap test, which nearly every step passes
+// ---- the frame in use
 
-// Whether the record's numbers, what is lent and the head of the frame are good, the frame size being known.
-fn is_framed(t: &[u32], c: u32, m: usize, r: Machine, size: u32, st: &[u32]) -> bool
-    requires { ⌜ sizeAt (rowAt (now t)) c (r .next) ≡ size ⌝ }
-    ensures { λ x. ⌜ Sure x (Framed (rowAt (now (t .entry))) c m r (now (st .entry))) ⌝ }
+// Whether the record's numbers, what is lent and the head of the frame are good, the frame having z words.
+fn is_framed(t: &[u32], c: u32, m: usize, r: Machine, z: u32, st: &[u32]) -> bool
+    ensures { λ x. ⌜ x ≡ framed (rowAt (now (t .entry))) c m r z (now (st .entry)) ⌝ }
 {
     let top = r.top;
     if m < top as usize {
@@ -451,41 +448,25 @@ fn is_framed(t: &[u32], c: u32, m: usize, r: Machine, size: u32, st: &[u32]) -> 
     if st.len() < used as usize {
         return false;
     }
-    let end = frame as u64 + size as u64;
+    let end = frame as u64 + z as u64;
     if end == used as u64 {
         return has_head(t, c, st, frame);
     }
     false
 }
 
-// Whether a step is surely not refused: each word is read once, and nothing is said of a step that fails.
-fn is_sure(t: &[u32], c: u32, d: u32, r: Machine, st: &[u32], m: usize) -> bool
-    ensures { λ x. ⌜ Sure x (withinBroken Bits32 (rowAt (now (t .entry))) c d r (now (st .entry)) m ≡ No) ⌝ }
+// The words of the frame in use, where the record stands in a good one; else 0. Statements inside it need no test of the record.
+pub fn held_size(t: &[u32], c: u32, m: usize, r: Machine, st: &[u32]) -> u32
+    requires { ⌜ c * 27 ≤ length (now t) ⌝ }
+    ensures { λ x. ⌜ x ≡ heldSize (rowAt (now (t .entry))) c m r (now (st .entry)) ⌝ }
 {
     let next = r.next;
     if c <= next {
-        return false;
+        return 0;
     }
-    if t.len() < next as usize * 27 + 27 {
-        return false;
+    let z = fast::size_of(t, c, tables::func_at(t, next));
+    if is_framed(t, c, m, r, z, st) {
+        return z;
     }
-    let g = tables::func_at(t, next);
-    let size = sure::size_of(t, c, g);
-    if size == 0 {
-        return false;
-    }
-    if sure::plain(t, c, d, next, g, size) {
-        return is_framed(t, c, m, r, size, st);
-    }
-    false
-}
-
-// 35 of a step but for the counts of the tables.
-pub fn find_broken(t: &[u32], c: u32, d: u32, r: Machine, st: &[u32], m: usize) -> Broken
-    ensures { λ x. ⌜ x ≡ withinBroken Bits32 (rowAt (now (t .entry))) c d r (now (st .entry)) m ⌝ }
-{
-    if is_sure(t, c, d, r, st, m) {
-        return Broken::No;
-    }
-    find_exactly(t, c, d, r, st, m)
+    0
 }

@@ -1,20 +1,22 @@
 -- The ways through a step and a run.
 -- Assumes nothing.
-use mathlib.Core.Path.{_≡_, refl, sym, _∙_, ap}
+use mathlib.Core.Path.{_≡_, refl, sym, _∙_, ap, subst}
 use mathlib.Core.Bool.{Bool, true, false}
 use mathlib.Core.List.{List}
-use Prim.Native.Nat.{ℕ, zero, suc, _+_, _-_, _<_, _≤_}
+use Prim.Native.Nat.{ℕ, zero, suc, _+_, _-_, _*_, _<_, _≤_}
 use native.Mathlib.Omega.{arith}
 use lib.ListN.{length}
 use lib.Dec.{eqb}
-use borrow.Author.Tests.{eq-eqb, ne-eqb}
-use Rattle.prelude.specs.Choice.{ifEq, ifTrue}
+use lib.Dec.{ltb}
+use borrow.Author.Tests.{eq-eqb, ne-eqb, lt-ltb, le-ltb, ltb-false}
+use Rattle.tables.specs.Tests.{oneOf, some}
+use Rattle.prelude.specs.Choice.{ifLt, ifEq, ifTrue}
 use Rattle.prelude.proofs.Choice.{ifEq-yes, ifEq-no, ifTrue-yes, ifTrue-no}
 use Rattle.limits.specs.declared.Width.the-variants.{Bits32}
 use Rattle.limits.specs.declared.State.{State}
 use Rattle.limits.specs.declared.State.the-variants.{Running, Finished, Stopped}
 use Rattle.limits.specs.declared.Machine.{Machine}
-use Rattle.tables.specs.Statement.{rowAt}
+use Rattle.tables.specs.Statement.{Row, rowAt}
 use Rattle.tables.specs.Label.{Tables, rows}
 use Rattle.tables.specs.Faults.{countFault}
 use Rattle.counts.proofs.Cases.{count-any}
@@ -27,9 +29,23 @@ use Rattle.machine.specs.Lent.{tablesOf, world, left}
 use Rattle.machine.specs.declared.Outcome.{Outcome}
 use Rattle.machine.specs.declared.Broken.{Broken}
 use Rattle.machine.specs.declared.Broken.the-variants.{No, At, Somewhere}
-use Rattle.calls.specs.Outcomes.{after}
+use Rattle.calls.specs.Outcomes as outcomes
 use Rattle.statements.specs.Ready.{Ready}
+use Rattle.machine.specs.Step.{movedTo}
+use Rattle.gate.specs.Framed.{heldSize}
+use Rattle.stretch.specs.Stretch.{stretched, stretchOf}
+use Rattle.stretch.specs.declared.Stretch.{Stretch}
+use Rattle.stretch.proofs.Right.{Held}
+use Rattle.turns.specs.Turns.{Turned, turned, turnOf}
+use Rattle.turns.specs.declared.Turn.{Turn}
+use Rattle.turns.specs.declared.Turn.the-variants.{To, Stays}
+use Rattle.runner.specs.Steps.{usableSize, after, endBy, stretchEnd, heldBy, heldSteps, someSteps}
+use Rattle.runner.proofs.Several.{count-none, count-add, usable-good, Several, several}
 use Rattle.runner.specs.Within.{givenBack, isRunning, takenStep, withinStep, withinRun}
+
+one-no : (p q : Bool) → oneOf p q ≡ false → p ≡ false
+one-no true q e = e
+one-no false q e = refl
 
 -- ---- a running record's step
 
@@ -41,7 +57,7 @@ take-ready t c d r st m b e h = ready (passed (rowAt t) c d r st m (sym e ∙ h)
     ready p = record { within = p .within; listed = p .listed; callee = p .callee; leaves = p .leaves; stack = p .stack; memory = p .memory }
 
 module _ (t : List ℕ) (c d : ℕ) (r : Machine) (st m : List ℕ) (b : Broken) (e : b ≡ withinBroken Bits32 (rowAt t) c d r st (length m)) where
-  pub take-on : (o : Outcome) (st′ m′ : List ℕ) → b ≡ No → left o st′ m′ ≡ after effectOf t c r st m → left o st′ m′ ≡ takenStep t c d (world r st m)
+  pub take-on : (o : Outcome) (st′ m′ : List ℕ) → b ≡ No → left o st′ m′ ≡ outcomes.after effectOf t c r st m → left o st′ m′ ≡ takenStep t c d (world r st m)
   unfolding takenStep gated
   take-on o st′ m′ h q = rw (← e, h) q
 
@@ -68,48 +84,132 @@ module _ (t : List ℕ) (c d : ℕ) (r : Machine) (st m : List ℕ) (b : Bool) (
 
 pub ruleset within = (within-on, within-idle)
 
+-- ---- several steps at once
+
+module _ (f : ℕ → Row) (c m : ℕ) (r : Machine) (st : List ℕ) (b : Bool) (e : b ≡ isRunning (r .state)) where
+  pub usable-on : (z : ℕ) → b ≡ true → z ≡ heldSize f c m r st → z ≡ usableSize f c m r st
+  unfolding usableSize ifTrue
+  usable-on z h q = rw (← e, h) q
+
+  pub usable-off : b ≡ false → 0 ≡ usableSize f c m r st
+  unfolding usableSize ifTrue
+  usable-off h = rw (← e, h)
+
+pub ruleset usable = (usable-on, usable-off)
+
+module _ (t : List ℕ) (c g d size : ℕ) (r : Machine) (k : ℕ) (st m : List ℕ) (y : Turn) (st′ : List ℕ)
+    (e : turned y st′ ≡ turnOf t c g d size st (r .frame) (r .used) m (r .next) (r .top)) where
+  by-turn : stretchEnd t c d g size k (world r st m) ≡ endBy t c d k (world r st m) y st′
+  unfolding stretchEnd
+  by-turn = ap (λ (x : Turned). endBy t c d k (world r st m) (x .move) (x .stack)) (sym e)
+
+  pub end-turns : (next frame used top : ℕ) (q : Machine) → y ≡ To next frame used top → q ≡ movedTo r next frame used top
+      → left (record { machine = q; count = k + 1; broken = No }) st′ m ≡ stretchEnd t c d g size k (world r st m)
+  unfolding endBy
+  end-turns next frame used top q h p = sym (by-turn ∙ rw (h, p))
+
+  pub end-rests : y ≡ Stays → 0 < k → left (record { machine = r; count = k; broken = No }) st′ m ≡ stretchEnd t c d g size k (world r st m)
+  unfolding endBy ifLt
+  end-rests h l = sym (by-turn ∙ rw (h, lt-ltb 0 k l))
+
+  pub end-steps : (o : Outcome) (st″ m″ : List ℕ) → y ≡ Stays → k ≤ 0 → left o st″ m″ ≡ withinStep t c d (world r st′ m) → left o st″ m″ ≡ stretchEnd t c d g size k (world r st m)
+  unfolding endBy ifLt
+  end-steps o st″ m″ h l q = sym (by-turn ∙ rw (h, le-ltb 0 k l) (sym q))
+
+pub ruleset stretch-ends = (end-turns, end-rests, end-steps)
+
+module _ (t : List ℕ) (c d size budget : ℕ) (r : Machine) (st m : List ℕ) (g : ℕ) (x : Stretch) (st′ m′ : List ℕ) (q : Machine) (i : g ≡ rowAt t (r .next) .func)
+    (e : stretched x st′ m′ ≡ stretchOf t c g d size (r .frame) budget st m (r .next) (r .top)) (h : q ≡ movedTo r (x .next) (r .frame) (r .used) (x .top)) where
+  by-stretch : heldSteps t c d size budget (world r st m)
+      ≡ ifLt (x .count) budget (stretchEnd t c d g size (x .count) (world q st′ m′)) (after (world q st′ m′) (x .count))
+  unfolding heldSteps heldBy
+  by-stretch =
+      ap (λ (j : ℕ). heldBy t c d j size budget r (stretchOf t c j d size (r .frame) budget st m (r .next) (r .top))) (sym i)
+      ∙ ap (heldBy t c d g size budget r) (sym e)
+      ∙ ap (λ (z : Machine). ifLt (x .count) budget (stretchEnd t c d g size (x .count) (world z st′ m′)) (after (world z st′ m′) (x .count))) (sym h)
+
+  pub held-ends : (o : Outcome) (st″ m″ : List ℕ) → x .count < budget → left o st″ m″ ≡ stretchEnd t c d g size (x .count) (world q st′ m′)
+      → left o st″ m″ ≡ heldSteps t c d size budget (world r st m)
+  unfolding ifLt
+  held-ends o st″ m″ l p = sym (by-stretch ∙ rw (lt-ltb _ _ l) (sym p))
+
+  pub held-whole : budget ≤ x .count → left (record { machine = q; count = x .count; broken = No }) st′ m′ ≡ heldSteps t c d size budget (world r st m)
+  unfolding ifLt
+  held-whole l = sym (by-stretch ∙ rw (le-ltb _ _ l))
+
+pub ruleset held = (held-ends, held-whole)
+
+-- the record that a stretch leaves stands in the same frame
+pub moved-room : (r q : Machine) (n top size : ℕ) (st st′ : List ℕ) → q ≡ movedTo r n (r .frame) (r .used) top → r .frame + size ≤ length st → length st′ ≡ length st → q .frame + size ≤ length st′
+unfolding movedTo
+moved-room r q n top size st st′ e l h = rw (e, h) l
+
+module _ (t : List ℕ) (c d budget : ℕ) (r : Machine) (st m : List ℕ) (z : ℕ) (e : z ≡ usableSize (rowAt t) c (length m) r st) where
+  pub some-exact : (o : Outcome) (st′ m′ : List ℕ) → z ≡ 0 → left o st′ m′ ≡ withinStep t c d (world r st m) → left o st′ m′ ≡ someSteps t c d budget (world r st m)
+  unfolding someSteps ifEq
+  some-exact o st′ m′ h q = rw (← e, h) q
+
+  pub some-held : (o : Outcome) (st′ m′ : List ℕ) → (z ≡ 0 → ⊥) → left o st′ m′ ≡ heldSteps t c d z budget (world r st m) → left o st′ m′ ≡ someSteps t c d budget (world r st m)
+  unfolding someSteps ifEq
+  some-held o st′ m′ h q = rw (← e, ne-eqb z 0 h) q
+
+  module _ (h : z ≡ 0 → ⊥) where
+    usable-held : Held t c (rowAt t (r .next) .func) z r st m
+    usable-held = usable-good t c r st m z (sym e) h
+
+    pub usable-room : r .frame + z ≤ length st
+    usable-room = let x = usable-held in omega (arith, x .ends, x .room)
+
+    pub usable-stack : length st ≤ 16384
+    usable-stack = usable-held .stack
+
+    pub usable-memory : length m ≤ 65536
+    usable-memory = usable-held .memory
+
+pub ruleset somes = (some-exact, some-held)
+
 -- ---- a run over tables whose counts are good
-
-count-none : (y : After) → counting 0 y ≡ y
-unfolding counting
-count-none y = let z : 0 + y .count ≡ y .count = omega arith in ap (λ (n : ℕ). record { world = y .world; count = n; broken = y .broken }) z
-
-count-more : (n : ℕ) (y : After) → counting (n + 1) y ≡ counting n (counting 1 y)
-unfolding counting
-count-more n y = let z : n + 1 + y .count ≡ n + (1 + y .count) = omega arith in ap (λ (i : ℕ). record { world = y .world; count = i; broken = y .broken }) z
 
 module _ (t : List ℕ) (c d : ℕ) where
   -- what is left to do gives the whole answer
   pub record RunSoFar (budget : ℕ) (x : World) (r : Machine) (st m : List ℕ) (count : ℕ) : Type 0 where
     pub below : count ≤ budget
+    pub small : c < 4294967296
     pub stack : length st ≡ length (x .stack)
     pub memory : length m ≡ length (x .memory)
     pub rest : counting count (withinRun t c d (budget - count) (world r st m)) ≡ withinRun t c d budget x
 
-  pub running-none : (budget : ℕ) (r : Machine) (st m : List ℕ) → RunSoFar budget (world r st m) r st m 0
-  running-none budget r st m =
+  pub running-none : (budget : ℕ) (r : Machine) (st m : List ℕ) → c < 4294967296 → RunSoFar budget (world r st m) r st m 0
+  running-none budget r st m l =
       let z : budget - 0 ≡ budget = omega arith in
-      record { below = omega arith; stack = refl; memory = refl; rest = count-none (withinRun t c d (budget - 0) (world r st m)) ∙ ap (λ (n : ℕ). withinRun t c d n (world r st m)) z }
+      record {
+        below = omega arith;
+        small = l;
+        stack = refl;
+        memory = refl;
+        rest = count-none (withinRun t c d (budget - 0) (world r st m)) ∙ ap (λ (n : ℕ). withinRun t c d n (world r st m)) z;
+      }
 
   module _ (budget : ℕ) (x : World) (r : Machine) (st m : List ℕ) (count : ℕ) (h : RunSoFar budget x r st m count) where
-    module _ (o : Outcome) (st′ m′ : List ℕ) (l : count < budget) (q : left o st′ m′ ≡ withinStep t c d (world r st m)) where
-      one : withinRun t c d (budget - count) (world r st m)
-          ≡ ifEq (o .count) 0 (left o st′ m′) (counting 1 (withinRun t c d (budget - (count + 1)) (world (o .machine) st′ m′)))
-      unfolding withinRun
-      one =
-          let z : budget - count ≡ suc (budget - (count + 1)) = omega arith in
-          ap (λ (n : ℕ). withinRun t c d n (world r st m)) z
-          ∙ ap (λ (y : After). ifEq (y .count) 0 y (counting 1 (withinRun t c d (budget - (count + 1)) (y .world)))) (sym q)
+    module _ (o : Outcome) (st′ m′ : List ℕ) (l : count < budget) (q : left o st′ m′ ≡ someSteps t c d (budget - count) (world r st m)) where
+      taken : Several t c d (budget - count) (world r st m) (left o st′ m′)
+      taken = subst (Several t c d (budget - count) (world r st m)) (sym q) (several t c d (h .small) (budget - count) r st m (omega (arith, l)))
 
-      pub running-more : (o .count ≡ 0 → ⊥) → length st′ ≡ length st → length m′ ≡ length m → RunSoFar budget x (o .machine) st′ m′ (count + 1)
+      pub running-low : count + o .count ≤ budget
+      running-low = omega (arith, taken .bound, l)
+
+      pub running-more : (o .count ≡ 0 → ⊥) → length st′ ≡ length st → length m′ ≡ length m → RunSoFar budget x (o .machine) st′ m′ (count + o .count)
       running-more n ls lm =
+          let z : budget - (count + o .count) ≡ budget - count - o .count = omega (arith, l) in
           record {
-            below = omega (arith, l);
+            below = running-low;
+            small = h .small;
             stack = ls ∙ h .stack;
             memory = lm ∙ h .memory;
             rest =
-                count-more count (withinRun t c d (budget - (count + 1)) (world (o .machine) st′ m′))
-                ∙ ap (counting count) (sym (one ∙ ifEq-no (left o st′ m′) (counting 1 (withinRun t c d (budget - (count + 1)) (world (o .machine) st′ m′))) n))
+                ap (λ (b : ℕ). counting (count + o .count) (withinRun t c d b (world (o .machine) st′ m′))) z
+                ∙ count-add count (o .count) (withinRun t c d (budget - count - o .count) (world (o .machine) st′ m′))
+                ∙ ap (counting count) (sym (taken .runs n))
                 ∙ h .rest;
           }
 
@@ -118,7 +218,7 @@ module _ (t : List ℕ) (c d : ℕ) where
       running-ends n =
           let z : count ≡ count + o .count = omega (arith, n) in
           ap (λ (i : ℕ). record { world = world (o .machine) st′ m′; count = i; broken = o .broken }) z
-          ∙ ap (counting count) (sym (one ∙ ifEq-yes (left o st′ m′) (counting 1 (withinRun t c d (budget - (count + 1)) (world (o .machine) st′ m′))) n))
+          ∙ ap (counting count) (sym (taken .stops n))
           ∙ h .rest
 
     pub running-done : budget ≤ count → left (record { machine = r; count = count; broken = No }) st m ≡ withinRun t c d budget x
@@ -164,6 +264,11 @@ module _ (t : List ℕ) (c : ℕ) (l : List ℕ) (k : ℕ) (names : List ℕ) (d
   unfolding runOf
   run-still zero x e n = absurd (n refl)
   run-still (suc b) x e n = ifEq-yes (stepOf Bits32 T x) (counting 1 (runOf Bits32 T b (stepOf Bits32 T x .world))) e
+
+  -- all rows lie in their table
+  pub rows-fit : (f : Bool) → f ≡ countFault (tablesOf t c l k names 0) → f ≡ false → c * 27 ≤ length t
+  unfolding countFault some
+  rows-fit f g i = ltb-false (length t) (c * 27) (one-no (ltb (length t) (c * 27)) _ (sym g ∙ i))
 
   module _ (r : Machine) (st m : List ℕ) (b : Bool) (e : b ≡ isRunning (r .state)) where
     pub step-idle : (o : Outcome) → b ≡ false → o ≡ givenBack r No → left o st m ≡ stepOf Bits32 T (world r st m)

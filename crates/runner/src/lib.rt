@@ -3,11 +3,16 @@ use limits::Machine;
 use limits::State;
 use machine::Broken;
 use machine::Outcome;
+use turns::Turn;
 ghost use mathlib.Core.Path.{_≡_};
+ghost use Prim.Native.Nat.{_+_, _*_, _≤_, _<_};
+ghost use lib.ListN.{length};
 ghost use Rattle.limits.specs.declared.Width.the-variants.{Bits32};
-ghost use Rattle.machine.specs.Step.{stepOf, runOf};
+ghost use Rattle.tables.specs.Statement.{rowAt};
+ghost use Rattle.machine.specs.Step.{movedTo, stepOf, runOf};
 ghost use Rattle.machine.specs.Lent.{tablesOf, world, left};
 ghost use Rattle.runner.specs.Within.{givenBack, isRunning, takenStep, withinStep, withinRun};
+ghost use Rattle.runner.specs.Steps.{usableSize, stretchEnd, heldSteps, someSteps};
 
 // Nothing happened, but perhaps a 35.
 fn give_back(r: Machine, b: Broken) -> Outcome
@@ -54,6 +59,119 @@ fn step_within(t: &[u32], c: u32, d: u32, r: Machine, st: &mut [u32], m: &mut [u
     give_back(r, Broken::No)
 }
 
+// The words of the frame in use, where the record is running and stands in a good one; else 0.
+fn usable_size(t: &[u32], c: u32, m: usize, r: Machine, st: &[u32]) -> u32
+    requires { ⌜ c * 27 ≤ length (now t) ⌝ }
+    ensures { λ z. ⌜ z ≡ usableSize (rowAt (now (t .entry))) c m r (now (st .entry)) ⌝ }
+{
+    if is_running(r) {
+        return gate::held_size(t, c, m, r, st);
+    }
+    0
+}
+
+// The record at another statement of its frame, and in another frame.
+fn moved(r: Machine, next: u32, frame: u32, used: u32, top: u32) -> Machine
+    ensures { λ q. ⌜ q ≡ movedTo r next frame used top ⌝ }
+{
+    let state = r.state;
+    Machine {
+        state: state,
+        next: next,
+        frame: frame,
+        used: used,
+        top: top,
+    }
+}
+
+// The statement that a stretch of so many steps ends at: a call or a return, or else the exact step where there was none before it.
+fn end_stretch(
+    t: &[u32],
+    c: u32,
+    g: u32,
+    d: u32,
+    size: u32,
+    r: Machine,
+    count: u64,
+    st: &mut [u32],
+    m: &mut [u8],
+) -> Outcome
+    requires { ⌜ (c * 27 ≤ length (now t)) × (r .frame + size ≤ length (now st)) × (length (now st) ≤ 16384) × (length (now m) ≤ 65536) × (count < 18446744073709551615) ⌝ }
+    ensures { λ o. ⌜ left o (now (st .exit)) (now (m .exit)) ≡ stretchEnd (now (t .entry)) c d g size count (world r (now (st .entry)) (now (m .entry))) ⌝ }
+{
+    let y = turns::take_turn(t, c, g, d, size, st, r.frame, r.used, m, r.next, r.top);
+    match y {
+        Turn::To {
+            next,
+            frame,
+            used,
+            top,
+        } => Outcome {
+            machine: moved(r, next, frame, used, top),
+            count: count + 1,
+            broken: Broken::No,
+        },
+        Turn::Stays => {
+            if 0 < count {
+                return Outcome {
+                    machine: r,
+                    count: count,
+                    broken: Broken::No,
+                };
+            }
+            step_within(t, c, d, r, st, m)
+        }
+    }
+}
+
+// Steps of a running record that stands in a good frame of this size: a stretch, and what it ends at.
+fn advance_held(
+    t: &[u32],
+    c: u32,
+    d: u32,
+    size: u32,
+    budget: u64,
+    r: Machine,
+    st: &mut [u32],
+    m: &mut [u8],
+) -> Outcome
+    requires { ⌜ (c * 27 ≤ length (now t)) × (r .frame + size ≤ length (now st)) × (length (now st) ≤ 16384) × (length (now m) ≤ 65536) ⌝ }
+    ensures { λ o. ⌜ left o (now (st .exit)) (now (m .exit)) ≡ heldSteps (now (t .entry)) c d size budget (world r (now (st .entry)) (now (m .entry))) ⌝ }
+{
+    let g = tables::func_at(t, r.next);
+    let x = stretch::run_stretch(t, c, g, d, size, budget, st, r.frame, m, r.next, r.top);
+    let count = x.count;
+    let q = moved(r, x.next, r.frame, r.used, x.top);
+    if count < budget {
+        return end_stretch(t, c, g, d, size, q, count, st, m);
+    }
+    Outcome {
+        machine: q,
+        count: count,
+        broken: Broken::No,
+    }
+}
+
+// Some steps within a budget, one at least where that is possible.
+fn advance(
+    t: &[u32],
+    c: u32,
+    d: u32,
+    budget: u64,
+    r: Machine,
+    st: &mut [u32],
+    m: &mut [u8],
+) -> Outcome
+    requires { ⌜ c * 27 ≤ length (now t) ⌝ }
+    ensures { λ o. ⌜ left o (now (st .exit)) (now (m .exit)) ≡ someSteps (now (t .entry)) c d budget (world r (now (st .entry)) (now (m .entry))) ⌝ }
+{
+    let size = usable_size(t, c, m.len(), r, st);
+    if size == 0 {
+        return step_within(t, c, d, r, st, m);
+    }
+    advance_held(t, c, d, size, budget, r, st, m)
+}
+
 // Steps within a budget, over tables whose counts are good.
 fn run_within(
     t: &[u32],
@@ -64,12 +182,13 @@ fn run_within(
     st: &mut [u32],
     m: &mut [u8],
 ) -> Outcome
+    requires { ⌜ c * 27 ≤ length (now t) ⌝ }
     ensures { λ o. ⌜ left o (now (st .exit)) (now (m .exit)) ≡ withinRun (now (t .entry)) c d budget (world r (now (st .entry)) (now (m .entry))) ⌝ }
 {
     let mut q = r;
     let mut count: u64 = 0;
     while count < budget {
-        let o = step_within(t, c, d, q, st, m);
+        let o = advance(t, c, d, budget - count, q, st, m);
         let counted = o.count;
         let broken = o.broken;
         let next = o.machine;
@@ -81,7 +200,7 @@ fn run_within(
             };
         }
         q = next;
-        count += 1;
+        count += counted;
     }
     Outcome {
         machine: q,

@@ -1,27 +1,55 @@
-use Rattle.gate.proofs.Sure.{broken-ways}
+use borrow.Author.Needs.{needs}
+use Rattle.gate.proofs.Cases.{broken-ways}
 use native.Mathlib.Omega.{arith}
 use mathlib.Core.Path.{_≡_, refl, sym, _∙_, ap, subst}
-use borrow.Author.Needs.{needs}
 use Rattle.gate.proofs.find_broken.Statement.{statement}
 use Rattle.gate.proofs.find_broken.Tie as tie
 use Rattle.gate.proofs.find_broken.Reads as reads
 use Rattle.gate.proofs.find_broken.Lts as lts
-use Rattle.gate.proofs.find_exactly.Reads as find-exactly-reads
-use Rattle.gate.proofs.is_sure.Reads as is-sure-reads
+use Rattle.gate.proofs.find_used.Reads as find-used-reads
+use Rattle.gate.proofs.record_good.Reads as record-good-reads
 
-is-sure-requires : tie.Need-is-sure-requires
-is-sure-requires c κs = search needs
+find-used-requires : tie.Need-find-used-requires
+find-used-requires c κs = search needs
+
+enum-told : tie.Need-enum-told
+enum-told c = search needs
+
+record-good-requires : tie.Need-record-good-requires
+record-good-requires c κs = search needs
 
 returns : tie.Need-returns
 returns c =
     search broken-ways
 
-find-exactly-requires : tie.Need-find-exactly-requires
-find-exactly-requires c κs = search needs
+enum-known-b : tie.Need-enum-known-b
+enum-known-b c = search needs
+
+enum-told-2 : tie.Need-enum-told-2
+enum-told-2 c = search needs
 
 returns-2 : tie.Need-returns-2
 returns-2 c =
     search broken-ways
 
+returns-3 : tie.Need-returns-3
+returns-3 c =
+    search broken-ways
+
+returns-4 : tie.Need-returns-4
+returns-4 c =
+    search broken-ways
+
 pub find-broken-spec : {M : Type 1} → statement M
-find-broken-spec = tie.close (tie.spec is-sure-requires returns find-exactly-requires returns-2)
+find-broken-spec =
+    tie.close
+    (tie.spec
+    find-used-requires
+    enum-told
+    record-good-requires
+    returns
+    enum-known-b
+    enum-told-2
+    returns-2
+    returns-3
+    returns-4)

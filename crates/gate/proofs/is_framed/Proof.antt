@@ -1,4 +1,4 @@
-use Rattle.gate.proofs.Sure.{framed-ways}
+use Rattle.gate.proofs.Framed.{framed-ways}
 use native.Mathlib.Omega.{arith}
 use mathlib.Core.Path.{_≡_, refl, sym, _∙_, ap, subst}
 use borrow.Author.Needs.{needs}

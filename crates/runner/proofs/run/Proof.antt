@@ -1,4 +1,4 @@
-use Rattle.runner.proofs.Cases.{runs}
+use Rattle.runner.proofs.Cases.{runs, rows-fit}
 use native.Mathlib.Omega.{arith}
 use mathlib.Core.Path.{_≡_, refl, sym, _∙_, ap, subst}
 use borrow.Author.Needs.{needs}
@@ -32,7 +32,7 @@ returns-2 c =
     search runs
 
 run-within-requires : tie.Need-run-within-requires
-run-within-requires c κs = search needs
+run-within-requires c κs = search rows-fit
 
 same-length : tie.Need-same-length
 same-length c = search needs

@@ -1,14 +1,14 @@
 use borrow.Author.Needs.{needs}
 use Prim.Native.Nat.{_-_}
 use Rattle.machine.specs.Lent.{world}
-use Rattle.runner.proofs.Cases.{RunSoFar, running}
+use Rattle.runner.proofs.Cases.{RunSoFar, running, running-low}
 use native.Mathlib.Omega.{arith}
 use mathlib.Core.Path.{_≡_, refl, sym, _∙_, ap, subst}
 use Rattle.runner.proofs.run_within.Statement.{statement}
 use Rattle.runner.proofs.run_within.Tie as tie
 use Rattle.runner.proofs.run_within.Reads as reads
 use Rattle.runner.proofs.run_within.Lts as lts
-use Rattle.runner.proofs.step_within.Reads as step-within-reads
+use Rattle.runner.proofs.advance.Reads as advance-reads
 
 abbrev Inv-loop : tie.InvT-loop
 Inv-loop t c d budget st₀ m₀ q₀ count₀ st m q count =
@@ -22,8 +22,11 @@ loop-holds : tie.Need-loop-holds Inv-loop μ-loop
 loop-holds c =
     search running
 
-step-within-requires : tie.Need-step-within-requires Inv-loop μ-loop
-step-within-requires c κs = search needs
+sub-advance : tie.Need-sub-advance Inv-loop μ-loop
+sub-advance c = search needs
+
+advance-requires : tie.Need-advance-requires Inv-loop μ-loop
+advance-requires c κs = search needs
 
 same-length : tie.Need-same-length Inv-loop μ-loop
 same-length c = search needs
@@ -36,7 +39,8 @@ returns c =
     search running
 
 add-count : tie.Need-add-count Inv-loop μ-loop
-add-count c = search needs
+add-count c =
+    omega (arith, running-low _ _ _ _ _ _ _ _ _ (c .before .before .before .before .before .before .before .before .before .before .loop .inv) _ _ _ (c .before .before .before .before .before .before .before .before .before .loop-test .taken) (c .before .before .before .before .before .before .advance .ensures))
 
 loop-less : tie.Need-loop-less Inv-loop μ-loop
 loop-less c = search needs
@@ -62,7 +66,8 @@ run-within-spec =
     Inv-loop
     μ-loop
     loop-holds
-    step-within-requires
+    sub-advance
+    advance-requires
     same-length
     same-length-2
     returns
