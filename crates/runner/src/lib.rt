@@ -60,12 +60,12 @@ fn step_within(t: &[u32], c: u32, d: u32, r: Machine, st: &mut [u32], m: &mut [u
 }
 
 // The words of the frame in use, where the record is running and stands in a good one; else 0.
-fn usable_size(t: &[u32], c: u32, m: usize, r: Machine, st: &[u32]) -> u32
+fn usable_size(t: &[u32], c: u32, m: usize, q: Machine, st: &[u32]) -> u32
     requires { ⌜ c * 27 ≤ length (now t) ⌝ }
-    ensures { λ z. ⌜ z ≡ usableSize (rowAt (now (t .entry))) c m r (now (st .entry)) ⌝ }
+    ensures { λ z. ⌜ z ≡ usableSize (rowAt (now (t .entry))) c m q (now (st .entry)) ⌝ }
 {
-    if is_running(r) {
-        return gate::held_size(t, c, m, r, st);
+    if is_running(q) {
+        return gate::held_size(t, c, m, q, st);
     }
     0
 }

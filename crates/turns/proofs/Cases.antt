@@ -55,28 +55,38 @@ module _ (t : List ℕ) (size d i k v : ℕ) (e : k ≡ getD t i 0) (g : v ≡ g
 
 pub ruleset bads = (bad-constant, bad-local, bad-address, bad-at-constant, bad-at-local, bad-at-address, bad-unlisted)
 
-module _ (t : List ℕ) (at size d left i : ℕ) where
-  pub from-none : left ≡ 0 → true ≡ goodFrom t at size d left i
-  unfolding goodFrom
-  from-none e = rw e
+-- what is left to test gives the whole answer
+pub record GoodSoFar (t : List ℕ) (at size d k i : ℕ) : Type 0 where
+  pub below : i ≤ k
+  pub rest : goodFrom t at size d (k - i) i ≡ goodFrom t at size d k 0
 
-  one-less : (left ≡ 0 → ⊥) → goodFrom t at size d left i ≡ ifTrue (operandFault size d (operandAt t (at + 11 + i * 2))) false (goodFrom t at size d (left - 1) (i + 1))
-  unfolding goodFrom
-  one-less n =
-      let z : left ≡ suc (left - 1) = omega (arith, n) in
-      ap (λ (j : ℕ). goodFrom t at size d j i) z
-      ∙ ap (λ (j : ℕ). ifTrue (operandFault size d (operandAt t (at + 11 + i * 2))) false (goodFrom t at size d (left - 1) j)) (sym (one-more i))
+module _ (t : List ℕ) (at size d k : ℕ) where
+  pub good-none : GoodSoFar t at size d k 0
+  good-none = let z : k - 0 ≡ k = omega arith in record { below = omega arith; rest = ap (λ (j : ℕ). goodFrom t at size d j 0) z }
 
-  module _ (b : Bool) (n : left ≡ 0 → ⊥) (e : b ≡ operandFault size d (operandAt t (at + 11 + i * 2))) where
-    pub from-bad : b ≡ true → false ≡ goodFrom t at size d left i
-    unfolding ifTrue
-    from-bad h = sym (one-less n ∙ rw (← e, h))
+  module _ (i : ℕ) (h : GoodSoFar t at size d k i) where
+    module _ (b : Bool) (l : i < k) (e : b ≡ operandFault size d (operandAt t (at + 11 + i * 2))) where
+      one-less : goodFrom t at size d (k - i) i ≡ ifTrue b false (goodFrom t at size d (k - (i + 1)) (i + 1))
+      unfolding goodFrom
+      one-less =
+          let z : k - i ≡ suc (k - (i + 1)) = omega (arith, l) in
+          ap (λ (j : ℕ). goodFrom t at size d j i) z
+          ∙ ap (λ (j : ℕ). ifTrue (operandFault size d (operandAt t (at + 11 + i * 2))) false (goodFrom t at size d (k - (i + 1)) j)) (sym (one-more i))
+          ∙ ap (λ (x : Bool). ifTrue x false (goodFrom t at size d (k - (i + 1)) (i + 1))) (sym e)
 
-    pub from-good : (r : Bool) → b ≡ false → r ≡ goodFrom t at size d (left - 1) (i + 1) → r ≡ goodFrom t at size d left i
-    unfolding ifTrue
-    from-good r h q = q ∙ sym (one-less n ∙ rw (← e, h))
+      pub good-bad : b ≡ true → false ≡ goodFrom t at size d k 0
+      unfolding ifTrue
+      good-bad q = sym (one-less ∙ rw q) ∙ h .rest
 
-pub ruleset goods = (from-none, from-bad, from-good)
+      pub good-more : b ≡ false → GoodSoFar t at size d k (i + 1)
+      unfolding ifTrue
+      good-more q = record { below = omega (arith, l); rest = sym (one-less ∙ rw q) ∙ h .rest }
+
+    pub good-done : k ≤ i → true ≡ goodFrom t at size d k 0
+    unfolding goodFrom
+    good-done l = let z : k - i ≡ 0 = omega (arith, l) in ap (λ (j : ℕ). goodFrom t at size d j i) (sym z) ∙ h .rest
+
+pub ruleset goods = (good-none, good-bad, good-more, good-done)
 
 -- ---- rows that call
 

@@ -38,18 +38,19 @@ fn is_bad(t: &[u32], i: usize, d: u32, size: u32) -> bool
     }
 }
 
-// Whether so many operands from the i-th on are good; the row's first word is at a place.
-fn are_good(t: &[u32], at: usize, d: u32, size: u32, left: u32, i: u32) -> bool
-    requires { ⌜ (at + 27 ≤ length (now t)) × (i + left ≤ 8) ⌝ }
-    ensures { λ r. ⌜ r ≡ goodFrom (now (t .entry)) at size d left i ⌝ }
+// Whether the first k operands of the row at a place are good.
+fn are_good(t: &[u32], at: usize, d: u32, size: u32, k: u32) -> bool
+    requires { ⌜ (at + 27 ≤ length (now t)) × (k ≤ 8) ⌝ }
+    ensures { λ r. ⌜ r ≡ goodFrom (now (t .entry)) at size d k 0 ⌝ }
 {
-    if left == 0 {
-        return true;
+    let mut i: u32 = 0;
+    while i < k {
+        if is_bad(t, at + 11 + i as usize * 2, d, size) {
+            return false;
+        }
+        i += 1;
     }
-    if is_bad(t, at + 11 + i as usize * 2, d, size) {
-        return false;
-    }
-    are_good(t, at, d, size, left - 1, i + 1)
+    true
 }
 
 // The frame size of function p, where it has k parameters; else 0.
@@ -107,7 +108,7 @@ fn is_call_good(t: &[u32], c: u32, d: u32, size: u32, p: u32) -> bool
         return false;
     }
     if calls_local(t, size, p) {
-        return are_good(t, p as usize * 27, d, size, k, 0);
+        return are_good(t, p as usize * 27, d, size, k);
     }
     false
 }
