@@ -225,7 +225,7 @@ static inline uint64_t voodoo_count(const uint32_t *result)
  * A pointer is valid and aligned also where the length is 0. No two buffers of a
  * call may overlap.
  *
- * Each uses at most 1.6 KB of stack (measured); have 4 KB free.
+ * Each uses less than 3 KB of stack (counted in the compiled code); have 4 KB free.
  */
 
 /*

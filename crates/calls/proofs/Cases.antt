@@ -25,9 +25,7 @@ use Rattle.machine.specs.declared.Landing.the-variants.{Ends, Lands}
 use Rattle.calls.specs.Outcomes.{counted, halted, after, calling, callingWith, atCalling, tailCalling, tailCallingWith, handing, handingTo, wordsIn, Calls}
 use Rattle.gate.proofs.Passed.{lands-low}
 use Rattle.calls.proofs.Reading.{arguments-are}
-
-one-more : (n : ℕ) → n + 1 ≡ suc n
-one-more n = omega arith
+use Rattle.tables.proofs.Ranges.{one-more}
 
 pub entered : (r q : Machine) (o : Outcome) (g at used top : ℕ) → q ≡ movedTo r (g + 1) at used top → o ≡ counted q
     → o ≡ counted (movedTo r (suc g) at used top)

@@ -36,6 +36,7 @@ use Rattle.machine.specs.declared.Worked.{Worked}
 use Rattle.fast.specs.Fast.{readEach}
 use Rattle.fast.proofs.Reading.{Reading, reading-none, reading-more, reading-stops, reading-done}
 use Rattle.calls.specs.Outcomes.{slotRead, wordsIn, Expressed, Calls}
+use Rattle.tables.proofs.Ranges.{operator-most}
 
 -- ---- the expression of a row
 
@@ -44,14 +45,10 @@ some-operand : allBelow (λ e. given (isOperator e) (ltb 0 (leastOperands e))) 5
 unfolding allBelow isOperator leastOperands entryOf firstOf isNumber words ifEq ifLt
 some-operand = refl
 
-operator-low : (e : ℕ) → isOperator e ≡ true → e < 52
-unfolding isOperator
-operator-low e h = either (λ (b : Bool). b ≡ true → e < 52) e 33 false (ltb e 52) (λ l q. omega arith) (λ l q. ltb-true e 52 q) h
-
 has-operand : (e : ℕ) → isOperator e ≡ true → 0 < leastOperands e
 has-operand e h =
     ltb-true 0 (leastOperands e)
-    (given-then (isOperator e) (ltb 0 (leastOperands e)) (below-at (λ e. given (isOperator e) (ltb 0 (leastOperands e))) 52 e some-operand (operator-low e h)) h)
+    (given-then (isOperator e) (ltb 0 (leastOperands e)) (below-at (λ e. given (isOperator e) (ltb 0 (leastOperands e))) 52 e some-operand (operator-most e h)) h)
 
 module _ (st : List ℕ) (s : ℕ) (m : List ℕ) (top e : ℕ) (a b : Operand) (os : List Operand) where
   plain-first : e ≡ 1 → evalOf Bits32 st s m top e (a ∷ b ∷ []) ≡ evalOf Bits32 st s m top e (take 1 (a ∷ b ∷ os))

@@ -10,10 +10,7 @@ use borrow.Author.Tests.{lt-ltb, le-ltb}
 use Rattle.tables.specs.Tests.{oneOf, some}
 use Rattle.tables.specs.Faults.{countFault}
 use Rattle.machine.specs.Lent.{tablesOf}
-
-or-false : (b : Bool) → oneOf b false ≡ b
-or-false true = refl
-or-false false = refl
+use Rattle.tables.proofs.Each.{one-false}
 
 module _ (t : List ℕ) (c : ℕ) (l : List ℕ) (k : ℕ) (names : List ℕ) where
   pub count-rows : length t < c * 27 → true ≡ countFault (tablesOf t c l k names 0)
@@ -27,7 +24,7 @@ module _ (t : List ℕ) (c : ℕ) (l : List ℕ) (k : ℕ) (names : List ℕ) wh
 
     pub count-names : k * 4 ≤ length l → ltb (length names) (k * 64) ≡ countFault (tablesOf t c l k names 0)
     unfolding countFault some
-    count-names g = rw (le-ltb _ _ h, le-ltb _ _ g) (sym (or-false (ltb (length names) (k * 64))))
+    count-names g = rw (le-ltb _ _ h, le-ltb _ _ g) (sym (one-false (ltb (length names) (k * 64))))
 
   pub count-any : (d : ℕ) → countFault (tablesOf t c l k names 0) ≡ countFault (tablesOf t c l k names d)
   unfolding countFault

@@ -18,6 +18,7 @@ use Rattle.tables.proofs.Each.{both-left, both-right, given-then, all-at, aimed
 use Rattle.tables.proofs.Targets.{Aimed}
 use Rattle.tables.proofs.Sound.{ok, shut, target-good}
 use Rattle.derived.proofs.Next.{frameIn, around, scope-other}
+use Rattle.tables.proofs.Ranges.{test-least}
 
 -- a search finds what passes, or ends behind the last number
 first-or : {P : Type 0} (p : ℕ → Bool) (left i : ℕ) → (p (firstFrom p left i) ≡ true → P) → (firstFrom p left i ≡ i + left → P) → P
@@ -31,14 +32,10 @@ first-or p (suc left) i y z = split (p i) refl (λ q a b. first-or p left (suc i
     split false e on y z = on e y (λ d. z (omega arith))
 
 -- an arm's kind, and one with a target, is a test or above
-test-low : (k : ℕ) → isTest k ≡ true → 14 ≤ k
-unfolding isTest
-test-low k e = either (λ (b : Bool). b ≡ true → 14 ≤ k) k 14 false (ltb k 20) (λ l q. true-false (sym q)) (λ l q. l) e
-
 target-low : (k : ℕ) → hasTarget k ≡ true → 14 ≤ k
 unfolding hasTarget
 target-low k e =
-    either-true (λ (b : Bool). b ≡ true → 14 ≤ k) (isTest k) true (ifEq k 20 true (eqb k 21)) (λ d q. test-low k d)
+    either-true (λ (b : Bool). b ≡ true → 14 ≤ k) (isTest k) true (ifEq k 20 true (eqb k 21)) (λ d q. test-least k d)
     (λ d q. either-eq (λ (b : Bool). b ≡ true → 14 ≤ k) k 20 true (eqb k 21) (λ r s. omega arith) (λ r s. omega (arith, eqb-true k 21 s)) q) e
 
 module _ (f : ℕ → Row) (c : ℕ) (ok : (n : ℕ) → n < c → stands f n ≡ true) (shut : openBefore f c ≡ 0) where

@@ -17,6 +17,7 @@ use Rattle.tables.specs.Nesting.{isListed, hasTarget}
 use Rattle.tables.specs.Faults.{expressionListed, inFunction, sizeAt, operandFault, addressListed, kindFault, targetFault, calleeFault, sizeFault, ownWord, hasWord, wordFault, operandsFault, addressFault, rowFault}
 use Rattle.tables.specs.declared.Operand.{Operand}
 use Rattle.tables.specs.declared.Operand.the-variants.{Unlisted}
+use Rattle.tables.proofs.Each.{one-true}
 
 module _ (k : ℕ) (b : Bool) (d : b ≡ isTest k) where
   pub has-test : b ≡ true → true ≡ hasTarget k
@@ -215,11 +216,7 @@ some-of p [] m i h l e = absurd (not-suc-le-zero l)
 some-of p (x ∷ xs) zero i h l e = absurd (not-suc-le-zero h)
 some-of p (x ∷ xs) (suc m) zero h l e = ap (λ (b : Bool). oneOf b (someOf p (take m xs))) e
 some-of p (x ∷ xs) (suc m) (suc i) h l e =
-    ap (λ (b : Bool). oneOf (p x) b) (some-of p xs m i (le-of-suc-le-suc h) (le-of-suc-le-suc l) e) ∙ or-true (p x)
-  where
-    or-true : (b : Bool) → oneOf b true ≡ true
-    or-true true = refl
-    or-true false = refl
+    ap (λ (b : Bool). oneOf (p x) b) (some-of p xs m i (le-of-suc-le-suc h) (le-of-suc-le-suc l) e) ∙ one-true (p x)
 
 -- none of the first m elements
 none-of : (p : Operand → Bool) (xs : List Operand) (m : ℕ) → ((i : ℕ) → i < m → i < length xs → p (getD xs i Unlisted) ≡ false) → someOf p (take m xs) ≡ false

@@ -16,18 +16,8 @@ use Rattle.tables.specs.Tests.{both, oneOf, some, someOf}
 use Rattle.tables.specs.Statement.{Row, hasExpression, isTest, isCall, usedBy, slots, rowFrom, rowAt}
 use Rattle.tables.specs.Nesting.{isListed, hasTarget}
 use Rattle.tables.specs.Faults.{operandFault, kindFault, targetFault, calleeFault, sizeFault, hasWord, wordFault, operandsFault, addressFault, rowFault, sizeAt}
-
-or-false : (b : Bool) → oneOf b false ≡ b
-or-false true = refl
-or-false false = refl
-
-test-high : (k : ℕ) → isTest k ≡ true → 14 ≤ k
-unfolding isTest
-test-high k e = either (λ (b : Bool). b ≡ true → 14 ≤ k) k 14 false (ltb k 20) (λ l q. true-false (sym q)) (λ l q. l) e
-
-test-low : (k : ℕ) → isTest k ≡ true → k < 20
-unfolding isTest
-test-low k e = either (λ (b : Bool). b ≡ true → k < 20) k 14 false (ltb k 20) (λ l q. true-false (sym q)) (λ l q. ltb-true k 20 q) e
+use Rattle.tables.proofs.Each.{one-false}
+use Rattle.tables.proofs.Ranges.{test-least, test-most}
 
 test-bare : (k : ℕ) → 14 ≤ k → hasExpression k ≡ false
 unfolding hasExpression ifLt
@@ -99,7 +89,7 @@ module _ (t : List ℕ) (c d n : ℕ) where
         no-operands (unused 1 e refl),
         no-address (ap (λ (i : ℕ). eqb i 7) e),
       )
-      (or-false (sizeFault f n))
+      (one-false (sizeFault f n))
 
   pub of-end : kind ≡ 2 → rowFault f c d n ≡ false
   unfolding rowFault some isListed hasExpression hasTarget isTest isCall hasWord usedBy ifTrue ifEq ifLt
@@ -125,7 +115,7 @@ module _ (t : List ℕ) (c d n : ℕ) where
         no-operands (unused 3 e refl),
         no-address (ap (λ (i : ℕ). eqb i 7) e),
       )
-      (or-false (wordFault f c n))
+      (one-false (wordFault f c n))
 
   pub of-end-block : kind ≡ 4 → rowFault f c d n ≡ wordFault f c n
   unfolding rowFault some isListed hasExpression hasTarget isTest isCall hasWord usedBy ifTrue ifEq ifLt
@@ -138,7 +128,7 @@ module _ (t : List ℕ) (c d n : ℕ) where
         no-operands (unused 4 e refl),
         no-address (ap (λ (i : ℕ). eqb i 7) e),
       )
-      (or-false (wordFault f c n))
+      (one-false (wordFault f c n))
 
   pub of-let : kind ≡ 5 → rowFault f c d n ≡ some (kindFault f n ∷ calleeFault f c n ∷ wordFault f c n ∷ operandsFault f c d n ∷ [])
   unfolding rowFault some isListed hasExpression hasTarget isTest isCall hasWord usedBy ifTrue ifEq ifLt
@@ -178,7 +168,7 @@ module _ (t : List ℕ) (c d n : ℕ) where
         no-word (ap hasWord e),
         no-address (ap (λ (i : ℕ). eqb i 7) e),
       )
-      (or-false (operandsFault f c d n))
+      (one-false (operandsFault f c d n))
 
   pub of-set-word : kind ≡ 9 → rowFault f c d n ≡ operandsFault f c d n
   unfolding rowFault some isListed hasExpression hasTarget isTest isCall hasWord usedBy ifTrue ifEq ifLt
@@ -191,7 +181,7 @@ module _ (t : List ℕ) (c d n : ℕ) where
         no-word (ap hasWord e),
         no-address (ap (λ (i : ℕ). eqb i 7) e),
       )
-      (or-false (operandsFault f c d n))
+      (one-false (operandsFault f c d n))
 
   pub of-goto : kind ≡ 10 → rowFault f c d n ≡ targetFault f c n
   unfolding rowFault some isListed hasExpression hasTarget isTest isCall hasWord usedBy ifTrue ifEq ifLt
@@ -204,7 +194,7 @@ module _ (t : List ℕ) (c d n : ℕ) where
         no-operands (unused 10 e refl),
         no-address (ap (λ (i : ℕ). eqb i 7) e),
       )
-      (or-false (targetFault f c n))
+      (one-false (targetFault f c n))
 
   pub of-call : kind ≡ 11 → rowFault f c d n ≡ some (calleeFault f c n ∷ operandsFault f c d n ∷ [])
   unfolding rowFault some isListed hasExpression hasTarget isTest isCall hasWord usedBy ifTrue ifEq ifLt
@@ -249,7 +239,7 @@ module _ (t : List ℕ) (c d n : ℕ) where
         no-operands (unused 20 e refl),
         no-address (ap (λ (i : ℕ). eqb i 7) e),
       )
-      (or-false (targetFault f c n))
+      (one-false (targetFault f c n))
 
   pub of-jump : kind ≡ 21 → rowFault f c d n ≡ targetFault f c n
   unfolding rowFault some isListed hasExpression hasTarget isTest isCall hasWord usedBy ifTrue ifEq ifLt
@@ -262,7 +252,7 @@ module _ (t : List ℕ) (c d n : ℕ) where
         no-operands (unused 21 e refl),
         no-address (ap (λ (i : ℕ). eqb i 7) e),
       )
-      (or-false (targetFault f c n))
+      (one-false (targetFault f c n))
 
   pub of-end-if : kind ≡ 22 → rowFault f c d n ≡ false
   unfolding rowFault some isListed hasExpression hasTarget isTest isCall hasWord usedBy ifTrue ifEq ifLt
@@ -280,8 +270,8 @@ module _ (t : List ℕ) (c d n : ℕ) where
   pub of-test : isTest kind ≡ true → rowFault f c d n ≡ some (targetFault f c n ∷ operandsFault f c d n ∷ [])
   unfolding rowFault some isListed hasExpression isCall hasWord ifTrue ifEq ifLt
   of-test e =
-      let l = test-high kind e in
-      let u = test-low kind e in
+      let l = test-least kind e in
+      let u = test-most kind e in
       rw (
         no-kind (rw (ne-eqb kind 0 (λ q. omega (arith, l, q)), lt-ltb kind 23 (omega (arith, u)))) (test-bare kind l),
         no-callee (rw (ne-eqb kind 11 (λ q. omega (arith, l, q)), ne-eqb kind 12 (λ q. omega (arith, l, q)), test-bare kind l)),
@@ -342,7 +332,7 @@ module _ (p q : Bool) (b : Bool) (e : b ≡ p) where
 
   pub two-second : (x : Bool) → b ≡ false → x ≡ q → x ≡ some (p ∷ q ∷ [])
   unfolding some
-  two-second x h d = rw (← e, h, ← d) (sym (or-false x))
+  two-second x h d = rw (← e, h, ← d) (sym (one-false x))
 
 module _ (p q r : Bool) (b : Bool) (e : b ≡ p) where
   pub three-first : b ≡ true → true ≡ some (p ∷ q ∷ r ∷ [])
@@ -370,7 +360,7 @@ module _ (p q r s : Bool) (b : Bool) (e : b ≡ p) where
 
       pub four-fourth : (x : Bool) → w ≡ false → x ≡ s → x ≡ some (p ∷ q ∷ r ∷ s ∷ [])
       unfolding some
-      four-fourth x l o = rw (← e, h, ← d, g, ← i, l, ← o) (sym (or-false x))
+      four-fourth x l o = rw (← e, h, ← d, g, ← i, l, ← o) (sym (one-false x))
 
 pub ruleset twos = (two-first, two-second)
 

@@ -14,6 +14,7 @@ use Rattle.tables.specs.Tests.{oneOf, firstFrom, countBelow, someBelow}
 use Rattle.tables.specs.Statement.{Row, isTest}
 use Rattle.tables.specs.Nesting.{isArm, isEndIf, nextArm, endIfOf, pastArm, targetOf, encloses}
 use Rattle.tables.specs.Frames.{letsBefore, firstLet, letSeen, isParameter, seenAt, inScope, localsAt}
+use Rattle.tables.proofs.Each.{some-at}
 
 -- ---- one row
 
@@ -217,19 +218,6 @@ pub record Looking (f : ℕ → Row) (s w n i : ℕ) : Type 0 where
 pub looking-start : (f : ℕ → Row) (s w n : ℕ) → Looking f s w n 0
 unfolding someBelow
 looking-start f s w n = record { below = omega arith; none = refl }
-
-pub some-at : (p : ℕ → Bool) (n i : ℕ) → i < n → p i ≡ true → someBelow p n ≡ true
-unfolding someBelow
-some-at p zero i h e = absurd (not-suc-le-zero h)
-some-at p (suc n) i h e =
-    elim (ℕ-discrete i n) [
-      | yes q ↦ ap (λ (b : Bool). oneOf b (someBelow p n)) (ap p (sym q) ∙ e)
-      | no q ↦ ap (λ (b : Bool). oneOf (p n) b) (some-at p n i (omega arith) e) ∙ or-true (p n)
-    ]
-  where
-    or-true : (b : Bool) → oneOf b true ≡ true
-    or-true true = refl
-    or-true false = refl
 
 module _ (f : ℕ → Row) (n w g p : ℕ) (v : Bool) (d : g ≡ f n .func) (r : p ≡ f g .b) (t : v ≡ isParameter p w) where
   pub scope-parameter : v ≡ true → true ≡ inScope f n w

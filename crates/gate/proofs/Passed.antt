@@ -26,6 +26,7 @@ use Rattle.machine.specs.declared.Broken.{Broken}
 use Rattle.machine.specs.declared.Broken.the-variants.{No, At, Somewhere}
 use Rattle.gate.specs.Gate.{rowBad, withinBroken}
 use Rattle.gate.specs.Passed.{Passed}
+use Rattle.tables.proofs.Each.{one-no, one-rest}
 
 -- refusal 35 of a step: the counts, then the rest
 pub step-broken : (w : Width) (t : Tables) (r : Machine) (st : List ℕ) (m : ℕ)
@@ -34,14 +35,6 @@ unfolding stepBroken withinBroken rowBad
 step-broken w t r st m = refl
 
 -- ---- tests
-
-one-no : (p q : Bool) → oneOf p q ≡ false → p ≡ false
-one-no true q e = e
-one-no false q e = refl
-
-one-rest : (p q : Bool) → oneOf p q ≡ false → q ≡ false
-one-rest true q e = true-false e
-one-rest false q e = e
 
 one-second : (p q : Bool) → oneOf p q ≡ true → p ≡ false → q ≡ true
 one-second true q e d = true-false d

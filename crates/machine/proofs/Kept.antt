@@ -41,6 +41,7 @@ use Rattle.machine.proofs.Invariant.{FrameAt, Under, Invariant}
 use Rattle.machine.proofs.Stores.{set-other, store-length, store-before, store-at, store-most, zeros-most}
 use Rattle.machine.proofs.Carried.{Agree, frame-to, kept}
 use Rattle.machine.proofs.Places.{target-inside, goto-inside, around-cases, around-more, around-outside}
+use Rattle.tables.proofs.Ranges.{test-least}
 
 -- a statement stops, or leaves a world of which the invariant holds
 unfoldable pub Kept : Width → Tables → Entry → Ledger → Effect → Type 0
@@ -143,10 +144,6 @@ test-target : (k : ℕ) → isTest k ≡ true → hasTarget k ≡ true
 unfolding hasTarget
 test-target k e = ifTrue-yes true (ifEq k 20 true (eqb k 21)) e
 
-test-low : (k : ℕ) → isTest k ≡ true → 14 ≤ k
-unfolding isTest
-test-low k e = either (λ (b : Bool). b ≡ true → 14 ≤ k) k 14 false (ltb k 20) (λ l q. true-false (sym q)) (λ l q. l) e
-
 module _ (w : Width) (t : Tables) (good : WellFormed t) (e : Entry) (es : Ledger) (x : World) (i : Invariant w t e es x) where
   -- the row behind one that opens and closes no frame
   behind : (m : ℕ) (st : List ℕ) (g s n : ℕ) → 5 ≤ rows t n .kind → FrameAt w t m st g s n → FrameAt w t m st g s (suc n)
@@ -190,7 +187,7 @@ module _ (w : Width) (t : Tables) (good : WellFormed t) (e : Entry) (es : Ledger
       on-read (Kept w t e es) (readOf w (x .stack) (x .machine .frame) (x .memory) (operandNo (rows t (x .machine .next) .operands) 0)) (stops 32) _ (kept-stop 32)
       (λ a. on-read (Kept w t e es) (readOf w (x .stack) (x .machine .frame) (x .memory) (operandNo (rows t (x .machine .next) .operands) 1)) (stops 32) _ (kept-stop 32)
       (λ b. either-true (λ (n : ℕ). Kept w t e es (goesTo w (rows t) (t .count) x n)) (holds w (rows t (x .machine .next) .kind) a b) (suc (x .machine .next)) (rows t (x .machine .next) .a)
-      (λ d. kept-next (omega (arith, test-low (rows t (x .machine .next) .kind) k))) (λ d. kept-jump (test-target (rows t (x .machine .next) .kind) k))))
+      (λ d. kept-next (omega (arith, test-least (rows t (x .machine .next) .kind) k))) (λ d. kept-jump (test-target (rows t (x .machine .next) .kind) k))))
 
   -- ---- `let` and `set`
 

@@ -26,15 +26,12 @@ use Rattle.rows.specs.Rows.{aOf, bOf, calleeOf, rowWith, rowOf}
 use Rattle.resolved.proofs.Views.{Alike, lets-same, target-same, block-same, let-same, size-same, locals-same}
 use Rattle.resolved.proofs.Frames.{word-function, word-block, word-end, word-let, word-target, locals-low}
 use Rattle.resolved.proofs.Statements.{given-yes, given-true}
-
-test-high : (v : ℕ) → isTest v ≡ true → 14 ≤ v
-unfolding isTest
-test-high v = either (λ (b : Bool). b ≡ true → 14 ≤ v) v 14 _ _ (λ _ h. true-false (sym h)) (λ h _. h)
+use Rattle.tables.proofs.Ranges.{test-least}
 
 target-high : (v : ℕ) → hasTarget v ≡ true → 14 ≤ v
 unfolding hasTarget
 target-high v =
-    either-true (λ (b : Bool). b ≡ true → 14 ≤ v) (isTest v) _ _ (λ e _. test-high v e) (λ _.
+    either-true (λ (b : Bool). b ≡ true → 14 ≤ v) (isTest v) _ _ (λ e _. test-least v e) (λ _.
     either-eq (λ (b : Bool). b ≡ true → 14 ≤ v) v 20 _ _ (λ e _. omega arith) (λ _ h. jump-high v h))
   where
     jump-high : (v : ℕ) → eqb v 21 ≡ true → 14 ≤ v

@@ -32,6 +32,7 @@ use Rattle.naming.specs.Naming.{dataFault, valueFault, setFault, functionFault,
 use Rattle.rows.specs.Rows.{labelNumber, wordOfLet, wordOfParameter, localWord, labelTarget, plainOperand, atOperand, constantOperand, tokenOperand, addressConstant, addressOperand, operandsFrom}
 use Rattle.resolved.proofs.Views.{Alike, seen-same}
 use Rattle.resolved.proofs.Meanings.{IsLet, IsParameter, From, meaning-from, data-kind, function-good, place-good, no-key}
+use Rattle.tables.proofs.Each.{some-at}
 
 or-left : (a b : Bool) → a ≡ true → oneOf a b ≡ true
 or-left true b p = refl
@@ -40,15 +41,6 @@ or-left false b p = true-false (sym p)
 or-right : (a b : Bool) → b ≡ true → oneOf a b ≡ true
 or-right true b p = refl
 or-right false b p = p
-
-some-at : (p : ℕ → Bool) (n m : ℕ) → m < n → p m ≡ true → someBelow p n ≡ true
-unfolding someBelow
-some-at p zero m h e = let z : ⊥ = omega arith in absurd z
-some-at p (suc n) m h e =
-    elim (ℕ-discrete m n) [
-      | yes q ↦ or-left (p n) (someBelow p n) (ap p (sym q) ∙ e)
-      | no d ↦ or-right (p n) (someBelow p n) (some-at p n m (omega arith) e)
-    ]
 
 -- what is known of the finished tables: the view f of the rows, h of the labels
 pub record Known (same : ℕ → ℕ → Bool) (t k y : List ℕ) (l : ℕ) (w z : List ℕ) (c : ℕ) (f : ℕ → Row) (h : ℕ → Label) : Type 0 where

@@ -42,10 +42,7 @@ use Rattle.turns.specs.declared.Turn.the-variants.{To, Stays}
 use Rattle.runner.specs.Steps.{usableSize, after, endBy, stretchEnd, heldBy, heldSteps, someSteps}
 use Rattle.runner.proofs.Several.{count-none, count-add, usable-good, Several, several}
 use Rattle.runner.specs.Within.{givenBack, isRunning, takenStep, withinStep, withinRun}
-
-one-no : (p q : Bool) → oneOf p q ≡ false → p ≡ false
-one-no true q e = e
-one-no false q e = refl
+use Rattle.tables.proofs.Each.{one-no}
 
 -- ---- a running record's step
 

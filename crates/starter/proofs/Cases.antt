@@ -36,6 +36,7 @@ use Rattle.machine.specs.declared.Started.{Started}
 use Rattle.machine.specs.declared.Started.the-variants.{Begun, Refused, Unsound}
 use Rattle.machine.specs.declared.Opening.{Opening}
 use Rattle.starter.specs.Opening.{Opened, opened, openingOf, labelTables, noFunction, aimFault, rowsBroken, refusedWith, begunAt, fittedOf, enteredOf}
+use Rattle.tables.proofs.Each.{some-at}
 
 -- ---- the lowest broken row, counting up
 
@@ -119,19 +120,6 @@ module _ (f : ℕ → Row) (c d : ℕ) (l names : List ℕ) (i s : ℕ) (e : s �
 pub ruleset label-ways = (label-long, label-aim)
 
 -- ---- some broken label
-
-some-at : (p : ℕ → Bool) (n i : ℕ) → i < n → p i ≡ true → someBelow p n ≡ true
-unfolding someBelow
-some-at p zero i h e = absurd (not-suc-le-zero h)
-some-at p (suc n) i h e =
-    elim (ℕ-discrete i n) [
-      | yes q ↦ ap (λ (b : Bool). oneOf b (someBelow p n)) (ap p (sym q) ∙ e)
-      | no q ↦ ap (λ (b : Bool). oneOf (p n) b) (some-at p n i (omega arith) e) ∙ or-true (p n)
-    ]
-  where
-    or-true : (b : Bool) → oneOf b true ≡ true
-    or-true true = refl
-    or-true false = refl
 
 pub record Trying (p : ℕ → Bool) (n i : ℕ) : Type 0 where
   pub within : i ≤ n

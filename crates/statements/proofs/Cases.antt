@@ -35,9 +35,7 @@ use Rattle.statements.specs.Three.{threeWords}
 use Rattle.statements.specs.declared.Three.{Three}
 use Rattle.statements.specs.declared.Three.the-variants.{All, Unread}
 use Rattle.statements.specs.Ready.{Ready, settingLocal, assigningAt, returning}
-
-one-more : (n : ℕ) → n + 1 ≡ suc n
-one-more n = omega arith
+use Rattle.tables.proofs.Ranges.{one-more}
 
 -- ---- going on
 

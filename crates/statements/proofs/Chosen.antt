@@ -21,6 +21,7 @@ use Rattle.machine.specs.declared.Outcome.{Outcome}
 use Rattle.calls.specs.Outcomes.{counted, after, calling, atCalling, tailCalling, handing, assigning, settingByte, settingWord}
 use Rattle.statements.specs.Ready.{Ready, settingLocal, returning}
 use Rattle.statements.proofs.Forms as forms
+use Rattle.tables.proofs.Each.{one-true}
 
 module _ (t : List ℕ) (c : ℕ) (r : Machine) (st m : List ℕ) where
   abbrev row : Row
@@ -34,7 +35,7 @@ module _ (t : List ℕ) (c : ℕ) (r : Machine) (st m : List ℕ) where
   module _ (e : ℕ) (o : Outcome) (st′ : List ℕ) (h : hasExpression (row .kind) ≡ true) (d : e ≡ row .expr) where
     pub local-call : e ≡ 2 → left o st′ m ≡ after calling t c r st m → left o st′ m ≡ after settingLocal t c r st m
     unfolding isCalling ifTrue
-    local-call q p = rw (h, ← d, q, forms.or-true (eqb (row .kind) 11)) p
+    local-call q p = rw (h, ← d, q, one-true (eqb (row .kind) 11)) p
 
     pub local-other : (e ≡ 2 → ⊥) → row .kind < 8 → left o st′ m ≡ after assigning t c r st m → left o st′ m ≡ after settingLocal t c r st m
     unfolding isCalling ifTrue

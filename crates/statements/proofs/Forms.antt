@@ -22,16 +22,10 @@ use Rattle.machine.specs.Step.{World, rowOf, blockOf, endBlockOf, testOf, setAt
 use Rattle.machine.specs.declared.Worked.the-variants.{Value}
 use Rattle.calls.specs.Outcomes.{calling, atCalling, tailCalling, handing, assigning, settingByte, settingWord, Expressed, Calls}
 use Rattle.statements.specs.Ready.{Ready, settingLocal}
-
-pub or-true : (b : Bool) → oneOf b true ≡ true
-or-true true = refl
-or-true false = refl
+use Rattle.tables.proofs.Each.{one-true}
+use Rattle.tables.proofs.Ranges.{test-least}
 
 -- ---- kinds
-
-test-high : (k : ℕ) → isTest k ≡ true → 14 ≤ k
-unfolding isTest
-test-high k e = either (λ (b : Bool). b ≡ true → 14 ≤ k) k 14 false (ltb k 20) (λ l q. true-false (sym q)) (λ l q. l) e
 
 none-high : (k : ℕ) → 14 ≤ k → hasExpression k ≡ false
 unfolding hasExpression ifLt
@@ -39,11 +33,11 @@ none-high k h = rw (le-ltb k 5 (omega arith), le-ltb k 8 (omega arith), ne-eqb k
 
 -- a test has no expression and calls nothing
 pub test-bare : (k : ℕ) → isTest k ≡ true → hasExpression k ≡ false
-test-bare k e = none-high k (test-high k e)
+test-bare k e = none-high k (test-least k e)
 
 pub test-uncalled : (k e : ℕ) → isTest k ≡ true → isCall k e ≡ false
 unfolding isCall ifEq ifTrue
-test-uncalled k e h = let l = test-high k h in rw (ne-eqb k 11 (λ q. omega (arith, l, q)), ne-eqb k 12 (λ q. omega (arith, l, q)), none-high k l)
+test-uncalled k e h = let l = test-least k h in rw (ne-eqb k 11 (λ q. omega (arith, l, q)), ne-eqb k 12 (λ q. omega (arith, l, q)), none-high k l)
 
 no-expression : (k : ℕ) → (k ≡ 5 → ⊥) → (k ≡ 6 → ⊥) → (k ≡ 7 → ⊥) → (k ≡ 13 → ⊥) → hasExpression k ≡ false
 unfolding hasExpression
@@ -120,7 +114,7 @@ module _ (w : Width) (f : ℕ → Row) (c : ℕ) (x : World) where
   pub of-test : isTest kind ≡ true → effectOf w f c x ≡ testOf w f c x
   unfolding effectOf isCalling isReturn ifTrue
   of-test e =
-      let h = test-high kind e in
+      let h = test-least kind e in
       rw (ne-eqb kind 11 (λ q. omega (arith, h, q)), none-high kind h, ne-eqb kind 2 (λ q. omega (arith, h, q)), ne-eqb kind 13 (λ q. omega (arith, h, q)), e)
 
   pub of-end-if : kind ≡ 22 → effectOf w f c x ≡ goesTo w f c x (suc (x .machine .next))

@@ -28,9 +28,7 @@ use Rattle.stretch.specs.declared.Three.{Three}
 use Rattle.stretch.specs.declared.Three.the-variants.{All, Unread}
 use Rattle.stretch.specs.declared.Stretch.{Stretch}
 use Rattle.stretch.specs.Stretch.{Taken, taken, aimed, quickJump, quickBlock, quickEnd, threeRead, assignedBy, quickAssign, byteBy, quickByte, wordBy, quickWord, storedBy, storedAt, quickAt, quickTest, quickJumps, quickStores, quickKind, quickForm, quickStep, Ended, stretched, adding, onMove, stretchOf}
-
-pub one-more : (n : ℕ) → n + 1 ≡ suc n
-one-more n = omega arith
+use Rattle.tables.proofs.Ranges.{one-more}
 
 -- the statement behind row n
 onward : (n top : ℕ) (st m : List ℕ) → taken (To (n + 1) top) st m ≡ taken (To (suc n) top) st m

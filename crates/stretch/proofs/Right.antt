@@ -41,6 +41,8 @@ use Rattle.stretch.specs.declared.Move.the-variants.{To, Stays}
 use Rattle.stretch.specs.declared.Three.{Three}
 use Rattle.stretch.specs.declared.Three.the-variants.{All, Unread}
 use Rattle.stretch.specs.Stretch.{Taken, taken, aimed, quickJump, quickBlock, quickEnd, threeRead, assignedBy, quickAssign, byteBy, quickByte, wordBy, quickWord, storedBy, storedAt, quickAt, quickTest, quickJumps, quickStores, quickKind, quickForm, quickStep}
+use Rattle.tables.proofs.Each.{both-false}
+use Rattle.tables.proofs.Ranges.{test-least, test-most}
 
 -- ---- targets
 
@@ -54,13 +56,9 @@ aims t c g a =
     either (λ (b : Bool). b ≡ true → Aims t c g a) a c (eqb (getD t (a * 27 + 1) 0) g) false
     (λ l e. record { below = l; own = eqb-true _ g e }) (λ l e. true-false (sym e))
 
-pub no-both : (b : Bool) → both b false ≡ false
-no-both true = refl
-no-both false = refl
-
 target-in : (f : ℕ → Row) (c n g a : ℕ) → inFunction f c n ≡ true → f n .func ≡ g → f n .a ≡ a → a < c → f a .func ≡ g → targetFault f c n ≡ false
 unfolding targetFault
-target-in f c n g a i j k l m = rw (i, k, lt-ltb a c l, m, j, eq-eqb g g refl) (no-both (oneOf (hasTarget (f n .kind)) (eqb (f n .kind) 10)))
+target-in f c n g a i j k l m = rw (i, k, lt-ltb a c l, m, j, eq-eqb g g refl) (both-false (oneOf (hasTarget (f n .kind)) (eqb (f n .kind) 10)))
 
 -- ---- a row of a stretch
 
@@ -544,20 +542,12 @@ module _ (t : List ℕ) (c g d size : ℕ) (r : Machine) (st m : List ℕ) where
     unfolding usedBy ifTrue slots
     two e = rw (used, test-bare (row .kind) e, test-uncalled (row .kind) (row .expr) e, e)
 
-    test-low : (k : ℕ) → isTest k ≡ true → 14 ≤ k
-    unfolding isTest
-    test-low k e = either (λ (b : Bool). b ≡ true → 14 ≤ k) k 14 false (ltb k 20) (λ l q. true-false (sym q)) (λ l q. l) e
-
-    test-high : (k : ℕ) → isTest k ≡ true → k < 20
-    unfolding isTest
-    test-high k e = either (λ (b : Bool). b ≡ true → k < 20) k 14 false (ltb k 20) (λ l q. true-false (sym q)) (λ l q. ltb-true k 20 q) e
-
     went-test : isTest (row .kind) ≡ true → aimed t c g a ≡ true → (x y : ℕ) → Sound size d st s m (operandAt t (n * 27 + 11)) x
         → Sound size d st s m (operandAt t (n * 27 + 13)) y → Went (ifTrue (holds Bits32 (row .kind) x y) (suc n) a) (r .top) st m
     unfolding kindFault calleeFault sizeFault wordFault operandsFault addressFault isListed isReturn hasWord someOf ifLt ifEq ifTrue testOf goesTo onRead
     went-test e z x y o p =
-        let low = test-low (row .kind) e in
-        let high = test-high (row .kind) e in
+        let low = test-least (row .kind) e in
+        let high = test-most (row .kind) e in
         let p0 = ne-eqb (row .kind) 0 (λ q. omega (arith, low, q)) in
         let p1 = ne-eqb (row .kind) 1 (λ q. omega (arith, low, q)) in
         let p2 = ne-eqb (row .kind) 2 (λ q. omega (arith, low, q)) in

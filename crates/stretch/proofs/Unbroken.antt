@@ -21,7 +21,8 @@ use Rattle.machine.specs.declared.Broken.{Broken}
 use Rattle.machine.specs.declared.Broken.the-variants.{No, At, Somewhere}
 use Rattle.gate.specs.Gate.{rowBad, withinBroken}
 use Rattle.fast.proofs.Good.{Function, function-good, row-within, row-size}
-use Rattle.stretch.proofs.Right.{Held, no-both, Went}
+use Rattle.stretch.proofs.Right.{Held, Went}
+use Rattle.tables.proofs.Each.{both-false}
 
 -- ---- rows
 
@@ -32,7 +33,7 @@ next-fine f c n e q = rw (e, q)
 pub row-fine : (f : ℕ → Row) (c d n i : ℕ) → nextBad f c n ≡ false → rowFault f c d i ≡ false → rowBad f c d n i ≡ false
 unfolding rowBad
 row-fine f c d n i q e = elim (ℕ-discrete i n) [
-  | yes z ↦ rw (e, z, q) (no-both (eqb n n))
+  | yes z ↦ rw (e, z, q) (both-false (eqb n n))
   | no z ↦ rw (e, ne-eqb i n z)
 ]
 

@@ -14,6 +14,7 @@ use Rattle.vocabulary.specs.Words.{words, firstOf, isNumber, entryOf, leastOper
 use Rattle.tables.specs.Tests.{given, allBelow}
 use Rattle.tables.specs.Statement.{hasExpression, isTest, isOperator, isCall, expressionUses, usedBy}
 use Rattle.tables.proofs.Each.{below-at, given-then}
+use Rattle.tables.proofs.Ranges.{operator-most}
 
 pub word-none : (t : List ℕ) (i : ℕ) → length t ≤ i → 0 ≡ getD t i 0
 word-none t i h = sym (List·getD-eq-default t 0 h)
@@ -28,14 +29,10 @@ operators : allBelow (λ e. given (isOperator e) (eqb (leastOperands e) (usual e
 unfolding allBelow isOperator leastOperands entryOf firstOf isNumber words ifEq ifLt
 operators = refl
 
-operator-low : (e : ℕ) → isOperator e ≡ true → e < 52
-unfolding isOperator
-operator-low e h = either (λ (b : Bool). b ≡ true → e < 52) e 33 false (ltb e 52) (λ l q. omega arith) (λ l q. ltb-true e 52 q) h
-
 operands-usual : (e : ℕ) → isOperator e ≡ true → leastOperands e ≡ usual e
 operands-usual e h =
     eqb-true (leastOperands e) (usual e)
-    (given-then (isOperator e) (eqb (leastOperands e) (usual e)) (below-at (λ e. given (isOperator e) (eqb (leastOperands e) (usual e))) 52 e operators (operator-low e h)) h)
+    (given-then (isOperator e) (eqb (leastOperands e) (usual e)) (below-at (λ e. given (isOperator e) (eqb (leastOperands e) (usual e))) 52 e operators (operator-most e h)) h)
 
 module _ (e n : ℕ) where
   pub uses-plain : e ≡ 1 → 1 ≡ expressionUses e n

@@ -1,6 +1,6 @@
 -- From `wellFormed` to each rule at each row.
 -- Assumes nothing.
-use mathlib.Core.Path.{_≡_, refl, sym}
+use mathlib.Core.Path.{_≡_, refl, sym, _∙_, ap}
 use mathlib.Core.Bool.{Bool, true, false}
 use mathlib.Core.List.{List, [], _∷_}
 use Prim.Native.Nat.{ℕ, zero, suc, _<_}
@@ -9,7 +9,7 @@ use native.Mathlib.Decide.{ℕ-discrete}
 use native.Mathlib.Omega.{arith}
 use lib.ListN.{length, getD}
 use Rattle.prelude.proofs.Choice.{true-false}
-use Rattle.tables.specs.Tests.{both, given, all, allBelow}
+use Rattle.tables.specs.Tests.{both, oneOf, given, all, allBelow, someBelow}
 use Rattle.tables.specs.Label.{Tables, rows, labelsOf}
 use Rattle.tables.specs.Nesting.{stands, allClosed}
 use Rattle.tables.specs.WellFormed.{shallow, aimed, jumps, calls, shaped, operandsGood, addressGood, setsLocal, framed, fewLocals, rowTests, names, nameGood, nameNew, labelTests, countsGood, rowGood, labelGood, wellFormed, WellFormed}
@@ -26,6 +26,26 @@ pub both-true : (p q : Bool) → p ≡ true → q ≡ true → both p q ≡ true
 both-true true q e d = d
 both-true false q e d = e
 
+pub both-false : (p : Bool) → both p false ≡ false
+both-false true = refl
+both-false false = refl
+
+pub one-true : (p : Bool) → oneOf p true ≡ true
+one-true true = refl
+one-true false = refl
+
+pub one-false : (p : Bool) → oneOf p false ≡ p
+one-false true = refl
+one-false false = refl
+
+pub one-no : (p q : Bool) → oneOf p q ≡ false → p ≡ false
+one-no true q e = e
+one-no false q e = refl
+
+pub one-rest : (p q : Bool) → oneOf p q ≡ false → q ≡ false
+one-rest true q e = true-false e
+one-rest false q e = e
+
 -- what is asked where p holds
 pub given-then : (p q : Bool) → given p q ≡ true → p ≡ true → q ≡ true
 given-then true q e d = e
@@ -37,6 +57,16 @@ unfolding all
 all-at [] k e h = absurd (not-suc-le-zero h)
 all-at (b ∷ bs) zero e h = both-left b (all bs) e
 all-at (b ∷ bs) (suc k) e h = all-at bs k (both-right b (all bs) e) (le-of-suc-le-suc h)
+
+-- a number below the bound where a test holds
+pub some-at : (p : ℕ → Bool) (n i : ℕ) → i < n → p i ≡ true → someBelow p n ≡ true
+unfolding someBelow
+some-at p zero i h e = absurd (not-suc-le-zero h)
+some-at p (suc n) i h e =
+    elim (ℕ-discrete i n) [
+      | yes q ↦ ap (λ (b : Bool). oneOf b (someBelow p n)) (ap p (sym q) ∙ e)
+      | no q ↦ ap (λ (b : Bool). oneOf (p n) b) (some-at p n i (omega arith) e) ∙ one-true (p n)
+    ]
 
 -- the test at each number below the bound
 pub below-at : (p : ℕ → Bool) (n i : ℕ) → allBelow p n ≡ true → i < n → p i ≡ true

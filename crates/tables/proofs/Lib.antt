@@ -1,4 +1,5 @@
 pub mod Each
+pub mod Ranges
 pub mod Cases
 pub mod Rows
 pub mod Nested

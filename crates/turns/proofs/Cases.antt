@@ -17,7 +17,7 @@ use Rattle.machine.specs.declared.Worked.{Worked}
 use Rattle.machine.specs.declared.Worked.the-variants.{Value, Stop}
 use Rattle.calls.specs.Outcomes.{wordsIn}
 use Rattle.fast.specs.Fast.{goodRead, goodWork, sizeOf}
-use Rattle.stretch.proofs.Cases.{one-more}
+use Rattle.tables.proofs.Ranges.{one-more}
 use Rattle.turns.specs.declared.Turn.{Turn}
 use Rattle.turns.specs.declared.Turn.the-variants.{To, Stays}
 use Rattle.turns.specs.Turns.{Turned, turned, goodFrom, calleeSize, callsLocal, callsAny, callGood, goodAll, pushed, enteredBy, entered, callTurn, resultOf, landed, handTo, handTurn, returnBy, returnTurn, turnOf}

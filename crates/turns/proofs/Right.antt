@@ -35,11 +35,12 @@ use Rattle.gate.specs.Gate.{withinBroken}
 use Rattle.fast.specs.Fast.{goodRead, readEach, goodWork, sizeOf}
 use Rattle.fast.proofs.Good.{good-read, Valued, good-work, stop-value, no-fault, Function, function-good, row-within, row-size, size-function}
 use Rattle.fast.proofs.Reading.{next-slot, no-slots}
-use Rattle.stretch.proofs.Right.{Held, no-both}
+use Rattle.stretch.proofs.Right.{Held}
 use Rattle.stretch.proofs.Unbroken.{frame-fine, record-fine, call-fine, return-fine}
 use Rattle.turns.specs.declared.Turn.{Turn}
 use Rattle.turns.specs.declared.Turn.the-variants.{To, Stays}
 use Rattle.turns.specs.Turns.{Turned, turned, goodFrom, calleeSize, callsLocal, callsAny, callGood, goodAll, pushed, enteredBy, entered, callTurn, resultOf, landed, handTo, handTurn, returnBy, returnTurn, turnOf}
+use Rattle.tables.proofs.Each.{both-false}
 
 -- ---- operands
 
@@ -395,7 +396,7 @@ module _ (t : List ℕ) (c g d size : ℕ) (r : Machine) (st m : List ℕ) where
         (function : Function (rowAt t) c (rowAt t p .func) z) (fits : back ≤ length m) (meets : caller + z ≡ s) (x : Handed t c d z p) (y : Gives v) where
       not-first : isFirst Bits32 st s ≡ false
       unfolding isFirst mark
-      not-first = rw (ep, ne-eqb p 4294967295 (λ e. omega (arith, low, small, e))) (no-both (eqb s 0))
+      not-first = rw (ep, ne-eqb p 4294967295 (λ e. omega (arith, low, small, e))) (both-false (eqb s 0))
 
       called : calledFrom (rowAt t) c st s ≡ true
       unfolding calledFrom
