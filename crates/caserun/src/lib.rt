@@ -18,7 +18,6 @@ use casetext::changed_word;
 use casetext::clear_memory;
 use casetext::clear_stack;
 use casetext::copy_bytes;
-use casetext::copy_words;
 use casetext::count_fields;
 use casetext::front_words;
 use casetext::has_values;
@@ -205,8 +204,8 @@ fn check_source(s: &[u8], t: &mut Rows, b: &mut Bytes) -> Checked {
     let mut names = [0u8; Table::NAME_TABLE];
     let mut bytes = [0u8; Machine::DATA_BYTES];
     let x = call_check(s, &mut rows, &mut labels, &mut names, &mut bytes);
-    copy_words(&rows, t, 0);
-    copy_words(&labels, t, 27648);
+    stores::put_words(t, 0, &rows);
+    stores::put_words(t, 27648, &labels);
     copy_bytes(&names, b, 0);
     copy_bytes(&bytes, b, 16384);
     x
