@@ -89,8 +89,9 @@ pub struct Progress {
     // whether its source is checked, and whether anything differs
     pub is_checked: bool,
     pub is_wrong: bool,
-    // bytes of the answer that waits for its line, 0 for none
+    // bytes of the answer that waits for its line, and of the answer that the line gave, 0 for none
     pub given: usize,
+    pub told: usize,
     // what the line came to, and bytes of what was given where it differs
     pub fault: u32,
     pub shown: usize,
@@ -167,8 +168,15 @@ fn with_counts(mut q: Progress, statements: u32, labels: u32, bytes: u32) -> Pro
     q
 }
 
-fn with_given(mut q: Progress, given: usize) -> Progress {
-    q.given = given;
+// An answer of so many bytes, which waits for its line.
+fn with_answer(mut q: Progress, size: usize) -> Progress {
+    q.given = size;
+    q.told = size;
+    q
+}
+
+fn without_answer(mut q: Progress) -> Progress {
+    q.given = 0;
     q
 }
 
@@ -181,7 +189,7 @@ fn with_checked(x: Checked, q: Progress, got: &mut Text) -> Progress {
             size,
         } => with_counts(q, statements, labels, size),
         Checked::Refused { number, place } => {
-            with_given(q, casetext::add_rejected(number, place, got))
+            with_answer(q, casetext::add_rejected(number, place, got))
         }
     }
 }
@@ -309,16 +317,14 @@ fn read_answer(l: &[u8], mut q: Progress, got: &mut Text) -> Progress {
 fn with_outcome(mut q: Progress, o: Outcome, got: &mut Text) -> Progress {
     let r = o.machine;
     q.machine = r;
-    q.given = casetext::add_outcome(o, got);
-    q
+    with_answer(q, casetext::add_outcome(o, got))
 }
 
 fn with_opening(mut q: Progress, o: Opening, got: &mut Text) -> Progress {
     let r = o.machine;
     let a = o.answer;
     q.machine = r;
-    q.given = casetext::add_started(a, got);
-    q
+    with_answer(q, casetext::add_started(a, got))
 }
 
 fn call_step(q: Progress, t: &[u32], b: &[u8], stack: &mut [u32], memory: &mut [u8]) -> Outcome {
@@ -857,7 +863,7 @@ fn read_checked(
         return read_answer(l, q, got);
     }
     if 0 < q.given {
-        return failed(with_given(q, 0), Fault::NO_ANSWER);
+        return failed(without_answer(q), Fault::NO_ANSWER);
     }
     if is_call(l) {
         return read_call(l, q, got, t, b, k, m);
@@ -932,6 +938,7 @@ pub fn open_case(q: Progress, name: usize) -> Progress {
         is_checked: false,
         is_wrong: false,
         given: 0,
+        told: 0,
         fault: 0,
         shown: 0,
         lent: a,
@@ -959,6 +966,7 @@ pub fn first() -> Progress {
         is_checked: false,
         is_wrong: false,
         given: 0,
+        told: 0,
         fault: 0,
         shown: 0,
         lent: a,
