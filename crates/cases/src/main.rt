@@ -5,9 +5,9 @@ use casefile::is_comment;
 use casefile::line_end;
 use casefile::one_more;
 use casefile::starts_with;
-use caserun::Fault;
-use caserun::Progress;
-use caserun::failed;
+use casestate::Fault;
+use casestate::Progress;
+use casestate::failed;
 use casetext::Room;
 use casetext::clear_memory;
 use casetext::clear_stack;
@@ -151,7 +151,7 @@ fn begin_case(
     let closed = close_case(s, q);
     put(l);
     put(b"\n");
-    caserun::open_case(closed, name)
+    casestate::open_case(closed, name)
 }
 
 // A line that does not begin a case.
@@ -207,7 +207,7 @@ fn run(s: &[u8]) {
     let mut b = [0u8; Room::BYTES];
     let mut k = [0u32; Room::TWO_STACKS];
     let mut m = [0u8; Room::TWO_MEMORIES];
-    let mut q = caserun::first();
+    let mut q = casestate::first();
     let mut at: usize = 0;
     while at < s.len() {
         let end = line_end(s, at);

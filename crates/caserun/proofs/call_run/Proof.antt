@@ -1,0 +1,52 @@
+-- `caserun::call_run` meets its contract.
+-- Assumes nothing.
+use Rattle.caserun.proofs.Cases.{call-run-is}
+use native.Mathlib.Omega.{arith}
+use mathlib.Core.Path.{_≡_, refl, sym, _∙_, ap, subst}
+use borrow.Author.Needs.{needs}
+use Rattle.caserun.proofs.call_run.Statement.{statement}
+use Rattle.caserun.proofs.call_run.Tie as tie
+use Rattle.caserun.proofs.call_run.Reads as reads
+use Rattle.caserun.proofs.call_run.Lts as lts
+use Rattle.casefile.proofs.front.Reads as front-reads
+use Rattle.casetext.proofs.behind.Reads as behind-reads
+use Rattle.casetext.proofs.front_words.Reads as front-words-reads
+use Rattle.runner.proofs.run.Reads as run-reads
+
+front-words-requires : tie.Need-front-words-requires
+front-words-requires c κs = search needs
+
+behind-requires : tie.Need-behind-requires
+behind-requires c κs = search needs
+
+front-words-requires-2 : tie.Need-front-words-requires-2
+front-words-requires-2 c κs = search needs
+
+front-requires : tie.Need-front-requires
+front-requires c κs = search needs
+
+run-requires : tie.Need-run-requires
+run-requires c κs = search needs
+
+same-length : tie.Need-same-length
+same-length c = search needs
+
+same-length-2 : tie.Need-same-length-2
+same-length-2 c = search needs
+
+returns : tie.Need-returns
+returns c =
+    search call-run-is
+
+pub call-run-spec : {M : Type 1} → statement M
+call-run-spec =
+    tie.close
+    (tie.spec
+    front-words-requires
+    behind-requires
+    front-words-requires-2
+    front-requires
+    run-requires
+    same-length
+    same-length-2
+    returns)

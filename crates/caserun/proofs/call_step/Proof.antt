@@ -1,0 +1,52 @@
+-- `caserun::call_step` meets its contract.
+-- Assumes nothing.
+use Rattle.caserun.proofs.Cases.{call-step-is}
+use native.Mathlib.Omega.{arith}
+use mathlib.Core.Path.{_≡_, refl, sym, _∙_, ap, subst}
+use borrow.Author.Needs.{needs}
+use Rattle.caserun.proofs.call_step.Statement.{statement}
+use Rattle.caserun.proofs.call_step.Tie as tie
+use Rattle.caserun.proofs.call_step.Reads as reads
+use Rattle.caserun.proofs.call_step.Lts as lts
+use Rattle.casefile.proofs.front.Reads as front-reads
+use Rattle.casetext.proofs.behind.Reads as behind-reads
+use Rattle.casetext.proofs.front_words.Reads as front-words-reads
+use Rattle.runner.proofs.step.Reads as step-reads
+
+front-words-requires : tie.Need-front-words-requires
+front-words-requires c κs = search needs
+
+behind-requires : tie.Need-behind-requires
+behind-requires c κs = search needs
+
+front-words-requires-2 : tie.Need-front-words-requires-2
+front-words-requires-2 c κs = search needs
+
+front-requires : tie.Need-front-requires
+front-requires c κs = search needs
+
+step-requires : tie.Need-step-requires
+step-requires c κs = search needs
+
+same-length : tie.Need-same-length
+same-length c = search needs
+
+same-length-2 : tie.Need-same-length-2
+same-length-2 c = search needs
+
+returns : tie.Need-returns
+returns c =
+    search call-step-is
+
+pub call-step-spec : {M : Type 1} → statement M
+call-step-spec =
+    tie.close
+    (tie.spec
+    front-words-requires
+    behind-requires
+    front-words-requires-2
+    front-requires
+    step-requires
+    same-length
+    same-length-2
+    returns)

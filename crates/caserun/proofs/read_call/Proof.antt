@@ -1,0 +1,30 @@
+-- `caserun::read_call` meets its contract.
+-- Assumes nothing.
+use Rattle.caserun.proofs.Cases.{read-call-is}
+use native.Mathlib.Omega.{arith}
+use mathlib.Core.Path.{_≡_, refl, sym, _∙_, ap, subst}
+use borrow.Author.Needs.{needs}
+use Rattle.caserun.proofs.read_call.Statement.{statement}
+use Rattle.caserun.proofs.read_call.Tie as tie
+use Rattle.caserun.proofs.read_call.Reads as reads
+use Rattle.caserun.proofs.read_call.Lts as lts
+use Rattle.caserun.proofs.do_call.Reads as do-call-reads
+use Rattle.casetext.proofs.keep_memory.Reads as keep-memory-reads
+use Rattle.casetext.proofs.keep_stack.Reads as keep-stack-reads
+
+keep-stack-requires : tie.Need-keep-stack-requires
+keep-stack-requires c κs = search needs
+
+keep-memory-requires : tie.Need-keep-memory-requires
+keep-memory-requires c κs = search needs
+
+do-call-requires : tie.Need-do-call-requires
+do-call-requires c κs = search needs
+
+returns : tie.Need-returns
+returns c =
+    search read-call-is
+
+pub read-call-spec : {M : Type 1} → statement M
+read-call-spec =
+    tie.close (tie.spec keep-stack-requires keep-memory-requires do-call-requires returns)

@@ -1,0 +1,59 @@
+-- `caserun::read_start` meets its contract.
+-- Assumes nothing.
+use Rattle.casestate.specs.Views.{blank}
+use Rattle.caserun.specs.Calls.{noWords}
+use Rattle.caserun.proofs.Cases.{read-start-ways}
+use native.Mathlib.Omega.{arith}
+use mathlib.Core.Path.{_≡_, refl, sym, _∙_, ap, subst}
+use borrow.Author.Needs.{needs}
+use Rattle.caserun.proofs.read_start.Statement.{statement}
+use Rattle.caserun.proofs.read_start.Tie as tie
+use Rattle.caserun.proofs.read_start.Reads as reads
+use Rattle.caserun.proofs.read_start.Lts as lts
+use Rattle.caserun.proofs.read_name.Reads as read-name-reads
+use Rattle.caserun.proofs.start_named.Reads as start-named-reads
+use Rattle.casestate.proofs.failed.Reads as failed-reads
+use Rattle.casetext.proofs.read_arguments.Reads as read-arguments-reads
+
+read-name-requires : tie.Need-read-name-requires
+read-name-requires c κs = search needs
+
+failed-requires : tie.Need-failed-requires
+failed-requires c κs = search needs
+
+returns : tie.Need-returns
+unfolding blank noWords
+returns c =
+    search read-start-ways
+
+read-arguments-requires : tie.Need-read-arguments-requires
+read-arguments-requires c κs = search needs
+
+failed-requires-2 : tie.Need-failed-requires-2
+failed-requires-2 c κs = search needs
+
+returns-2 : tie.Need-returns-2
+unfolding blank noWords
+returns-2 c =
+    search read-start-ways
+
+start-named-requires : tie.Need-start-named-requires
+start-named-requires c κs = search needs
+
+returns-3 : tie.Need-returns-3
+unfolding blank noWords
+returns-3 c =
+    search read-start-ways
+
+pub read-start-spec : {M : Type 1} → statement M
+read-start-spec =
+    tie.close
+    (tie.spec
+    read-name-requires
+    failed-requires
+    returns
+    read-arguments-requires
+    failed-requires-2
+    returns-2
+    start-named-requires
+    returns-3)

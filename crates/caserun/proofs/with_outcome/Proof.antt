@@ -1,0 +1,30 @@
+-- `caserun::with_outcome` meets its contract.
+-- Assumes nothing.
+use Rattle.caserun.proofs.Cases.{with-outcome-is}
+use native.Mathlib.Omega.{arith}
+use mathlib.Core.Path.{_≡_, refl, sym, _∙_, ap, subst}
+use borrow.Author.Needs.{needs}
+use Rattle.caserun.proofs.with_outcome.Statement.{statement}
+use Rattle.caserun.proofs.with_outcome.Tie as tie
+use Rattle.caserun.proofs.with_outcome.Reads as reads
+use Rattle.caserun.proofs.with_outcome.Lts as lts
+use Rattle.casestate.proofs.with_answer.Reads as with-answer-reads
+use Rattle.casestate.proofs.with_machine.Reads as with-machine-reads
+use Rattle.casetext.proofs.add_outcome.Reads as add-outcome-reads
+
+with-machine-requires : tie.Need-with-machine-requires
+with-machine-requires c κs = search needs
+
+add-outcome-requires : tie.Need-add-outcome-requires
+add-outcome-requires c κs = search needs
+
+with-answer-requires : tie.Need-with-answer-requires
+with-answer-requires c κs = search needs
+
+returns : tie.Need-returns
+returns c =
+    search with-outcome-is
+
+pub with-outcome-spec : {M : Type 1} → statement M
+with-outcome-spec =
+    tie.close (tie.spec with-machine-requires add-outcome-requires with-answer-requires returns)
