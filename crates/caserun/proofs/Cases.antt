@@ -1,13 +1,12 @@
 -- One law for each way through a function, numbered as its returns.
 -- Assumes nothing.
-use mathlib.Core.Path.{_≡_, refl, sym, _∙_, ap}
+use mathlib.Core.Path.{_≡_, _∙_, ap}
 use native.Mathlib.Omega.{arith}
-use Prim.Native.Nat.{ℕ, _+_, _-_, _≤_, _<_}
+use Prim.Native.Nat.{ℕ, _-_, _≤_, _<_}
 use mathlib.Core.Bool.{Bool, true, false}
-use mathlib.Core.List.{List, [], _∷_, _++_}
+use mathlib.Core.List.{List, _++_}
 use lib.ListN.{length, take, drop}
-use Rattle.prelude.specs.Choice.{ifLt, ifTrue}
-use Rattle.prelude.specs.Lists.{sameList, zeros}
+use Rattle.prelude.specs.Lists.{sameList}
 use Rattle.limits.specs.declared.Width.the-variants.{Bits32}
 use Rattle.machine.specs.Access.{storeFrom}
 use Rattle.machine.specs.Step.{World, After, stepOf, runOf}
@@ -15,7 +14,7 @@ use Rattle.machine.specs.Lent.{tablesOf, world, left}
 use Rattle.machine.specs.declared.Outcome.{Outcome}
 use Rattle.machine.specs.declared.Opening.{Opening}
 use Rattle.tables.specs.Label.{Tables}
-use Rattle.checker.specs.Check.{Left, Lent, lent, checkOf}
+use Rattle.checker.specs.Check.{Left, lent, checkOf}
 use Rattle.checker.specs.Check as check
 use Rattle.checker.specs.declared.Checked.{Checked}
 use Rattle.checker.specs.declared.Checked.the-variants.{Accepted, Refused}
@@ -24,18 +23,18 @@ use Rattle.casefile.specs.Lines.{startsWith}
 use Rattle.casefile.specs.Fields.{fieldStart}
 use Rattle.casefile.specs.Sources.{Source, source, addText, isSource}
 use Rattle.casetext.specs.Fields.{wordEnd, rawAt}
-use Rattle.casetext.specs.Numbers.{isDigits, longNumber, Listed, listed, argumentsOf}
+use Rattle.casetext.specs.Numbers.{isDigits, longNumber, listed, argumentsOf}
 use Rattle.casetext.specs.Answers.{addAll, rejectedBytes, startedBytes, outcomeBytes}
 use Rattle.casetext.specs.Buffers.{lesserOf, behindOf}
 use Rattle.casestate.specs.declared.Progress.{Progress}
 use Rattle.casestate.specs.Progress.{On, on, failedOf, checkedOf, answeredOf, unansweredOf, countedOf, machineOf}
 use Rattle.casestate.specs.Source.{body-word, closeBody, readSource}
 use Rattle.casestate.specs.Views.{blank, readMemory, readStack, readAnswer, readView}
-use Rattle.casestate.specs.Changes.{Changed, changed, readChange}
+use Rattle.casestate.specs.Changes.{changed, readChange}
 use Rattle.prelude.proofs.Choice.{tests}
-use Rattle.caserun.specs.Checks.{withChecked, fullTables, Kept, kept, keptIn, checkSource, Once, once, checkOnce}
-use Rattle.caserun.specs.Calls.{Ran, ran, withOutcome, withOpening, tablesIn, dataIn, over, outcome, opening, stackIn, memoryIn, worldIn, ranBy, openedBy, doStep, doRun, doStart, readName, noWords, start-blank-word, start-word, run-word, step-word, startNamed, readStart, readRun, isStart, doCall, readCall}
-use Rattle.caserun.specs.Lines.{begun-word, refused-word, broken-word, going-word, finished-word, stopped-word, rejected-word, record-word, words-word, holds-word, same-word, memory-word, stack-word, isCall, isAnswer, isView, isText, Done, done, readChecked, Lined, lined, readBehind, readLine}
+use Rattle.caserun.specs.Checks.{withChecked, fullTables, kept, keptIn, checkSource, once, checkOnce}
+use Rattle.caserun.specs.Calls.{ran, withOutcome, withOpening, tablesIn, dataIn, over, stackIn, memoryIn, worldIn, ranBy, openedBy, doStep, doRun, doStart, readName, noWords, start-blank-word, start-word, run-word, step-word, startNamed, readStart, readRun, isStart, doCall, readCall}
+use Rattle.caserun.specs.Lines.{begun-word, refused-word, broken-word, going-word, finished-word, stopped-word, rejected-word, record-word, words-word, holds-word, same-word, memory-word, stack-word, isCall, isAnswer, isView, isText, done, readChecked, lined, readBehind, readLine}
 
 -- `with_checked`
 module _ (x : Checked) (q z : Progress) (got : List ℕ) where

@@ -9,27 +9,23 @@ use Rattle.prelude.specs.Lists.{sameList, zeros}
 use Rattle.limits.specs.declared.Width.the-variants.{Bits32}
 use Rattle.machine.specs.Access.{storeFrom}
 use Rattle.machine.specs.Step.{World, After, stepOf, runOf}
-use Rattle.machine.specs.Lent.{tablesOf, world, left}
+use Rattle.machine.specs.Lent.{tablesOf, world}
 use Rattle.machine.specs.declared.Outcome.{Outcome}
 use Rattle.machine.specs.declared.Opening.{Opening}
 use Rattle.tables.specs.Label.{Tables}
-use Rattle.checker.specs.Check.{Left, Lent, lent, checkOf}
-use Rattle.checker.specs.Check as check
-use Rattle.checker.specs.declared.Checked.{Checked}
-use Rattle.checker.specs.declared.Checked.the-variants.{Accepted, Refused}
-use Rattle.starter.specs.Opening.{Opened, opened, openingOf}
+use Rattle.checker.specs.Check.{lent}
+use Rattle.starter.specs.Opening.{Opened, openingOf}
 use Rattle.casefile.specs.Lines.{startsWith}
 use Rattle.casefile.specs.Fields.{fieldStart}
-use Rattle.casefile.specs.Sources.{Source, source, addText, isSource}
+use Rattle.casefile.specs.Sources.{Source, source, addText}
 use Rattle.casetext.specs.Fields.{rawAt}
-use Rattle.casetext.specs.Numbers.{isDigits, longNumber, Listed, listed, argumentsOf}
-use Rattle.casetext.specs.Answers.{addAll, rejectedBytes, startedBytes, outcomeBytes}
+use Rattle.casetext.specs.Numbers.{isDigits, longNumber, argumentsOf}
+use Rattle.casetext.specs.Answers.{addAll, startedBytes, outcomeBytes}
 use Rattle.casetext.specs.Buffers.{lesserOf, behindOf}
 use Rattle.casestate.specs.declared.Progress.{Progress}
-use Rattle.casestate.specs.Progress.{On, on, failedOf, checkedOf, answeredOf, unansweredOf, countedOf, machineOf}
-use Rattle.casestate.specs.Source.{body-word, closeBody, readSource}
-use Rattle.casestate.specs.Views.{blank, readMemory, readStack, readAnswer, readView}
-use Rattle.casestate.specs.Changes.{Changed, changed, readChange}
+use Rattle.casestate.specs.Progress.{On, failedOf, machineOf}
+use Rattle.casestate.specs.Views.{blank}
+use Rattle.caserun.specs.Checks.{answeredBy}
 
 -- a progress, and the buffers that a call changes
 abbrev pub Ran : Type 0
@@ -40,13 +36,11 @@ ran progress got stack memory = record { progress = progress; got = got; stack =
 
 -- what a step or a run gives back
 unfoldable pub withOutcome : Progress → Outcome → List ℕ → On
-withOutcome q o got =
-    on (answeredOf (machineOf q (o .machine)) (addAll (outcomeBytes o) (source 0 got) .size)) (addAll (outcomeBytes o) (source 0 got) .text)
+withOutcome q o got = answeredBy (machineOf q (o .machine)) (addAll (outcomeBytes o) (source 0 got))
 
 -- what a start gives back
 unfoldable pub withOpening : Progress → Opening → List ℕ → On
-withOpening q o got =
-    on (answeredOf (machineOf q (o .machine)) (addAll (startedBytes (o .answer)) (source 0 got) .size)) (addAll (startedBytes (o .answer)) (source 0 got) .text)
+withOpening q o got = answeredBy (machineOf q (o .machine)) (addAll (startedBytes (o .answer)) (source 0 got))
 
 -- the tables as a call is lent them
 unfoldable pub tablesIn : Progress → List ℕ → List ℕ → Tables
@@ -128,20 +122,18 @@ step-word = 115 ∷ 116 ∷ 101 ∷ 112 ∷ []
 
 -- a start whose name and arguments stand in the front of buffers
 unfoldable pub startNamed : List ℕ → ℕ → List ℕ → ℕ → Progress → List ℕ → List ℕ → List ℕ → List ℕ → List ℕ → Ran
-startNamed name size arguments count q got t b k m =
-    ran (doStart (take size name) (take count arguments) q got t b k m .progress) (doStart (take size name) (take count arguments) q got t b k m .got) (doStart (take size name) (take count arguments) q got t b k m .stack) (doStart (take size name) (take count arguments) q got t b k m .memory)
+startNamed name size arguments count q got t b k m = doStart (take size name) (take count arguments) q got t b k m
 
 unfoldable pub readStart : List ℕ → Progress → List ℕ → List ℕ → List ℕ → List ℕ → List ℕ → Ran
 readStart l q got t b k m =
     ifLt (readName l blank .size) 16401
     (ifLt 16 (argumentsOf l noWords .count) (ran (failedOf q 1) got k m)
-    (ran (startNamed (readName l blank .text) (readName l blank .size) (argumentsOf l noWords .words) (argumentsOf l noWords .count) q got t b k m .progress) (startNamed (readName l blank .text) (readName l blank .size) (argumentsOf l noWords .words) (argumentsOf l noWords .count) q got t b k m .got) (startNamed (readName l blank .text) (readName l blank .size) (argumentsOf l noWords .words) (argumentsOf l noWords .count) q got t b k m .stack) (startNamed (readName l blank .text) (readName l blank .size) (argumentsOf l noWords .words) (argumentsOf l noWords .count) q got t b k m .memory)))
+    (startNamed (readName l blank .text) (readName l blank .size) (argumentsOf l noWords .words) (argumentsOf l noWords .count) q got t b k m))
     (ran (failedOf q 1) got k m)
 
 unfoldable pub readRun : List ℕ → Progress → List ℕ → List ℕ → List ℕ → List ℕ → List ℕ → Ran
 readRun l q got t b k m =
-    ifTrue (isDigits l 4)
-    (ran (doRun (longNumber l 4) q got t b k m .progress) (doRun (longNumber l 4) q got t b k m .got) (doRun (longNumber l 4) q got t b k m .stack) (doRun (longNumber l 4) q got t b k m .memory))
+    ifTrue (isDigits l 4) (doRun (longNumber l 4) q got t b k m)
     (ran (failedOf q 1) got k m)
 
 -- a start; one of the empty name may end behind its word
@@ -153,13 +145,11 @@ isStart l =
 -- what the word of a line calls
 unfoldable pub doCall : List ℕ → Progress → List ℕ → List ℕ → List ℕ → List ℕ → List ℕ → Ran
 doCall l q got t b k m =
-    ifTrue (isStart l)
-    (ran (readStart l q got t b k m .progress) (readStart l q got t b k m .got) (readStart l q got t b k m .stack) (readStart l q got t b k m .memory))
-    (ifTrue (startsWith l run-word)
-    (ran (readRun l q got t b k m .progress) (readRun l q got t b k m .got) (readRun l q got t b k m .stack) (readRun l q got t b k m .memory))
-    (ran (doStep q got t b k m .progress) (doStep q got t b k m .got) (doStep q got t b k m .stack) (doStep q got t b k m .memory)))
+    ifTrue (isStart l) (readStart l q got t b k m)
+    (ifTrue (startsWith l run-word) (readRun l q got t b k m)
+    (doStep q got t b k m))
 
 -- a call; what is lent is kept before it
 unfoldable pub readCall : List ℕ → Progress → List ℕ → List ℕ → List ℕ → List ℕ → List ℕ → Ran
 readCall l q got t b k m =
-    ran (doCall l q got t b (storeFrom k 16385 (take (lesserOf (q .lent .stack) 16385) k)) (storeFrom m 65537 (take (lesserOf (q .lent .memory) 65537) m)) .progress) (doCall l q got t b (storeFrom k 16385 (take (lesserOf (q .lent .stack) 16385) k)) (storeFrom m 65537 (take (lesserOf (q .lent .memory) 65537) m)) .got) (doCall l q got t b (storeFrom k 16385 (take (lesserOf (q .lent .stack) 16385) k)) (storeFrom m 65537 (take (lesserOf (q .lent .memory) 65537) m)) .stack) (doCall l q got t b (storeFrom k 16385 (take (lesserOf (q .lent .stack) 16385) k)) (storeFrom m 65537 (take (lesserOf (q .lent .memory) 65537) m)) .memory)
+    doCall l q got t b (storeFrom k 16385 (take (lesserOf (q .lent .stack) 16385) k)) (storeFrom m 65537 (take (lesserOf (q .lent .memory) 65537) m))

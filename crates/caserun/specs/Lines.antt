@@ -2,36 +2,18 @@
 -- Assumes nothing.
 use Prim.Native.Nat.{ℕ}
 use mathlib.Core.Bool.{Bool, true}
-use mathlib.Core.List.{List, [], _∷_, _++_}
-use lib.ListN.{length, take, drop}
+use mathlib.Core.List.{List, [], _∷_}
 use Rattle.prelude.specs.Choice.{ifLt, ifTrue}
-use Rattle.prelude.specs.Lists.{sameList, zeros}
-use Rattle.limits.specs.declared.Width.the-variants.{Bits32}
-use Rattle.machine.specs.Access.{storeFrom}
-use Rattle.machine.specs.Step.{World, After, stepOf, runOf}
-use Rattle.machine.specs.Lent.{tablesOf, world, left}
-use Rattle.machine.specs.declared.Outcome.{Outcome}
-use Rattle.machine.specs.declared.Opening.{Opening}
-use Rattle.tables.specs.Label.{Tables}
-use Rattle.checker.specs.Check.{Left, Lent, lent, checkOf}
-use Rattle.checker.specs.Check as check
-use Rattle.checker.specs.declared.Checked.{Checked}
-use Rattle.checker.specs.declared.Checked.the-variants.{Accepted, Refused}
-use Rattle.starter.specs.Opening.{Opened, opened, openingOf}
+use Rattle.prelude.specs.Lists.{sameList}
 use Rattle.casefile.specs.Lines.{startsWith}
-use Rattle.casefile.specs.Fields.{fieldStart}
-use Rattle.casefile.specs.Sources.{Source, source, addText, isSource}
-use Rattle.casetext.specs.Fields.{rawAt}
-use Rattle.casetext.specs.Numbers.{isDigits, longNumber, Listed, listed, argumentsOf}
-use Rattle.casetext.specs.Answers.{addAll, rejectedBytes, startedBytes, outcomeBytes}
-use Rattle.casetext.specs.Buffers.{lesserOf, behindOf}
+use Rattle.casefile.specs.Sources.{isSource}
 use Rattle.casestate.specs.declared.Progress.{Progress}
-use Rattle.casestate.specs.Progress.{On, on, failedOf, checkedOf, answeredOf, unansweredOf, countedOf, machineOf}
-use Rattle.casestate.specs.Source.{body-word, closeBody, readSource}
-use Rattle.casestate.specs.Views.{blank, readMemory, readStack, readAnswer, readView}
-use Rattle.casestate.specs.Changes.{Changed, changed, readChange}
-use Rattle.caserun.specs.Checks.{Once, once, checkOnce}
-use Rattle.caserun.specs.Calls.{Ran, ran, start-word, run-word, step-word, isStart, readCall}
+use Rattle.casestate.specs.Progress.{failedOf, unansweredOf}
+use Rattle.casestate.specs.Source.{body-word, readSource}
+use Rattle.casestate.specs.Views.{readMemory, readStack, readAnswer, readView}
+use Rattle.casestate.specs.Changes.{Changed, readChange}
+use Rattle.caserun.specs.Checks.{Once, checkOnce}
+use Rattle.caserun.specs.Calls.{Ran, run-word, step-word, isStart, readCall}
 
 -- `begun`
 abbrev pub begun-word : List ℕ
@@ -121,15 +103,20 @@ abbrev pub done : Progress → List ℕ → List ℕ → List ℕ → List ℕ �
 done progress got rows bytes stack memory =
     record { progress = progress; got = got; rows = rows; bytes = bytes; stack = stack; memory = memory }
 
+abbrev pub ranWith : Ran → List ℕ → List ℕ → Done
+ranWith x rows bytes = done (x .progress) (x .got) rows bytes (x .stack) (x .memory)
+
+abbrev pub changedWith : Changed → List ℕ → Done
+changedWith x got = done (x .progress) got (x .rows) (x .bytes) (x .stack) (x .memory)
+
 -- a line behind the check; the answer of a call stands right behind it
 unfoldable pub readChecked : List ℕ → Progress → List ℕ → List ℕ → List ℕ → List ℕ → List ℕ → Done
 readChecked l q got t b k m =
     ifTrue (isAnswer l) (done (readAnswer l q got .progress) (readAnswer l q got .buffer) t b k m)
     (ifLt 0 (q .given) (done (failedOf (unansweredOf q) 2) got t b k m)
-    (ifTrue (isCall l)
-    (done (readCall l q got t b k m .progress) (readCall l q got t b k m .got) t b (readCall l q got t b k m .stack) (readCall l q got t b k m .memory))
+    (ifTrue (isCall l) (ranWith (readCall l q got t b k m) t b)
     (ifTrue (isView l) (done (readView l q got k m .progress) (readView l q got k m .buffer) t b k m)
-    (done (readChange l q t b k m .progress) got (readChange l q t b k m .rows) (readChange l q t b k m .bytes) (readChange l q t b k m .stack) (readChange l q t b k m .memory)))))
+    (changedWith (readChange l q t b k m) got))))
 
 -- a progress, and the buffers of a case
 abbrev pub Lined : Type 0
@@ -140,12 +127,17 @@ abbrev pub lined : Progress → List ℕ → List ℕ → List ℕ → List ℕ 
 lined progress text got rows bytes stack memory =
     record { progress = progress; text = text; got = got; rows = rows; bytes = bytes; stack = stack; memory = memory }
 
+abbrev pub doneWith : Done → List ℕ → Lined
+doneWith x text = lined (x .progress) text (x .got) (x .rows) (x .bytes) (x .stack) (x .memory)
+
+abbrev pub behindBy : List ℕ → Once → List ℕ → List ℕ → Lined
+behindBy l x k m =
+    ifLt 0 (x .progress .fault) (lined (x .progress) (x .text) (x .got) (x .rows) (x .bytes) k m)
+    (doneWith (readChecked l (x .progress) (x .got) (x .rows) (x .bytes) k m) (x .text))
+
 -- a line that needs the tables of the source
 unfoldable pub readBehind : List ℕ → Progress → List ℕ → List ℕ → List ℕ → List ℕ → List ℕ → List ℕ → Lined
-readBehind l q text got t b k m =
-    ifLt 0 (checkOnce q text got t b .progress .fault)
-    (lined (checkOnce q text got t b .progress) (checkOnce q text got t b .text) (checkOnce q text got t b .got) (checkOnce q text got t b .rows) (checkOnce q text got t b .bytes) k m)
-    (lined (readChecked l (checkOnce q text got t b .progress) (checkOnce q text got t b .got) (checkOnce q text got t b .rows) (checkOnce q text got t b .bytes) k m .progress) (checkOnce q text got t b .text) (readChecked l (checkOnce q text got t b .progress) (checkOnce q text got t b .got) (checkOnce q text got t b .rows) (checkOnce q text got t b .bytes) k m .got) (readChecked l (checkOnce q text got t b .progress) (checkOnce q text got t b .got) (checkOnce q text got t b .rows) (checkOnce q text got t b .bytes) k m .rows) (readChecked l (checkOnce q text got t b .progress) (checkOnce q text got t b .got) (checkOnce q text got t b .rows) (checkOnce q text got t b .bytes) k m .bytes) (readChecked l (checkOnce q text got t b .progress) (checkOnce q text got t b .got) (checkOnce q text got t b .rows) (checkOnce q text got t b .bytes) k m .stack) (readChecked l (checkOnce q text got t b .progress) (checkOnce q text got t b .got) (checkOnce q text got t b .rows) (checkOnce q text got t b .bytes) k m .memory))
+readBehind l q text got t b k m = behindBy l (checkOnce q text got t b) k m
 
 -- a line of a case
 unfoldable pub readLine : List ℕ → Progress → List ℕ → List ℕ → List ℕ → List ℕ → List ℕ → List ℕ → Lined
@@ -153,4 +145,4 @@ readLine l q text got t b k m =
     ifTrue (isText l) (lined (readSource l q text .progress) (readSource l q text .buffer) got t b k m)
     (ifTrue (startsWith l memory-word) (lined (readMemory l q m .progress) text got t b k (readMemory l q m .buffer))
     (ifTrue (startsWith l stack-word) (lined (readStack l q k .progress) text got t b (readStack l q k .buffer) m)
-    (lined (readBehind l q text got t b k m .progress) (readBehind l q text got t b k m .text) (readBehind l q text got t b k m .got) (readBehind l q text got t b k m .rows) (readBehind l q text got t b k m .bytes) (readBehind l q text got t b k m .stack) (readBehind l q text got t b k m .memory))))
+    (readBehind l q text got t b k m)))

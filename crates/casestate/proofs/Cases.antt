@@ -1,31 +1,29 @@
 -- One law for each way through a function, numbered as its returns.
 -- Assumes nothing.
-use mathlib.Core.Path.{_≡_, refl}
+use mathlib.Core.Path.{_≡_}
 use Prim.Native.Nat.{ℕ, _+_, _-_, _*_, _%_, _≤_, _<_}
 use mathlib.Core.Bool.{Bool, true, false}
-use mathlib.Core.List.{List, [], _∷_}
+use mathlib.Core.List.{List}
 use lib.ListN.{take, set, replicate}
-use Rattle.prelude.specs.Choice.{ifLt, ifEq, ifTrue}
-use Rattle.prelude.specs.Lists.{sameList, zeros}
+use Rattle.prelude.specs.Lists.{sameList}
 use Rattle.limits.specs.Fresh.{freshOf}
 use Rattle.limits.specs.declared.Machine.{Machine}
 use Rattle.machine.specs.Access.{storeFrom}
 use Rattle.casefile.specs.Lines.{oneMore, startsWith}
 use Rattle.casefile.specs.Fields.{noNumber}
-use Rattle.casefile.specs.Sources.{Source, source, addText, addLine, addSource}
+use Rattle.casefile.specs.Sources.{source, addText, addLine, addSource}
 use Rattle.casetext.specs.Fields.{countFields, hasWord}
 use Rattle.casetext.specs.Numbers.{valueOf, hasValues}
 use Rattle.casetext.specs.Answers.{addAll, plainBytes, recordBytes, wordsBytes, holdsBytes}
 use Rattle.casetext.specs.Records.{isRecordPoke, pokeRecord}
-use Rattle.casetext.specs.Buffers.{lesserOf, changedIn, Stored, stored, bytesStored}
+use Rattle.casetext.specs.Buffers.{lesserOf, changedIn, stored, bytesStored}
 use Rattle.prelude.proofs.Choice.{tests}
 use Rattle.casestate.specs.declared.Lent.{Lent}
-use Rattle.casestate.specs.declared.Counts.{Counts}
 use Rattle.casestate.specs.declared.Progress.{Progress}
-use Rattle.casestate.specs.Progress.{On, on, allLent, firstOf, openedOf, failedOf, sizedOf, bodiedOf, checkedOf, shownOf, answeredOf, unansweredOf, countedOf, lentOf, machineOf}
+use Rattle.casestate.specs.Progress.{on, allLent, firstOf, openedOf, failedOf, sizedOf, bodiedOf, shownOf, unansweredOf, countedOf, lentOf, machineOf}
 use Rattle.casestate.specs.Source.{body-word, body-head, body-end, withSize, openBody, closeBody, readBody, readSource}
 use Rattle.casestate.specs.Views.{rejected-word, accepted-word, words-word, holds-word, record-word, same-word, words-line, holds-line, stackLent, memoryLent, readMemory, readStack, compareTexts, blank, compareLine, readAccepted, readAnswer, viewWords, viewBytes, addChange, readView}
-use Rattle.casestate.specs.Changes.{bytes-word, poke-word, count-word, lend-word, poke-statement-word, poke-label-word, poke-name-word, poke-stack-word, poke-record-word, statements-word, labels-word, data-word, names-word, readBytes, pokeStatement, pokeLabel, pokeName, pokeStack, pokeMachine, Poked, poked, readPoke, countPart, readCount, lendStatements, lendLabels, lendNames, lendBytes, readLend, Changed, changed, readChange}
+use Rattle.casestate.specs.Changes.{bytes-word, poke-word, count-word, lend-word, poke-statement-word, poke-label-word, poke-name-word, poke-stack-word, poke-record-word, statements-word, labels-word, data-word, names-word, readBytes, pokeStatement, pokeLabel, pokeName, pokeStack, pokeMachine, poked, readPoke, countPart, readCount, lendStatements, lendLabels, lendNames, lendBytes, readLend, changed, readChange}
 
 -- `first`, `open_case`
 pub first-is : (a : Lent) (r : Machine) → a ≡ allLent → r ≡ freshOf 0 0 0 → record { line = 0; cases = 0; differ = 0; name = 0; size = 0; «is_body» = false; «is_checked» = false; «is_wrong» = false; given = 0; told = 0; fault = 0; shown = 0; lent = a; counts = record { statements = 0; labels = 0; bytes = 0 }; machine = r } ≡ firstOf

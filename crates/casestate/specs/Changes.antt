@@ -1,26 +1,17 @@
 -- Changes between calls.
 -- Assumes nothing.
-use Prim.Native.Nat.{ℕ, _+_, _-_, _*_, _%_}
-use mathlib.Core.Bool.{Bool, true, false}
+use Prim.Native.Nat.{ℕ, _+_, _*_, _%_}
 use mathlib.Core.List.{List, [], _∷_}
-use lib.ListN.{take, set, replicate}
+use lib.ListN.{set}
 use Rattle.prelude.specs.Choice.{ifLt, ifEq, ifTrue}
-use Rattle.prelude.specs.Lists.{sameList, zeros}
-use Rattle.limits.specs.Fresh.{freshOf}
-use Rattle.limits.specs.declared.Machine.{Machine}
-use Rattle.machine.specs.Access.{storeFrom}
-use Rattle.casefile.specs.Lines.{oneMore, startsWith}
+use Rattle.casefile.specs.Lines.{startsWith}
 use Rattle.casefile.specs.Fields.{noNumber}
-use Rattle.casefile.specs.Sources.{Source, source, addText, addLine, addSource}
 use Rattle.casetext.specs.Fields.{countFields, hasWord}
 use Rattle.casetext.specs.Numbers.{valueOf, hasValues}
-use Rattle.casetext.specs.Answers.{addAll, plainBytes, recordBytes, wordsBytes, holdsBytes}
 use Rattle.casetext.specs.Records.{isRecordPoke, pokeRecord}
-use Rattle.casetext.specs.Buffers.{lesserOf, changedIn, Stored, stored, bytesStored}
-use Rattle.casestate.specs.declared.Lent.{Lent}
-use Rattle.casestate.specs.declared.Counts.{Counts}
+use Rattle.casetext.specs.Buffers.{bytesStored}
 use Rattle.casestate.specs.declared.Progress.{Progress}
-use Rattle.casestate.specs.Progress.{On, on, failedOf, sizedOf, bodiedOf, checkedOf, shownOf, answeredOf, unansweredOf, countedOf, lentOf, machineOf}
+use Rattle.casestate.specs.Progress.{On, on, failedOf, countedOf, lentOf, machineOf}
 
 -- `bytes `
 abbrev pub bytes-word : List ℕ
@@ -88,7 +79,7 @@ unfoldable pub pokeStatement : List ℕ → Progress → List ℕ → On
 pokeStatement l q t =
     ifLt (valueOf l 2) 1024
     (ifLt (valueOf l 3) 27
-    (ifTrue (hasValues l 4 5) (on q (set t ((valueOf l 2) * 27 + (valueOf l 3)) ((valueOf l 4) % noNumber)))
+    (ifTrue (hasValues l 4 5) (on q (set t (valueOf l 2 * 27 + valueOf l 3) (valueOf l 4 % noNumber)))
     (on (failedOf q 1) t))
     (on (failedOf q 1) t))
     (on (failedOf q 1) t)
@@ -98,7 +89,7 @@ unfoldable pub pokeLabel : List ℕ → Progress → List ℕ → On
 pokeLabel l q t =
     ifLt (valueOf l 2) 256
     (ifLt (valueOf l 3) 4
-    (ifTrue (hasValues l 4 5) (on q (set t ((valueOf l 2) * 4 + (valueOf l 3) + 27648) ((valueOf l 4) % noNumber)))
+    (ifTrue (hasValues l 4 5) (on q (set t (valueOf l 2 * 4 + valueOf l 3 + 27648) (valueOf l 4 % noNumber)))
     (on (failedOf q 1) t))
     (on (failedOf q 1) t))
     (on (failedOf q 1) t)
@@ -110,7 +101,7 @@ pokeName l q b =
     (ifLt (valueOf l 3) 64
     (ifEq (countFields l) 5
     (ifLt 255 (valueOf l 4) (on (failedOf q 1) b)
-    (on q (set b ((valueOf l 2) * 64 + (valueOf l 3)) (valueOf l 4))))
+    (on q (set b (valueOf l 2 * 64 + valueOf l 3) (valueOf l 4))))
     (on (failedOf q 1) b))
     (on (failedOf q 1) b))
     (on (failedOf q 1) b)
@@ -119,7 +110,7 @@ pokeName l q b =
 unfoldable pub pokeStack : List ℕ → Progress → List ℕ → On
 pokeStack l q k =
     ifLt (valueOf l 2) 16385
-    (ifTrue (hasValues l 2 4) (on q (set k (valueOf l 2) ((valueOf l 3) % noNumber)))
+    (ifTrue (hasValues l 2 4) (on q (set k (valueOf l 2) (valueOf l 3 % noNumber)))
     (on (failedOf q 1) k))
     (on (failedOf q 1) k)
 
@@ -136,6 +127,7 @@ Poked = record { progress : Progress; rows : List ℕ; bytes : List ℕ; stack :
 abbrev pub poked : Progress → List ℕ → List ℕ → List ℕ → Poked
 poked progress rows bytes stack = record { progress = progress; rows = rows; bytes = bytes; stack = stack }
 
+-- what a line pokes
 unfoldable pub readPoke : List ℕ → Progress → List ℕ → List ℕ → List ℕ → Poked
 readPoke l q t b k =
     ifTrue (startsWith l poke-statement-word)
@@ -157,7 +149,7 @@ countPart l q n =
 -- `count statements N`, `count labels N`, `count data N`
 unfoldable pub readCount : List ℕ → Progress → Progress
 readCount l q =
-    ifTrue (hasValues l 2 3) (countPart l q ((valueOf l 2) % noNumber))
+    ifTrue (hasValues l 2 3) (countPart l q (valueOf l 2 % noNumber))
     (failedOf q 1)
 
 unfoldable pub lendStatements : Progress → ℕ → Progress
@@ -199,12 +191,14 @@ abbrev pub changed : Progress → List ℕ → List ℕ → List ℕ → List �
 changed progress rows bytes stack memory =
     record { progress = progress; rows = rows; bytes = bytes; stack = stack; memory = memory }
 
+abbrev pub pokedBy : Poked → List ℕ → Changed
+pokedBy x memory = changed (x .progress) (x .rows) (x .bytes) (x .stack) memory
+
 -- a change between calls
 unfoldable pub readChange : List ℕ → Progress → List ℕ → List ℕ → List ℕ → List ℕ → Changed
 readChange l q t b k m =
     ifTrue (startsWith l bytes-word) (changed (readBytes l q m .progress) t b k (readBytes l q m .buffer))
-    (ifTrue (startsWith l poke-word)
-    (changed (readPoke l q t b k .progress) (readPoke l q t b k .rows) (readPoke l q t b k .bytes) (readPoke l q t b k .stack) m)
+    (ifTrue (startsWith l poke-word) (pokedBy (readPoke l q t b k) m)
     (ifTrue (startsWith l count-word) (changed (readCount l q) t b k m)
     (ifTrue (startsWith l lend-word) (changed (readLend l q) t b k m)
     (changed (failedOf q 1) t b k m))))

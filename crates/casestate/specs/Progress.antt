@@ -1,24 +1,12 @@
 -- The state of a case, and one part of it set.
 -- Assumes nothing.
-use Prim.Native.Nat.{ℕ, _+_, _-_, _*_, _%_}
+use Prim.Native.Nat.{ℕ}
 use mathlib.Core.Bool.{Bool, true, false}
-use mathlib.Core.List.{List, [], _∷_}
-use lib.ListN.{take, set, replicate}
-use Rattle.prelude.specs.Choice.{ifLt, ifEq, ifTrue}
-use Rattle.prelude.specs.Lists.{sameList, zeros}
+use mathlib.Core.List.{List}
 use Rattle.limits.specs.Fresh.{freshOf}
 use Rattle.limits.specs.declared.Machine.{Machine}
-use Rattle.machine.specs.Access.{storeFrom}
-use Rattle.casefile.specs.Lines.{oneMore, startsWith}
-use Rattle.casefile.specs.Fields.{noNumber}
-use Rattle.casefile.specs.Sources.{Source, source, addText, addLine, addSource}
-use Rattle.casetext.specs.Fields.{countFields, hasWord}
-use Rattle.casetext.specs.Numbers.{valueOf, hasValues}
-use Rattle.casetext.specs.Answers.{addAll, plainBytes, recordBytes, wordsBytes, holdsBytes}
-use Rattle.casetext.specs.Records.{isRecordPoke, pokeRecord}
-use Rattle.casetext.specs.Buffers.{lesserOf, changedIn, Stored, stored, bytesStored}
+use Rattle.casefile.specs.Lines.{oneMore}
 use Rattle.casestate.specs.declared.Lent.{Lent}
-use Rattle.casestate.specs.declared.Counts.{Counts}
 use Rattle.casestate.specs.declared.Progress.{Progress}
 
 -- a progress, and the one buffer that a line changes

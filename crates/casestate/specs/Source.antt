@@ -1,26 +1,13 @@
 -- The source of a case, line by line; `body` lines stand in a function.
 -- Assumes nothing.
-use Prim.Native.Nat.{ℕ, _+_, _-_, _*_, _%_}
-use mathlib.Core.Bool.{Bool, true, false}
+use Prim.Native.Nat.{ℕ}
+use mathlib.Core.Bool.{true, false}
 use mathlib.Core.List.{List, [], _∷_}
-use lib.ListN.{take, set, replicate}
-use Rattle.prelude.specs.Choice.{ifLt, ifEq, ifTrue}
-use Rattle.prelude.specs.Lists.{sameList, zeros}
-use Rattle.limits.specs.Fresh.{freshOf}
-use Rattle.limits.specs.declared.Machine.{Machine}
-use Rattle.machine.specs.Access.{storeFrom}
-use Rattle.casefile.specs.Lines.{oneMore, startsWith}
-use Rattle.casefile.specs.Fields.{noNumber}
+use Rattle.prelude.specs.Choice.{ifLt, ifTrue}
+use Rattle.casefile.specs.Lines.{startsWith}
 use Rattle.casefile.specs.Sources.{Source, source, addText, addLine, addSource}
-use Rattle.casetext.specs.Fields.{countFields, hasWord}
-use Rattle.casetext.specs.Numbers.{valueOf, hasValues}
-use Rattle.casetext.specs.Answers.{addAll, plainBytes, recordBytes, wordsBytes, holdsBytes}
-use Rattle.casetext.specs.Records.{isRecordPoke, pokeRecord}
-use Rattle.casetext.specs.Buffers.{lesserOf, changedIn, Stored, stored, bytesStored}
-use Rattle.casestate.specs.declared.Lent.{Lent}
-use Rattle.casestate.specs.declared.Counts.{Counts}
 use Rattle.casestate.specs.declared.Progress.{Progress}
-use Rattle.casestate.specs.Progress.{On, on, failedOf, sizedOf, bodiedOf, checkedOf, shownOf, answeredOf, unansweredOf, countedOf, lentOf, machineOf}
+use Rattle.casestate.specs.Progress.{On, on, failedOf, sizedOf, bodiedOf}
 
 -- `body `
 abbrev pub body-word : List ℕ
@@ -41,24 +28,33 @@ withSize q size =
     (ifLt size 16401 (sizedOf q size)
     (failedOf q 1))
 
+-- a progress beside a source, which is its new source
+abbrev pub sourced : Progress → Source → On
+sourced q s = on (withSize q (s .size)) (s .text)
+
+-- the function around a body begins
 unfoldable pub openBody : Progress → List ℕ → On
 openBody q text =
     ifTrue (q .«is_body») (on q text)
-    (on (withSize (bodiedOf q true) (addText body-head 0 (source (q .size) text) .size)) (addText body-head 0 (source (q .size) text) .text))
+    (sourced (bodiedOf q true) (addText body-head 0 (source (q .size) text)))
 
+-- the function around a body ends
 unfoldable pub closeBody : Progress → List ℕ → On
 closeBody q text =
-    ifTrue (q .«is_body»)
-    (on (withSize (bodiedOf q false) (addText body-end 0 (source (q .size) text) .size)) (addText body-end 0 (source (q .size) text) .text))
+    ifTrue (q .«is_body») (sourced (bodiedOf q false) (addText body-end 0 (source (q .size) text)))
     (on q text)
 
+-- a line of a body, behind what stands before it
+abbrev pub bodyBy : List ℕ → On → On
+bodyBy l x = sourced (x .progress) (addLine l 5 (source (x .progress .size) (x .buffer)))
+
+-- `body BYTES`
 unfoldable pub readBody : List ℕ → Progress → List ℕ → On
-readBody l q text =
-    on (withSize (openBody q text .progress) (addLine l 5 (source ((openBody q text .progress .size)) (openBody q text .buffer)) .size)) (addLine l 5 (source ((openBody q text .progress .size)) (openBody q text .buffer)) .text)
+readBody l q text = bodyBy l (openBody q text)
 
 -- a line of the source
 unfoldable pub readSource : List ℕ → Progress → List ℕ → On
 readSource l q text =
     ifTrue (q .«is_checked») (on (failedOf q 1) text)
-    (ifTrue (startsWith l body-word) (on (readBody l q text .progress) (readBody l q text .buffer))
-    (on (withSize q (addSource l (source (q .size) text) .size)) (addSource l (source (q .size) text) .text)))
+    (ifTrue (startsWith l body-word) (readBody l q text)
+    (sourced q (addSource l (source (q .size) text))))

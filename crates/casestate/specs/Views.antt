@@ -1,26 +1,20 @@
 -- What is lent, and lines compared with what is given.
 -- Assumes nothing.
-use Prim.Native.Nat.{ℕ, _+_, _-_, _*_, _%_}
-use mathlib.Core.Bool.{Bool, true, false}
+use Prim.Native.Nat.{ℕ, _-_}
 use mathlib.Core.List.{List, [], _∷_}
-use lib.ListN.{take, set, replicate}
+use lib.ListN.{take, replicate}
 use Rattle.prelude.specs.Choice.{ifLt, ifEq, ifTrue}
 use Rattle.prelude.specs.Lists.{sameList, zeros}
-use Rattle.limits.specs.Fresh.{freshOf}
-use Rattle.limits.specs.declared.Machine.{Machine}
 use Rattle.machine.specs.Access.{storeFrom}
-use Rattle.casefile.specs.Lines.{oneMore, startsWith}
-use Rattle.casefile.specs.Fields.{noNumber}
-use Rattle.casefile.specs.Sources.{Source, source, addText, addLine, addSource}
-use Rattle.casetext.specs.Fields.{countFields, hasWord}
-use Rattle.casetext.specs.Numbers.{valueOf, hasValues}
+use Rattle.casefile.specs.Lines.{startsWith}
+use Rattle.casefile.specs.Sources.{Source, source}
+use Rattle.casetext.specs.Fields.{countFields}
+use Rattle.casetext.specs.Numbers.{valueOf}
 use Rattle.casetext.specs.Answers.{addAll, plainBytes, recordBytes, wordsBytes, holdsBytes}
-use Rattle.casetext.specs.Records.{isRecordPoke, pokeRecord}
-use Rattle.casetext.specs.Buffers.{lesserOf, changedIn, Stored, stored, bytesStored}
+use Rattle.casetext.specs.Buffers.{lesserOf, changedIn}
 use Rattle.casestate.specs.declared.Lent.{Lent}
-use Rattle.casestate.specs.declared.Counts.{Counts}
 use Rattle.casestate.specs.declared.Progress.{Progress}
-use Rattle.casestate.specs.Progress.{On, on, failedOf, sizedOf, bodiedOf, checkedOf, shownOf, answeredOf, unansweredOf, countedOf, lentOf, machineOf}
+use Rattle.casestate.specs.Progress.{On, on, failedOf, shownOf, unansweredOf, lentOf}
 
 -- `rejected `
 abbrev pub rejected-word : List ℕ
@@ -54,20 +48,21 @@ words-line = 119 ∷ 111 ∷ 114 ∷ 100 ∷ 115 ∷ 32 ∷ 48 ∷ 32 ∷ 48 ∷
 abbrev pub holds-line : List ℕ
 holds-line = 104 ∷ 111 ∷ 108 ∷ 100 ∷ 115 ∷ 32 ∷ 48 ∷ 32 ∷ 48 ∷ []
 
+-- words of stack, bytes of memory lent
 unfoldable pub stackLent : Progress → ℕ → Progress
 stackLent q n =
-    (lentOf q (record { statements = q .lent .statements; labels = q .lent .labels; names = q .lent .names; bytes = q .lent .bytes; stack = n; memory = q .lent .memory }))
+    lentOf q (record { statements = q .lent .statements; labels = q .lent .labels; names = q .lent .names; bytes = q .lent .bytes; stack = n; memory = q .lent .memory })
 
 unfoldable pub memoryLent : Progress → ℕ → Progress
 memoryLent q n =
-    (lentOf q (record { statements = q .lent .statements; labels = q .lent .labels; names = q .lent .names; bytes = q .lent .bytes; stack = q .lent .stack; memory = n }))
+    lentOf q (record { statements = q .lent .statements; labels = q .lent .labels; names = q .lent .names; bytes = q .lent .bytes; stack = q .lent .stack; memory = n })
 
 -- `memory N`
 unfoldable pub readMemory : List ℕ → Progress → List ℕ → On
 readMemory l q m =
     ifEq (countFields l) 2
     (ifLt 65537 (valueOf l 1) (on (failedOf q 1) m)
-    (on (memoryLent q (valueOf l 1)) (storeFrom m (valueOf l 1) (replicate (65537 - (valueOf l 1)) 0))))
+    (on (memoryLent q (valueOf l 1)) (storeFrom m (valueOf l 1) (replicate (65537 - valueOf l 1) 0))))
     (on (failedOf q 1) m)
 
 -- `stack N`
@@ -75,7 +70,7 @@ unfoldable pub readStack : List ℕ → Progress → List ℕ → On
 readStack l q k =
     ifEq (countFields l) 2
     (ifLt 16385 (valueOf l 1) (on (failedOf q 1) k)
-    (on (stackLent q (valueOf l 1)) (storeFrom k (valueOf l 1) (replicate (16385 - (valueOf l 1)) 0))))
+    (on (stackLent q (valueOf l 1)) (storeFrom k (valueOf l 1) (replicate (16385 - valueOf l 1) 0))))
     (on (failedOf q 1) k)
 
 -- what is wanted beside what is given
@@ -88,54 +83,57 @@ compareTexts want n q got size =
 unfoldable pub blank : List ℕ
 blank = zeros 16401
 
+-- the text of a line beside what is given; one that fills the room is no line
+abbrev pub compareBy : Source → Progress → List ℕ → ℕ → Progress
+compareBy s q got size = ifLt (s .size) 16401 (compareTexts (s .text) (s .size) q got size) (failedOf q 1)
+
 -- a line beside what is given
 unfoldable pub compareLine : List ℕ → Progress → List ℕ → ℕ → Progress
-compareLine l q got size =
-    ifLt (addAll (plainBytes l) (source 0 blank) .size) 16401
-    (compareTexts (addAll (plainBytes l) (source 0 blank) .text) (addAll (plainBytes l) (source 0 blank) .size) q got size)
-    (failedOf q 1)
+compareLine l q got size = compareBy (addAll (plainBytes l) (source 0 blank)) q got size
+
+-- a line beside the text that is given
+abbrev pub compared : List ℕ → Progress → Source → On
+compared l q s = on (compareLine l q (s .text) (s .size)) (s .text)
 
 -- an answer with no call before it: that of an accepted source
 unfoldable pub readAccepted : List ℕ → Progress → List ℕ → On
 readAccepted l q got =
-    ifTrue (startsWith l rejected-word)
-    (on (compareLine l q (addAll accepted-word (source 0 got) .text) (addAll accepted-word (source 0 got) .size)) (addAll accepted-word (source 0 got) .text))
+    ifTrue (startsWith l rejected-word) (compared l q (addAll accepted-word (source 0 got)))
     (on (failedOf q 1) got)
 
 -- the answer of the last call
 unfoldable pub readAnswer : List ℕ → Progress → List ℕ → On
 readAnswer l q got =
-    ifEq (q .given) 0 (on (readAccepted l q got .progress) (readAccepted l q got .buffer))
+    ifEq (q .given) 0 (readAccepted l q got)
     (on (compareLine l (unansweredOf q) got (q .given)) got)
 
 -- `words INDEX W ..`
 unfoldable pub viewWords : List ℕ → Progress → List ℕ → List ℕ → On
 viewWords l q got k =
     ifLt (valueOf l 1) 16385
-    (on (compareLine l q (addAll (wordsBytes l (valueOf l 1) (take (lesserOf (q .lent .stack) 16385) k)) (source 0 got) .text) (addAll (wordsBytes l (valueOf l 1) (take (lesserOf (q .lent .stack) 16385) k)) (source 0 got) .size)) (addAll (wordsBytes l (valueOf l 1) (take (lesserOf (q .lent .stack) 16385) k)) (source 0 got) .text))
+    (compared l q (addAll (wordsBytes l (valueOf l 1) (take (lesserOf (q .lent .stack) 16385) k)) (source 0 got)))
     (on (failedOf q 1) got)
 
 -- `holds ADDRESS B ..`
 unfoldable pub viewBytes : List ℕ → Progress → List ℕ → List ℕ → On
 viewBytes l q got m =
     ifLt (valueOf l 1) 65537
-    (on (compareLine l q (addAll (holdsBytes l (valueOf l 1) (take (lesserOf (q .lent .memory) 65537) m)) (source 0 got) .text) (addAll (holdsBytes l (valueOf l 1) (take (lesserOf (q .lent .memory) 65537) m)) (source 0 got) .size)) (addAll (holdsBytes l (valueOf l 1) (take (lesserOf (q .lent .memory) 65537) m)) (source 0 got) .text))
+    (compared l q (addAll (holdsBytes l (valueOf l 1) (take (lesserOf (q .lent .memory) 65537) m)) (source 0 got)))
     (on (failedOf q 1) got)
 
 -- what the last call changed first: a word, a byte, or nothing
 unfoldable pub addChange : Lent → List ℕ → List ℕ → List ℕ → Source
 addChange a got k m =
     ifLt (changedIn 16385 k (lesserOf (a .stack) 16385)) (lesserOf (a .stack) 16385)
-    (source (addAll (wordsBytes words-line (changedIn 16385 k (lesserOf (a .stack) 16385)) (take (lesserOf (a .stack) 16385) k)) (source 0 got) .size) (addAll (wordsBytes words-line (changedIn 16385 k (lesserOf (a .stack) 16385)) (take (lesserOf (a .stack) 16385) k)) (source 0 got) .text))
+    (addAll (wordsBytes words-line (changedIn 16385 k (lesserOf (a .stack) 16385)) (take (lesserOf (a .stack) 16385) k)) (source 0 got))
     (ifLt (changedIn 65537 m (lesserOf (a .memory) 65537)) (lesserOf (a .memory) 65537)
-    (source (addAll (holdsBytes holds-line (changedIn 65537 m (lesserOf (a .memory) 65537)) (take (lesserOf (a .memory) 65537) m)) (source 0 got) .size) (addAll (holdsBytes holds-line (changedIn 65537 m (lesserOf (a .memory) 65537)) (take (lesserOf (a .memory) 65537) m)) (source 0 got) .text))
-    (source (addAll same-word (source 0 got) .size) (addAll same-word (source 0 got) .text)))
+    (addAll (holdsBytes holds-line (changedIn 65537 m (lesserOf (a .memory) 65537)) (take (lesserOf (a .memory) 65537) m)) (source 0 got))
+    (addAll same-word (source 0 got)))
 
 -- what stands in the record, the stack and the memory
 unfoldable pub readView : List ℕ → Progress → List ℕ → List ℕ → List ℕ → On
 readView l q got k m =
-    ifTrue (startsWith l words-word) (on (viewWords l q got k .progress) (viewWords l q got k .buffer))
-    (ifTrue (startsWith l holds-word) (on (viewBytes l q got m .progress) (viewBytes l q got m .buffer))
-    (ifTrue (startsWith l record-word)
-    (on (compareLine l q (addAll (recordBytes (q .machine)) (source 0 got) .text) (addAll (recordBytes (q .machine)) (source 0 got) .size)) (addAll (recordBytes (q .machine)) (source 0 got) .text))
-    (on (compareLine l q (addChange (q .lent) got k m .text) (addChange (q .lent) got k m .size)) (addChange (q .lent) got k m .text))))
+    ifTrue (startsWith l words-word) (viewWords l q got k)
+    (ifTrue (startsWith l holds-word) (viewBytes l q got m)
+    (ifTrue (startsWith l record-word) (compared l q (addAll (recordBytes (q .machine)) (source 0 got)))
+    (compared l q (addChange (q .lent) got k m))))

@@ -1,31 +1,30 @@
 -- The loops: what is left gives the whole answer.
 -- Assumes nothing.
-use mathlib.Core.Path.{_≡_, refl, sym, _∙_, ap, subst}
-use mathlib.Core.Bool.{Bool, true, false}
+use mathlib.Core.Path.{_≡_, refl, sym, _∙_, ap}
+use mathlib.Core.Bool.{true, false}
 use mathlib.Core.List.{List, [], _∷_, _++_}
-use Prim.Native.Nat.{ℕ, zero, suc, _+_, _-_, _%_, _≤_, _<_}
+use Prim.Native.Nat.{ℕ, suc, _+_, _-_, _%_, _≤_, _<_}
 use native.Mathlib.Numerals.{add-one}
 use native.Mathlib.Decide.{decLt}
 use native.Mathlib.Omega.{arith}
 use lib.Dec.{ltb}
 use lib.ListN.{length, take, drop, getD, set, replicate, length-set, length-take, drop-of-length-le}
 use lib.Seq.{drop-cons, set-out, getD-take, take-set-le}
-use Rattle.prelude.specs.Choice.{ifLt, ifEq}
 use Rattle.prelude.specs.Bytes.{byteAt}
-use Rattle.prelude.specs.Walk.{Step, go, stop, walk}
+use Rattle.prelude.specs.Walk.{go, stop}
 use Rattle.prelude.proofs.Choice.{tests, ifLt-yes, ifLt-no}
 use Rattle.prelude.proofs.Walk.{Runs, runs-start, runs-go, runs-stop}
 use Rattle.machine.specs.Access.{storeFrom}
 use Rattle.stores.proofs.Cases.{store-next}
 use Rattle.page.specs.Bytes.{field}
-use Rattle.casefile.specs.Lines.{oneMore, Count, count}
+use Rattle.casefile.specs.Lines.{oneMore, count}
 use Rattle.casefile.specs.Fields.{noNumber}
 use Rattle.casefile.specs.Sources.{Source, source, addByte}
 use Rattle.casetext.specs.Fields.{countFields, countStep, wordStep, wordEnd}
-use Rattle.casetext.specs.Numbers.{valueOf, valuesStep, areValues, digitsStep, isDigits, longDigit, longStep, longNumber, Listed, listed, argumentStep, argumentsOf}
+use Rattle.casetext.specs.Numbers.{valueOf, valuesStep, areValues, digitsStep, isDigits, longDigit, longStep, longNumber, listed, argumentStep, argumentsOf}
 use Rattle.casetext.specs.Answers.{addAll, fieldBytes, fieldsFrom, plainBytes, none-word, words-word, holds-word, countedBytes, numbersFrom, wordsBytes, holdsBytes}
-use Rattle.casetext.specs.Buffers.{lesserOf, changedStep, changedIn, Stored, stored, Storing, storing, storeStep, bytesStored}
-use Rattle.casetext.proofs.Cases.{add-append, add-two, add-one-byte}
+use Rattle.casetext.specs.Buffers.{lesserOf, changedStep, changedIn, stored, storing, storeStep, bytesStored}
+use Rattle.casetext.proofs.Cases.{add-two, add-one-byte}
 
 -- `count_fields`
 module _ (l : List ℕ) (n i : ℕ) where

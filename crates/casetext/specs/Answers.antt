@@ -1,6 +1,6 @@
 -- Answers as bytes, in the words of a case file, and bytes added to a text.
 -- Assumes nothing.
-use Prim.Native.Nat.{ℕ, zero, suc, _+_, _-_}
+use Prim.Native.Nat.{ℕ, zero, suc, _-_}
 use mathlib.Core.List.{List, [], _∷_, _++_}
 use lib.ListN.{length, getD}
 use Rattle.prelude.specs.Choice.{ifLt}
@@ -14,7 +14,7 @@ use Rattle.machine.specs.declared.Started.the-variants.{Begun, Refused, Unsound
 use Rattle.machine.specs.declared.Outcome.{Outcome}
 use Rattle.page.specs.Bytes.{decimal, field}
 use Rattle.casefile.specs.Fields.{noNumber, fieldStart}
-use Rattle.casefile.specs.Sources.{Source, source, addByte}
+use Rattle.casefile.specs.Sources.{Source, addByte}
 use Rattle.casetext.specs.Fields.{countFields, rawAt}
 use Rattle.casetext.specs.Numbers.{valueOf}
 

@@ -1,18 +1,9 @@
 -- `caserun::call_start` meets its contract.
 -- Assumes nothing.
 use Rattle.caserun.proofs.Cases.{call-start-is}
-use native.Mathlib.Omega.{arith}
-use mathlib.Core.Path.{_≡_, refl, sym, _∙_, ap, subst}
 use borrow.Author.Needs.{needs}
 use Rattle.caserun.proofs.call_start.Statement.{statement}
 use Rattle.caserun.proofs.call_start.Tie as tie
-use Rattle.caserun.proofs.call_start.Reads as reads
-use Rattle.caserun.proofs.call_start.Lts as lts
-use Rattle.casefile.proofs.front.Reads as front-reads
-use Rattle.casetext.proofs.behind.Reads as behind-reads
-use Rattle.casetext.proofs.behind_names.Reads as behind-names-reads
-use Rattle.casetext.proofs.front_words.Reads as front-words-reads
-use Rattle.starter.proofs.start.Reads as start-reads
 
 front-words-requires : tie.Need-front-words-requires
 front-words-requires c κs = search needs

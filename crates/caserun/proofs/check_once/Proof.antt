@@ -1,18 +1,9 @@
 -- `caserun::check_once` meets its contract.
 -- Assumes nothing.
 use Rattle.caserun.proofs.Cases.{check-once-ways}
-use native.Mathlib.Omega.{arith}
-use mathlib.Core.Path.{_≡_, refl, sym, _∙_, ap, subst}
 use borrow.Author.Needs.{needs}
 use Rattle.caserun.proofs.check_once.Statement.{statement}
 use Rattle.caserun.proofs.check_once.Tie as tie
-use Rattle.caserun.proofs.check_once.Reads as reads
-use Rattle.caserun.proofs.check_once.Lts as lts
-use Rattle.casefile.proofs.front.Reads as front-reads
-use Rattle.caserun.proofs.check_source.Reads as check-source-reads
-use Rattle.caserun.proofs.with_checked.Reads as with-checked-reads
-use Rattle.casestate.proofs.close_body.Reads as close-body-reads
-use Rattle.casestate.proofs.set_checked.Reads as set-checked-reads
 
 returns : tie.Need-returns
 returns c =

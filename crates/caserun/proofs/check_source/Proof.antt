@@ -3,16 +3,9 @@
 use Prim.Native.Nat.{ℕ}
 use lib.ListN.{length-replicate}
 use Rattle.caserun.proofs.Cases.{check-source-is}
-use native.Mathlib.Omega.{arith}
-use mathlib.Core.Path.{_≡_, refl, sym, _∙_, ap, subst}
 use borrow.Author.Needs.{needs}
 use Rattle.caserun.proofs.check_source.Statement.{statement}
 use Rattle.caserun.proofs.check_source.Tie as tie
-use Rattle.caserun.proofs.check_source.Reads as reads
-use Rattle.caserun.proofs.check_source.Lts as lts
-use Rattle.casetext.proofs.copy_bytes.Reads as copy-bytes-reads
-use Rattle.checker.proofs.check.Reads as check-reads
-use Rattle.stores.proofs.put_words.Reads as put-words-reads
 
 slice-aggregate-check : tie.Need-slice-aggregate-check
 slice-aggregate-check c = search needs

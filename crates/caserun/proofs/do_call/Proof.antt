@@ -1,18 +1,9 @@
 -- `caserun::do_call` meets its contract.
 -- Assumes nothing.
 use Rattle.caserun.proofs.Cases.{do-call-ways}
-use native.Mathlib.Omega.{arith}
-use mathlib.Core.Path.{_≡_, refl, sym, _∙_, ap, subst}
 use borrow.Author.Needs.{needs}
 use Rattle.caserun.proofs.do_call.Statement.{statement}
 use Rattle.caserun.proofs.do_call.Tie as tie
-use Rattle.caserun.proofs.do_call.Reads as reads
-use Rattle.caserun.proofs.do_call.Lts as lts
-use Rattle.casefile.proofs.starts_with.Reads as starts-with-reads
-use Rattle.caserun.proofs.do_step.Reads as do-step-reads
-use Rattle.caserun.proofs.is_start.Reads as is-start-reads
-use Rattle.caserun.proofs.read_run.Reads as read-run-reads
-use Rattle.caserun.proofs.read_start.Reads as read-start-reads
 
 is-start-requires : tie.Need-is-start-requires
 is-start-requires c κs = search needs

@@ -1,16 +1,9 @@
 -- `caserun::do_run` meets its contract.
 -- Assumes nothing.
 use Rattle.caserun.proofs.Cases.{do-run-is}
-use native.Mathlib.Omega.{arith}
-use mathlib.Core.Path.{_≡_, refl, sym, _∙_, ap, subst}
 use borrow.Author.Needs.{needs}
 use Rattle.caserun.proofs.do_run.Statement.{statement}
 use Rattle.caserun.proofs.do_run.Tie as tie
-use Rattle.caserun.proofs.do_run.Reads as reads
-use Rattle.caserun.proofs.do_run.Lts as lts
-use Rattle.caserun.proofs.call_run.Reads as call-run-reads
-use Rattle.caserun.proofs.with_outcome.Reads as with-outcome-reads
-use Rattle.casetext.proofs.at_most.Reads as at-most-reads
 
 at-most-requires : tie.Need-at-most-requires
 at-most-requires c κs = search needs

@@ -1,16 +1,9 @@
 -- `caserun::do_start` meets its contract.
 -- Assumes nothing.
 use Rattle.caserun.proofs.Cases.{do-start-is}
-use native.Mathlib.Omega.{arith}
-use mathlib.Core.Path.{_≡_, refl, sym, _∙_, ap, subst}
 use borrow.Author.Needs.{needs}
 use Rattle.caserun.proofs.do_start.Statement.{statement}
 use Rattle.caserun.proofs.do_start.Tie as tie
-use Rattle.caserun.proofs.do_start.Reads as reads
-use Rattle.caserun.proofs.do_start.Lts as lts
-use Rattle.caserun.proofs.call_start.Reads as call-start-reads
-use Rattle.caserun.proofs.with_opening.Reads as with-opening-reads
-use Rattle.casetext.proofs.at_most.Reads as at-most-reads
 
 at-most-requires : tie.Need-at-most-requires
 at-most-requires c κs = search needs

@@ -1,16 +1,9 @@
 -- `caserun::do_step` meets its contract.
 -- Assumes nothing.
 use Rattle.caserun.proofs.Cases.{do-step-is}
-use native.Mathlib.Omega.{arith}
-use mathlib.Core.Path.{_≡_, refl, sym, _∙_, ap, subst}
 use borrow.Author.Needs.{needs}
 use Rattle.caserun.proofs.do_step.Statement.{statement}
 use Rattle.caserun.proofs.do_step.Tie as tie
-use Rattle.caserun.proofs.do_step.Reads as reads
-use Rattle.caserun.proofs.do_step.Lts as lts
-use Rattle.caserun.proofs.call_step.Reads as call-step-reads
-use Rattle.caserun.proofs.with_outcome.Reads as with-outcome-reads
-use Rattle.casetext.proofs.at_most.Reads as at-most-reads
 
 at-most-requires : tie.Need-at-most-requires
 at-most-requires c κs = search needs

@@ -1,16 +1,9 @@
 -- `caserun::is_call` meets its contract.
 -- Assumes nothing.
 use Rattle.caserun.proofs.Cases.{is-call-ways}
-use native.Mathlib.Omega.{arith}
-use mathlib.Core.Path.{_≡_, refl, sym, _∙_, ap, subst}
 use borrow.Author.Needs.{needs}
 use Rattle.caserun.proofs.is_call.Statement.{statement}
 use Rattle.caserun.proofs.is_call.Tie as tie
-use Rattle.caserun.proofs.is_call.Reads as reads
-use Rattle.caserun.proofs.is_call.Lts as lts
-use Rattle.casefile.proofs.starts_with.Reads as starts-with-reads
-use Rattle.caserun.proofs.is_start.Reads as is-start-reads
-use Rattle.prelude.proofs.same.Reads as same-reads
 
 is-start-requires : tie.Need-is-start-requires
 is-start-requires c κs = search needs

@@ -1,15 +1,9 @@
 -- `caserun::is_start` meets its contract.
 -- Assumes nothing.
 use Rattle.caserun.proofs.Cases.{is-start-ways}
-use native.Mathlib.Omega.{arith}
-use mathlib.Core.Path.{_≡_, refl, sym, _∙_, ap, subst}
 use borrow.Author.Needs.{needs}
 use Rattle.caserun.proofs.is_start.Statement.{statement}
 use Rattle.caserun.proofs.is_start.Tie as tie
-use Rattle.caserun.proofs.is_start.Reads as reads
-use Rattle.caserun.proofs.is_start.Lts as lts
-use Rattle.casefile.proofs.starts_with.Reads as starts-with-reads
-use Rattle.prelude.proofs.same.Reads as same-reads
 
 slice-aggregate-starts-with : tie.Need-slice-aggregate-starts-with
 slice-aggregate-starts-with c = search needs

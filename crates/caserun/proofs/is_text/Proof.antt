@@ -1,15 +1,9 @@
 -- `caserun::is_text` meets its contract.
 -- Assumes nothing.
 use Rattle.caserun.proofs.Cases.{is-text-ways}
-use native.Mathlib.Omega.{arith}
-use mathlib.Core.Path.{_≡_, refl, sym, _∙_, ap, subst}
 use borrow.Author.Needs.{needs}
 use Rattle.caserun.proofs.is_text.Statement.{statement}
 use Rattle.caserun.proofs.is_text.Tie as tie
-use Rattle.caserun.proofs.is_text.Reads as reads
-use Rattle.caserun.proofs.is_text.Lts as lts
-use Rattle.casefile.proofs.is_source.Reads as is-source-reads
-use Rattle.casefile.proofs.starts_with.Reads as starts-with-reads
 
 is-source-requires : tie.Need-is-source-requires
 is-source-requires c κs = search needs

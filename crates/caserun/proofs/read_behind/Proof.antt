@@ -1,15 +1,9 @@
 -- `caserun::read_behind` meets its contract.
 -- Assumes nothing.
 use Rattle.caserun.proofs.Cases.{read-behind-ways}
-use native.Mathlib.Omega.{arith}
-use mathlib.Core.Path.{_≡_, refl, sym, _∙_, ap, subst}
 use borrow.Author.Needs.{needs}
 use Rattle.caserun.proofs.read_behind.Statement.{statement}
 use Rattle.caserun.proofs.read_behind.Tie as tie
-use Rattle.caserun.proofs.read_behind.Reads as reads
-use Rattle.caserun.proofs.read_behind.Lts as lts
-use Rattle.caserun.proofs.check_once.Reads as check-once-reads
-use Rattle.caserun.proofs.read_checked.Reads as read-checked-reads
 
 check-once-requires : tie.Need-check-once-requires
 check-once-requires c κs = search needs

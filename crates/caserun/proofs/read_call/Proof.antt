@@ -1,16 +1,9 @@
 -- `caserun::read_call` meets its contract.
 -- Assumes nothing.
 use Rattle.caserun.proofs.Cases.{read-call-is}
-use native.Mathlib.Omega.{arith}
-use mathlib.Core.Path.{_≡_, refl, sym, _∙_, ap, subst}
 use borrow.Author.Needs.{needs}
 use Rattle.caserun.proofs.read_call.Statement.{statement}
 use Rattle.caserun.proofs.read_call.Tie as tie
-use Rattle.caserun.proofs.read_call.Reads as reads
-use Rattle.caserun.proofs.read_call.Lts as lts
-use Rattle.caserun.proofs.do_call.Reads as do-call-reads
-use Rattle.casetext.proofs.keep_memory.Reads as keep-memory-reads
-use Rattle.casetext.proofs.keep_stack.Reads as keep-stack-reads
 
 keep-stack-requires : tie.Need-keep-stack-requires
 keep-stack-requires c κs = search needs

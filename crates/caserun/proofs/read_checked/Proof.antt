@@ -1,22 +1,9 @@
 -- `caserun::read_checked` meets its contract.
 -- Assumes nothing.
 use Rattle.caserun.proofs.Cases.{read-checked-ways}
-use native.Mathlib.Omega.{arith}
-use mathlib.Core.Path.{_≡_, refl, sym, _∙_, ap, subst}
 use borrow.Author.Needs.{needs}
 use Rattle.caserun.proofs.read_checked.Statement.{statement}
 use Rattle.caserun.proofs.read_checked.Tie as tie
-use Rattle.caserun.proofs.read_checked.Reads as reads
-use Rattle.caserun.proofs.read_checked.Lts as lts
-use Rattle.caserun.proofs.is_answer.Reads as is-answer-reads
-use Rattle.caserun.proofs.is_call.Reads as is-call-reads
-use Rattle.caserun.proofs.is_view.Reads as is-view-reads
-use Rattle.caserun.proofs.read_call.Reads as read-call-reads
-use Rattle.casestate.proofs.failed.Reads as failed-reads
-use Rattle.casestate.proofs.read_answer.Reads as read-answer-reads
-use Rattle.casestate.proofs.read_change.Reads as read-change-reads
-use Rattle.casestate.proofs.read_view.Reads as read-view-reads
-use Rattle.casestate.proofs.without_answer.Reads as without-answer-reads
 
 is-answer-requires : tie.Need-is-answer-requires
 is-answer-requires c κs = search needs

@@ -1,19 +1,9 @@
 -- `caserun::read_line` meets its contract.
 -- Assumes nothing.
 use Rattle.caserun.proofs.Cases.{read-line-ways}
-use native.Mathlib.Omega.{arith}
-use mathlib.Core.Path.{_≡_, refl, sym, _∙_, ap, subst}
 use borrow.Author.Needs.{needs}
 use Rattle.caserun.proofs.read_line.Statement.{statement}
 use Rattle.caserun.proofs.read_line.Tie as tie
-use Rattle.caserun.proofs.read_line.Reads as reads
-use Rattle.caserun.proofs.read_line.Lts as lts
-use Rattle.casefile.proofs.starts_with.Reads as starts-with-reads
-use Rattle.caserun.proofs.is_text.Reads as is-text-reads
-use Rattle.caserun.proofs.read_behind.Reads as read-behind-reads
-use Rattle.casestate.proofs.read_memory.Reads as read-memory-reads
-use Rattle.casestate.proofs.read_source.Reads as read-source-reads
-use Rattle.casestate.proofs.read_stack.Reads as read-stack-reads
 
 is-text-requires : tie.Need-is-text-requires
 is-text-requires c κs = search needs

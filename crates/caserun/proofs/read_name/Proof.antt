@@ -1,16 +1,9 @@
 -- `caserun::read_name` meets its contract.
 -- Assumes nothing.
 use Rattle.caserun.proofs.Cases.{read-name-is}
-use native.Mathlib.Omega.{arith}
-use mathlib.Core.Path.{_≡_, refl, sym, _∙_, ap, subst}
 use borrow.Author.Needs.{needs}
 use Rattle.caserun.proofs.read_name.Statement.{statement}
 use Rattle.caserun.proofs.read_name.Tie as tie
-use Rattle.caserun.proofs.read_name.Reads as reads
-use Rattle.caserun.proofs.read_name.Lts as lts
-use Rattle.casefile.proofs.add_text.Reads as add-text-reads
-use Rattle.casefile.proofs.field_start.Reads as field-start-reads
-use Rattle.casetext.proofs.word_end.Reads as word-end-reads
 
 field-start-requires : tie.Need-field-start-requires
 field-start-requires c κs = search needs

@@ -1,17 +1,9 @@
 -- `caserun::read_run` meets its contract.
 -- Assumes nothing.
 use Rattle.caserun.proofs.Cases.{read-run-ways}
-use native.Mathlib.Omega.{arith}
-use mathlib.Core.Path.{_≡_, refl, sym, _∙_, ap, subst}
 use borrow.Author.Needs.{needs}
 use Rattle.caserun.proofs.read_run.Statement.{statement}
 use Rattle.caserun.proofs.read_run.Tie as tie
-use Rattle.caserun.proofs.read_run.Reads as reads
-use Rattle.caserun.proofs.read_run.Lts as lts
-use Rattle.caserun.proofs.do_run.Reads as do-run-reads
-use Rattle.casestate.proofs.failed.Reads as failed-reads
-use Rattle.casetext.proofs.is_digits.Reads as is-digits-reads
-use Rattle.casetext.proofs.long_number.Reads as long-number-reads
 
 is-digits-requires : tie.Need-is-digits-requires
 is-digits-requires c κs = search needs

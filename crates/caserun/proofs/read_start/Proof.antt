@@ -3,17 +3,9 @@
 use Rattle.casestate.specs.Views.{blank}
 use Rattle.caserun.specs.Calls.{noWords}
 use Rattle.caserun.proofs.Cases.{read-start-ways}
-use native.Mathlib.Omega.{arith}
-use mathlib.Core.Path.{_≡_, refl, sym, _∙_, ap, subst}
 use borrow.Author.Needs.{needs}
 use Rattle.caserun.proofs.read_start.Statement.{statement}
 use Rattle.caserun.proofs.read_start.Tie as tie
-use Rattle.caserun.proofs.read_start.Reads as reads
-use Rattle.caserun.proofs.read_start.Lts as lts
-use Rattle.caserun.proofs.read_name.Reads as read-name-reads
-use Rattle.caserun.proofs.start_named.Reads as start-named-reads
-use Rattle.casestate.proofs.failed.Reads as failed-reads
-use Rattle.casetext.proofs.read_arguments.Reads as read-arguments-reads
 
 read-name-requires : tie.Need-read-name-requires
 read-name-requires c κs = search needs

@@ -1,16 +1,9 @@
 -- `caserun::with_checked` meets its contract.
 -- Assumes nothing.
 use Rattle.caserun.proofs.Cases.{with-checked-ways}
-use native.Mathlib.Omega.{arith}
-use mathlib.Core.Path.{_≡_, refl, sym, _∙_, ap, subst}
 use borrow.Author.Needs.{needs}
 use Rattle.caserun.proofs.with_checked.Statement.{statement}
 use Rattle.caserun.proofs.with_checked.Tie as tie
-use Rattle.caserun.proofs.with_checked.Reads as reads
-use Rattle.caserun.proofs.with_checked.Lts as lts
-use Rattle.casestate.proofs.with_answer.Reads as with-answer-reads
-use Rattle.casestate.proofs.with_counts.Reads as with-counts-reads
-use Rattle.casetext.proofs.add_rejected.Reads as add-rejected-reads
 
 enum-known-x : tie.Need-enum-known-x
 enum-known-x c = search needs

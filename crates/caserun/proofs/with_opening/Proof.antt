@@ -1,16 +1,9 @@
 -- `caserun::with_opening` meets its contract.
 -- Assumes nothing.
 use Rattle.caserun.proofs.Cases.{with-opening-is}
-use native.Mathlib.Omega.{arith}
-use mathlib.Core.Path.{_≡_, refl, sym, _∙_, ap, subst}
 use borrow.Author.Needs.{needs}
 use Rattle.caserun.proofs.with_opening.Statement.{statement}
 use Rattle.caserun.proofs.with_opening.Tie as tie
-use Rattle.caserun.proofs.with_opening.Reads as reads
-use Rattle.caserun.proofs.with_opening.Lts as lts
-use Rattle.casestate.proofs.with_answer.Reads as with-answer-reads
-use Rattle.casestate.proofs.with_machine.Reads as with-machine-reads
-use Rattle.casetext.proofs.add_started.Reads as add-started-reads
 
 with-machine-requires : tie.Need-with-machine-requires
 with-machine-requires c κs = search needs

@@ -1,16 +1,9 @@
 -- `caserun::with_outcome` meets its contract.
 -- Assumes nothing.
 use Rattle.caserun.proofs.Cases.{with-outcome-is}
-use native.Mathlib.Omega.{arith}
-use mathlib.Core.Path.{_≡_, refl, sym, _∙_, ap, subst}
 use borrow.Author.Needs.{needs}
 use Rattle.caserun.proofs.with_outcome.Statement.{statement}
 use Rattle.caserun.proofs.with_outcome.Tie as tie
-use Rattle.caserun.proofs.with_outcome.Reads as reads
-use Rattle.caserun.proofs.with_outcome.Lts as lts
-use Rattle.casestate.proofs.with_answer.Reads as with-answer-reads
-use Rattle.casestate.proofs.with_machine.Reads as with-machine-reads
-use Rattle.casetext.proofs.add_outcome.Reads as add-outcome-reads
 
 with-machine-requires : tie.Need-with-machine-requires
 with-machine-requires c κs = search needs

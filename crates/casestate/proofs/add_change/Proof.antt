@@ -1,21 +1,9 @@
 -- `casestate::add_change` meets its contract.
 -- Assumes nothing.
 use Rattle.casestate.proofs.Cases.{add-change-ways}
-use native.Mathlib.Omega.{arith}
-use mathlib.Core.Path.{_≡_, refl, sym, _∙_, ap, subst}
 use borrow.Author.Needs.{needs}
 use Rattle.casestate.proofs.add_change.Statement.{statement}
 use Rattle.casestate.proofs.add_change.Tie as tie
-use Rattle.casestate.proofs.add_change.Reads as reads
-use Rattle.casestate.proofs.add_change.Lts as lts
-use Rattle.casefile.proofs.front.Reads as front-reads
-use Rattle.casetext.proofs.add_all.Reads as add-all-reads
-use Rattle.casetext.proofs.add_bytes.Reads as add-bytes-reads
-use Rattle.casetext.proofs.add_words.Reads as add-words-reads
-use Rattle.casetext.proofs.at_most.Reads as at-most-reads
-use Rattle.casetext.proofs.changed_byte.Reads as changed-byte-reads
-use Rattle.casetext.proofs.changed_word.Reads as changed-word-reads
-use Rattle.casetext.proofs.front_words.Reads as front-words-reads
 
 at-most-requires : tie.Need-at-most-requires
 at-most-requires c κs = search needs

@@ -2,16 +2,9 @@
 -- Assumes nothing.
 use Rattle.casestate.specs.Views.{blank}
 use Rattle.casestate.proofs.Cases.{compare-ways}
-use native.Mathlib.Omega.{arith}
-use mathlib.Core.Path.{_≡_, refl, sym, _∙_, ap, subst}
 use borrow.Author.Needs.{needs}
 use Rattle.casestate.proofs.compare.Statement.{statement}
 use Rattle.casestate.proofs.compare.Tie as tie
-use Rattle.casestate.proofs.compare.Reads as reads
-use Rattle.casestate.proofs.compare.Lts as lts
-use Rattle.casestate.proofs.compare_texts.Reads as compare-texts-reads
-use Rattle.casestate.proofs.failed.Reads as failed-reads
-use Rattle.casetext.proofs.plain_line.Reads as plain-line-reads
 
 plain-line-requires : tie.Need-plain-line-requires
 plain-line-requires c κs = search needs

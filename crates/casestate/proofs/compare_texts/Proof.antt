@@ -1,17 +1,9 @@
 -- `casestate::compare_texts` meets its contract.
 -- Assumes nothing.
 use Rattle.casestate.proofs.Cases.{compare-texts-ways}
-use native.Mathlib.Omega.{arith}
-use mathlib.Core.Path.{_≡_, refl, sym, _∙_, ap, subst}
 use borrow.Author.Needs.{needs}
 use Rattle.casestate.proofs.compare_texts.Statement.{statement}
 use Rattle.casestate.proofs.compare_texts.Tie as tie
-use Rattle.casestate.proofs.compare_texts.Reads as reads
-use Rattle.casestate.proofs.compare_texts.Lts as lts
-use Rattle.casefile.proofs.front.Reads as front-reads
-use Rattle.casestate.proofs.failed.Reads as failed-reads
-use Rattle.casestate.proofs.set_shown.Reads as set-shown-reads
-use Rattle.prelude.proofs.same.Reads as same-reads
 
 front-requires : tie.Need-front-requires
 front-requires c κs = search needs

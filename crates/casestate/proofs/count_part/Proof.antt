@@ -1,16 +1,9 @@
 -- `casestate::count_part` meets its contract.
 -- Assumes nothing.
 use Rattle.casestate.proofs.Cases.{count-part-ways}
-use native.Mathlib.Omega.{arith}
-use mathlib.Core.Path.{_≡_, refl, sym, _∙_, ap, subst}
 use borrow.Author.Needs.{needs}
 use Rattle.casestate.proofs.count_part.Statement.{statement}
 use Rattle.casestate.proofs.count_part.Tie as tie
-use Rattle.casestate.proofs.count_part.Reads as reads
-use Rattle.casestate.proofs.count_part.Lts as lts
-use Rattle.casestate.proofs.failed.Reads as failed-reads
-use Rattle.casestate.proofs.with_counts.Reads as with-counts-reads
-use Rattle.casetext.proofs.has_word.Reads as has-word-reads
 
 slice-aggregate-has-word : tie.Need-slice-aggregate-has-word
 slice-aggregate-has-word c = search needs

@@ -1,13 +1,9 @@
 -- `casestate::full` meets its contract.
 -- Assumes nothing.
-use borrow.Author.Needs.{needs}
 use Rattle.casestate.specs.Progress.{allLent}
-use native.Mathlib.Omega.{arith}
-use mathlib.Core.Path.{_≡_, refl, sym, _∙_, ap, subst}
+use mathlib.Core.Path.{refl}
 use Rattle.casestate.proofs.full.Statement.{statement}
 use Rattle.casestate.proofs.full.Tie as tie
-use Rattle.casestate.proofs.full.Reads as reads
-use Rattle.casestate.proofs.full.Lts as lts
 
 returns : tie.Need-returns
 unfolding allLent

@@ -1,15 +1,9 @@
 -- `casestate::lend_statements` meets its contract.
 -- Assumes nothing.
 use Rattle.casestate.proofs.Cases.{lend-statements-ways}
-use native.Mathlib.Omega.{arith}
-use mathlib.Core.Path.{_≡_, refl, sym, _∙_, ap, subst}
 use borrow.Author.Needs.{needs}
 use Rattle.casestate.proofs.lend_statements.Statement.{statement}
 use Rattle.casestate.proofs.lend_statements.Tie as tie
-use Rattle.casestate.proofs.lend_statements.Reads as reads
-use Rattle.casestate.proofs.lend_statements.Lts as lts
-use Rattle.casestate.proofs.failed.Reads as failed-reads
-use Rattle.casestate.proofs.with_lent.Reads as with-lent-reads
 
 failed-requires : tie.Need-failed-requires
 failed-requires c κs = search needs

@@ -1,17 +1,9 @@
 -- `casestate::poke_label` meets its contract.
 -- Assumes nothing.
 use Rattle.casestate.proofs.Cases.{poke-label-ways}
-use native.Mathlib.Omega.{arith}
-use mathlib.Core.Path.{_≡_, refl, sym, _∙_, ap, subst}
 use borrow.Author.Needs.{needs}
 use Rattle.casestate.proofs.poke_label.Statement.{statement}
 use Rattle.casestate.proofs.poke_label.Tie as tie
-use Rattle.casestate.proofs.poke_label.Reads as reads
-use Rattle.casestate.proofs.poke_label.Lts as lts
-use Rattle.casefile.proofs.narrow.Reads as narrow-reads
-use Rattle.casestate.proofs.failed.Reads as failed-reads
-use Rattle.casetext.proofs.has_values.Reads as has-values-reads
-use Rattle.casetext.proofs.value.Reads as value-reads
 
 value-requires : tie.Need-value-requires
 value-requires c κs = search needs

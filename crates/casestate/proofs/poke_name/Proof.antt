@@ -1,16 +1,9 @@
 -- `casestate::poke_name` meets its contract.
 -- Assumes nothing.
 use Rattle.casestate.proofs.Cases.{poke-name-ways}
-use native.Mathlib.Omega.{arith}
-use mathlib.Core.Path.{_≡_, refl, sym, _∙_, ap, subst}
 use borrow.Author.Needs.{needs}
 use Rattle.casestate.proofs.poke_name.Statement.{statement}
 use Rattle.casestate.proofs.poke_name.Tie as tie
-use Rattle.casestate.proofs.poke_name.Reads as reads
-use Rattle.casestate.proofs.poke_name.Lts as lts
-use Rattle.casestate.proofs.failed.Reads as failed-reads
-use Rattle.casetext.proofs.count_fields.Reads as count-fields-reads
-use Rattle.casetext.proofs.value.Reads as value-reads
 
 value-requires : tie.Need-value-requires
 value-requires c κs = search needs

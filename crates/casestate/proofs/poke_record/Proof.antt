@@ -1,17 +1,9 @@
 -- `casestate::poke_record` meets its contract.
 -- Assumes nothing.
 use Rattle.casestate.proofs.Cases.{poke-record-ways}
-use native.Mathlib.Omega.{arith}
-use mathlib.Core.Path.{_≡_, refl, sym, _∙_, ap, subst}
 use borrow.Author.Needs.{needs}
 use Rattle.casestate.proofs.poke_record.Statement.{statement}
 use Rattle.casestate.proofs.poke_record.Tie as tie
-use Rattle.casestate.proofs.poke_record.Reads as reads
-use Rattle.casestate.proofs.poke_record.Lts as lts
-use Rattle.casestate.proofs.failed.Reads as failed-reads
-use Rattle.casestate.proofs.with_machine.Reads as with-machine-reads
-use Rattle.casetext.proofs.is_record_poke.Reads as is-record-poke-reads
-use Rattle.casetext.proofs.poke_record.Reads as poke-record-reads
 
 is-record-poke-requires : tie.Need-is-record-poke-requires
 is-record-poke-requires c κs = search needs

@@ -1,17 +1,9 @@
 -- `casestate::poke_statement` meets its contract.
 -- Assumes nothing.
 use Rattle.casestate.proofs.Cases.{poke-statement-ways}
-use native.Mathlib.Omega.{arith}
-use mathlib.Core.Path.{_≡_, refl, sym, _∙_, ap, subst}
 use borrow.Author.Needs.{needs}
 use Rattle.casestate.proofs.poke_statement.Statement.{statement}
 use Rattle.casestate.proofs.poke_statement.Tie as tie
-use Rattle.casestate.proofs.poke_statement.Reads as reads
-use Rattle.casestate.proofs.poke_statement.Lts as lts
-use Rattle.casefile.proofs.narrow.Reads as narrow-reads
-use Rattle.casestate.proofs.failed.Reads as failed-reads
-use Rattle.casetext.proofs.has_values.Reads as has-values-reads
-use Rattle.casetext.proofs.value.Reads as value-reads
 
 value-requires : tie.Need-value-requires
 value-requires c κs = search needs

@@ -1,17 +1,9 @@
 -- `casestate::read_accepted` meets its contract.
 -- Assumes nothing.
 use Rattle.casestate.proofs.Cases.{read-accepted-ways}
-use native.Mathlib.Omega.{arith}
-use mathlib.Core.Path.{_≡_, refl, sym, _∙_, ap, subst}
 use borrow.Author.Needs.{needs}
 use Rattle.casestate.proofs.read_accepted.Statement.{statement}
 use Rattle.casestate.proofs.read_accepted.Tie as tie
-use Rattle.casestate.proofs.read_accepted.Reads as reads
-use Rattle.casestate.proofs.read_accepted.Lts as lts
-use Rattle.casefile.proofs.starts_with.Reads as starts-with-reads
-use Rattle.casestate.proofs.compare.Reads as compare-reads
-use Rattle.casestate.proofs.failed.Reads as failed-reads
-use Rattle.casetext.proofs.add_all.Reads as add-all-reads
 
 slice-aggregate-starts-with : tie.Need-slice-aggregate-starts-with
 slice-aggregate-starts-with c = search needs

@@ -1,16 +1,9 @@
 -- `casestate::read_answer` meets its contract.
 -- Assumes nothing.
 use Rattle.casestate.proofs.Cases.{read-answer-ways}
-use native.Mathlib.Omega.{arith}
-use mathlib.Core.Path.{_≡_, refl, sym, _∙_, ap, subst}
 use borrow.Author.Needs.{needs}
 use Rattle.casestate.proofs.read_answer.Statement.{statement}
 use Rattle.casestate.proofs.read_answer.Tie as tie
-use Rattle.casestate.proofs.read_answer.Reads as reads
-use Rattle.casestate.proofs.read_answer.Lts as lts
-use Rattle.casestate.proofs.compare.Reads as compare-reads
-use Rattle.casestate.proofs.read_accepted.Reads as read-accepted-reads
-use Rattle.casestate.proofs.without_answer.Reads as without-answer-reads
 
 read-accepted-requires : tie.Need-read-accepted-requires
 read-accepted-requires c κs = search needs

@@ -1,16 +1,9 @@
 -- `casestate::read_body` meets its contract.
 -- Assumes nothing.
 use Rattle.casestate.proofs.Cases.{read-body-is}
-use native.Mathlib.Omega.{arith}
-use mathlib.Core.Path.{_≡_, refl, sym, _∙_, ap, subst}
 use borrow.Author.Needs.{needs}
 use Rattle.casestate.proofs.read_body.Statement.{statement}
 use Rattle.casestate.proofs.read_body.Tie as tie
-use Rattle.casestate.proofs.read_body.Reads as reads
-use Rattle.casestate.proofs.read_body.Lts as lts
-use Rattle.casefile.proofs.add_line.Reads as add-line-reads
-use Rattle.casestate.proofs.open_body.Reads as open-body-reads
-use Rattle.casestate.proofs.with_size.Reads as with-size-reads
 
 open-body-requires : tie.Need-open-body-requires
 open-body-requires c κs = search needs

@@ -1,16 +1,9 @@
 -- `casestate::read_bytes` meets its contract.
 -- Assumes nothing.
 use Rattle.casestate.proofs.Cases.{read-bytes-ways}
-use native.Mathlib.Omega.{arith}
-use mathlib.Core.Path.{_≡_, refl, sym, _∙_, ap, subst}
 use borrow.Author.Needs.{needs}
 use Rattle.casestate.proofs.read_bytes.Statement.{statement}
 use Rattle.casestate.proofs.read_bytes.Tie as tie
-use Rattle.casestate.proofs.read_bytes.Reads as reads
-use Rattle.casestate.proofs.read_bytes.Lts as lts
-use Rattle.casestate.proofs.failed.Reads as failed-reads
-use Rattle.casetext.proofs.put_bytes.Reads as put-bytes-reads
-use Rattle.casetext.proofs.value.Reads as value-reads
 
 value-requires : tie.Need-value-requires
 value-requires c κs = search needs

@@ -1,19 +1,9 @@
 -- `casestate::read_change` meets its contract.
 -- Assumes nothing.
 use Rattle.casestate.proofs.Cases.{read-change-ways}
-use native.Mathlib.Omega.{arith}
-use mathlib.Core.Path.{_≡_, refl, sym, _∙_, ap, subst}
 use borrow.Author.Needs.{needs}
 use Rattle.casestate.proofs.read_change.Statement.{statement}
 use Rattle.casestate.proofs.read_change.Tie as tie
-use Rattle.casestate.proofs.read_change.Reads as reads
-use Rattle.casestate.proofs.read_change.Lts as lts
-use Rattle.casefile.proofs.starts_with.Reads as starts-with-reads
-use Rattle.casestate.proofs.failed.Reads as failed-reads
-use Rattle.casestate.proofs.read_bytes.Reads as read-bytes-reads
-use Rattle.casestate.proofs.read_count.Reads as read-count-reads
-use Rattle.casestate.proofs.read_lend.Reads as read-lend-reads
-use Rattle.casestate.proofs.read_poke.Reads as read-poke-reads
 
 slice-aggregate-starts-with : tie.Need-slice-aggregate-starts-with
 slice-aggregate-starts-with c = search needs

@@ -1,18 +1,9 @@
 -- `casestate::read_count` meets its contract.
 -- Assumes nothing.
 use Rattle.casestate.proofs.Cases.{read-count-ways}
-use native.Mathlib.Omega.{arith}
-use mathlib.Core.Path.{_≡_, refl, sym, _∙_, ap, subst}
 use borrow.Author.Needs.{needs}
 use Rattle.casestate.proofs.read_count.Statement.{statement}
 use Rattle.casestate.proofs.read_count.Tie as tie
-use Rattle.casestate.proofs.read_count.Reads as reads
-use Rattle.casestate.proofs.read_count.Lts as lts
-use Rattle.casefile.proofs.narrow.Reads as narrow-reads
-use Rattle.casestate.proofs.count_part.Reads as count-part-reads
-use Rattle.casestate.proofs.failed.Reads as failed-reads
-use Rattle.casetext.proofs.has_values.Reads as has-values-reads
-use Rattle.casetext.proofs.value.Reads as value-reads
 
 has-values-requires : tie.Need-has-values-requires
 has-values-requires c κs = search needs

@@ -1,21 +1,9 @@
 -- `casestate::read_lend` meets its contract.
 -- Assumes nothing.
 use Rattle.casestate.proofs.Cases.{read-lend-ways}
-use native.Mathlib.Omega.{arith}
-use mathlib.Core.Path.{_≡_, refl, sym, _∙_, ap, subst}
 use borrow.Author.Needs.{needs}
 use Rattle.casestate.proofs.read_lend.Statement.{statement}
 use Rattle.casestate.proofs.read_lend.Tie as tie
-use Rattle.casestate.proofs.read_lend.Reads as reads
-use Rattle.casestate.proofs.read_lend.Lts as lts
-use Rattle.casestate.proofs.failed.Reads as failed-reads
-use Rattle.casestate.proofs.lend_bytes.Reads as lend-bytes-reads
-use Rattle.casestate.proofs.lend_labels.Reads as lend-labels-reads
-use Rattle.casestate.proofs.lend_names.Reads as lend-names-reads
-use Rattle.casestate.proofs.lend_statements.Reads as lend-statements-reads
-use Rattle.casetext.proofs.count_fields.Reads as count-fields-reads
-use Rattle.casetext.proofs.has_word.Reads as has-word-reads
-use Rattle.casetext.proofs.value.Reads as value-reads
 
 count-fields-requires : tie.Need-count-fields-requires
 count-fields-requires c κs = search needs

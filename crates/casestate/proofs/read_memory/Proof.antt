@@ -1,18 +1,9 @@
 -- `casestate::read_memory` meets its contract.
 -- Assumes nothing.
 use Rattle.casestate.proofs.Cases.{read-memory-ways}
-use native.Mathlib.Omega.{arith}
-use mathlib.Core.Path.{_≡_, refl, sym, _∙_, ap, subst}
 use borrow.Author.Needs.{needs}
 use Rattle.casestate.proofs.read_memory.Statement.{statement}
 use Rattle.casestate.proofs.read_memory.Tie as tie
-use Rattle.casestate.proofs.read_memory.Reads as reads
-use Rattle.casestate.proofs.read_memory.Lts as lts
-use Rattle.casestate.proofs.failed.Reads as failed-reads
-use Rattle.casestate.proofs.with_memory.Reads as with-memory-reads
-use Rattle.casetext.proofs.clear_memory.Reads as clear-memory-reads
-use Rattle.casetext.proofs.count_fields.Reads as count-fields-reads
-use Rattle.casetext.proofs.value.Reads as value-reads
 
 count-fields-requires : tie.Need-count-fields-requires
 count-fields-requires c κs = search needs

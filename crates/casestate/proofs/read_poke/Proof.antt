@@ -1,20 +1,9 @@
 -- `casestate::read_poke` meets its contract.
 -- Assumes nothing.
 use Rattle.casestate.proofs.Cases.{read-poke-ways}
-use native.Mathlib.Omega.{arith}
-use mathlib.Core.Path.{_≡_, refl, sym, _∙_, ap, subst}
 use borrow.Author.Needs.{needs}
 use Rattle.casestate.proofs.read_poke.Statement.{statement}
 use Rattle.casestate.proofs.read_poke.Tie as tie
-use Rattle.casestate.proofs.read_poke.Reads as reads
-use Rattle.casestate.proofs.read_poke.Lts as lts
-use Rattle.casefile.proofs.starts_with.Reads as starts-with-reads
-use Rattle.casestate.proofs.failed.Reads as failed-reads
-use Rattle.casestate.proofs.poke_label.Reads as poke-label-reads
-use Rattle.casestate.proofs.poke_name.Reads as poke-name-reads
-use Rattle.casestate.proofs.poke_record.Reads as poke-record-reads
-use Rattle.casestate.proofs.poke_stack.Reads as poke-stack-reads
-use Rattle.casestate.proofs.poke_statement.Reads as poke-statement-reads
 
 slice-aggregate-starts-with : tie.Need-slice-aggregate-starts-with
 slice-aggregate-starts-with c = search needs

@@ -1,18 +1,9 @@
 -- `casestate::read_source` meets its contract.
 -- Assumes nothing.
 use Rattle.casestate.proofs.Cases.{read-source-ways}
-use native.Mathlib.Omega.{arith}
-use mathlib.Core.Path.{_≡_, refl, sym, _∙_, ap, subst}
 use borrow.Author.Needs.{needs}
 use Rattle.casestate.proofs.read_source.Statement.{statement}
 use Rattle.casestate.proofs.read_source.Tie as tie
-use Rattle.casestate.proofs.read_source.Reads as reads
-use Rattle.casestate.proofs.read_source.Lts as lts
-use Rattle.casefile.proofs.add_source.Reads as add-source-reads
-use Rattle.casefile.proofs.starts_with.Reads as starts-with-reads
-use Rattle.casestate.proofs.failed.Reads as failed-reads
-use Rattle.casestate.proofs.read_body.Reads as read-body-reads
-use Rattle.casestate.proofs.with_size.Reads as with-size-reads
 
 failed-requires : tie.Need-failed-requires
 failed-requires c κs = search needs

@@ -1,18 +1,9 @@
 -- `casestate::read_stack` meets its contract.
 -- Assumes nothing.
 use Rattle.casestate.proofs.Cases.{read-stack-ways}
-use native.Mathlib.Omega.{arith}
-use mathlib.Core.Path.{_≡_, refl, sym, _∙_, ap, subst}
 use borrow.Author.Needs.{needs}
 use Rattle.casestate.proofs.read_stack.Statement.{statement}
 use Rattle.casestate.proofs.read_stack.Tie as tie
-use Rattle.casestate.proofs.read_stack.Reads as reads
-use Rattle.casestate.proofs.read_stack.Lts as lts
-use Rattle.casestate.proofs.failed.Reads as failed-reads
-use Rattle.casestate.proofs.with_stack.Reads as with-stack-reads
-use Rattle.casetext.proofs.clear_stack.Reads as clear-stack-reads
-use Rattle.casetext.proofs.count_fields.Reads as count-fields-reads
-use Rattle.casetext.proofs.value.Reads as value-reads
 
 count-fields-requires : tie.Need-count-fields-requires
 count-fields-requires c κs = search needs

@@ -1,19 +1,9 @@
 -- `casestate::read_view` meets its contract.
 -- Assumes nothing.
 use Rattle.casestate.proofs.Cases.{read-view-ways}
-use native.Mathlib.Omega.{arith}
-use mathlib.Core.Path.{_≡_, refl, sym, _∙_, ap, subst}
 use borrow.Author.Needs.{needs}
 use Rattle.casestate.proofs.read_view.Statement.{statement}
 use Rattle.casestate.proofs.read_view.Tie as tie
-use Rattle.casestate.proofs.read_view.Reads as reads
-use Rattle.casestate.proofs.read_view.Lts as lts
-use Rattle.casefile.proofs.starts_with.Reads as starts-with-reads
-use Rattle.casestate.proofs.add_change.Reads as add-change-reads
-use Rattle.casestate.proofs.compare.Reads as compare-reads
-use Rattle.casestate.proofs.view_bytes.Reads as view-bytes-reads
-use Rattle.casestate.proofs.view_words.Reads as view-words-reads
-use Rattle.casetext.proofs.add_record.Reads as add-record-reads
 
 slice-aggregate-starts-with : tie.Need-slice-aggregate-starts-with
 slice-aggregate-starts-with c = search needs

@@ -1,13 +1,9 @@
 -- `casestate::set_checked` meets its contract.
 -- Assumes nothing.
-use borrow.Author.Needs.{needs}
 use Rattle.casestate.specs.Progress.{checkedOf}
-use native.Mathlib.Omega.{arith}
-use mathlib.Core.Path.{_≡_, refl, sym, _∙_, ap, subst}
+use mathlib.Core.Path.{refl}
 use Rattle.casestate.proofs.set_checked.Statement.{statement}
 use Rattle.casestate.proofs.set_checked.Tie as tie
-use Rattle.casestate.proofs.set_checked.Reads as reads
-use Rattle.casestate.proofs.set_checked.Lts as lts
 
 returns : tie.Need-returns
 unfolding checkedOf

@@ -1,13 +1,9 @@
 -- `casestate::set_size` meets its contract.
 -- Assumes nothing.
-use borrow.Author.Needs.{needs}
 use Rattle.casestate.specs.Progress.{sizedOf}
-use native.Mathlib.Omega.{arith}
-use mathlib.Core.Path.{_≡_, refl, sym, _∙_, ap, subst}
+use mathlib.Core.Path.{refl}
 use Rattle.casestate.proofs.set_size.Statement.{statement}
 use Rattle.casestate.proofs.set_size.Tie as tie
-use Rattle.casestate.proofs.set_size.Reads as reads
-use Rattle.casestate.proofs.set_size.Lts as lts
 
 returns : tie.Need-returns
 unfolding sizedOf

@@ -1,19 +1,9 @@
 -- `casestate::view_bytes` meets its contract.
 -- Assumes nothing.
 use Rattle.casestate.proofs.Cases.{view-bytes-ways}
-use native.Mathlib.Omega.{arith}
-use mathlib.Core.Path.{_≡_, refl, sym, _∙_, ap, subst}
 use borrow.Author.Needs.{needs}
 use Rattle.casestate.proofs.view_bytes.Statement.{statement}
 use Rattle.casestate.proofs.view_bytes.Tie as tie
-use Rattle.casestate.proofs.view_bytes.Reads as reads
-use Rattle.casestate.proofs.view_bytes.Lts as lts
-use Rattle.casefile.proofs.front.Reads as front-reads
-use Rattle.casestate.proofs.compare.Reads as compare-reads
-use Rattle.casestate.proofs.failed.Reads as failed-reads
-use Rattle.casetext.proofs.add_bytes.Reads as add-bytes-reads
-use Rattle.casetext.proofs.at_most.Reads as at-most-reads
-use Rattle.casetext.proofs.value.Reads as value-reads
 
 value-requires : tie.Need-value-requires
 value-requires c κs = search needs

@@ -1,19 +1,9 @@
 -- `casestate::view_words` meets its contract.
 -- Assumes nothing.
 use Rattle.casestate.proofs.Cases.{view-words-ways}
-use native.Mathlib.Omega.{arith}
-use mathlib.Core.Path.{_≡_, refl, sym, _∙_, ap, subst}
 use borrow.Author.Needs.{needs}
 use Rattle.casestate.proofs.view_words.Statement.{statement}
 use Rattle.casestate.proofs.view_words.Tie as tie
-use Rattle.casestate.proofs.view_words.Reads as reads
-use Rattle.casestate.proofs.view_words.Lts as lts
-use Rattle.casestate.proofs.compare.Reads as compare-reads
-use Rattle.casestate.proofs.failed.Reads as failed-reads
-use Rattle.casetext.proofs.add_words.Reads as add-words-reads
-use Rattle.casetext.proofs.at_most.Reads as at-most-reads
-use Rattle.casetext.proofs.front_words.Reads as front-words-reads
-use Rattle.casetext.proofs.value.Reads as value-reads
 
 value-requires : tie.Need-value-requires
 value-requires c κs = search needs

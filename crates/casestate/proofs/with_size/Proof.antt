@@ -1,15 +1,9 @@
 -- `casestate::with_size` meets its contract.
 -- Assumes nothing.
 use Rattle.casestate.proofs.Cases.{with-size-ways}
-use native.Mathlib.Omega.{arith}
-use mathlib.Core.Path.{_≡_, refl, sym, _∙_, ap, subst}
 use borrow.Author.Needs.{needs}
 use Rattle.casestate.proofs.with_size.Statement.{statement}
 use Rattle.casestate.proofs.with_size.Tie as tie
-use Rattle.casestate.proofs.with_size.Reads as reads
-use Rattle.casestate.proofs.with_size.Lts as lts
-use Rattle.casestate.proofs.failed.Reads as failed-reads
-use Rattle.casestate.proofs.set_size.Reads as set-size-reads
 
 failed-requires : tie.Need-failed-requires
 failed-requires c κs = search needs

@@ -1,14 +1,9 @@
 -- `casestate::with_stack` meets its contract.
 -- Assumes nothing.
 use Rattle.casestate.proofs.Cases.{with-stack-is}
-use native.Mathlib.Omega.{arith}
-use mathlib.Core.Path.{_≡_, refl, sym, _∙_, ap, subst}
 use borrow.Author.Needs.{needs}
 use Rattle.casestate.proofs.with_stack.Statement.{statement}
 use Rattle.casestate.proofs.with_stack.Tie as tie
-use Rattle.casestate.proofs.with_stack.Reads as reads
-use Rattle.casestate.proofs.with_stack.Lts as lts
-use Rattle.casestate.proofs.with_lent.Reads as with-lent-reads
 
 with-lent-requires : tie.Need-with-lent-requires
 with-lent-requires c κs = search needs

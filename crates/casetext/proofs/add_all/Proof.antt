@@ -5,14 +5,8 @@ use Prim.Native.Nat.{_-_}
 use lib.ListN.{length}
 use Rattle.casefile.specs.Sources.{source}
 use Rattle.casetext.proofs.Loops.{Adding, adding}
-use native.Mathlib.Omega.{arith}
-use mathlib.Core.Path.{_≡_, refl, sym, _∙_, ap, subst}
 use Rattle.casetext.proofs.add_all.Statement.{statement}
 use Rattle.casetext.proofs.add_all.Tie as tie
-use Rattle.casetext.proofs.add_all.Reads as reads
-use Rattle.casetext.proofs.add_all.Lts as lts
-use Rattle.casefile.proofs.add_byte.Reads as add-byte-reads
-use Rattle.prelude.proofs.wide.Reads as wide-reads
 
 abbrev Inv-loop : tie.InvT-loop
 Inv-loop l text₀ size end₀ i₀ text end i =

@@ -1,15 +1,9 @@
 -- `casetext::add_broken` meets its contract.
 -- Assumes nothing.
 use Rattle.casetext.proofs.Cases.{brokens}
-use native.Mathlib.Omega.{arith}
-use mathlib.Core.Path.{_≡_, refl, sym, _∙_, ap, subst}
 use borrow.Author.Needs.{needs}
 use Rattle.casetext.proofs.add_broken.Statement.{statement}
 use Rattle.casetext.proofs.add_broken.Tie as tie
-use Rattle.casetext.proofs.add_broken.Reads as reads
-use Rattle.casetext.proofs.add_broken.Lts as lts
-use Rattle.casetext.proofs.add_all.Reads as add-all-reads
-use Rattle.casetext.proofs.add_next.Reads as add-next-reads
 
 enum-told : tie.Need-enum-told
 enum-told c = search needs

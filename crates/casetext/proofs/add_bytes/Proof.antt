@@ -4,17 +4,8 @@ use borrow.Author.Needs.{needs}
 use Prim.Native.Nat.{_-_}
 use Rattle.casefile.specs.Sources.{source}
 use Rattle.casetext.proofs.Loops.{Showing, showing-start, showing-more, shown-bytes}
-use native.Mathlib.Omega.{arith}
-use mathlib.Core.Path.{_≡_, refl, sym, _∙_, ap, subst}
 use Rattle.casetext.proofs.add_bytes.Statement.{statement}
 use Rattle.casetext.proofs.add_bytes.Tie as tie
-use Rattle.casetext.proofs.add_bytes.Reads as reads
-use Rattle.casetext.proofs.add_bytes.Lts as lts
-use Rattle.casetext.proofs.add_all.Reads as add-all-reads
-use Rattle.casetext.proofs.add_counted.Reads as add-counted-reads
-use Rattle.casetext.proofs.add_next.Reads as add-next-reads
-use Rattle.casetext.proofs.count_fields.Reads as count-fields-reads
-use Rattle.prelude.proofs.wide.Reads as wide-reads
 
 abbrev Inv-loop : tie.InvT-loop
 Inv-loop l at memory text₀ count size₀ i₀ k₀ t10 text size i k =

@@ -1,15 +1,9 @@
 -- `casetext::add_counted` meets its contract.
 -- Assumes nothing.
 use Rattle.casetext.proofs.Cases.{counted-added}
-use native.Mathlib.Omega.{arith}
-use mathlib.Core.Path.{_≡_, refl, sym, _∙_, ap, subst}
 use borrow.Author.Needs.{needs}
 use Rattle.casetext.proofs.add_counted.Statement.{statement}
 use Rattle.casetext.proofs.add_counted.Tie as tie
-use Rattle.casetext.proofs.add_counted.Reads as reads
-use Rattle.casetext.proofs.add_counted.Lts as lts
-use Rattle.casetext.proofs.add_all.Reads as add-all-reads
-use Rattle.casetext.proofs.add_next.Reads as add-next-reads
 
 add-all-requires : tie.Need-add-all-requires
 add-all-requires c κs = search needs

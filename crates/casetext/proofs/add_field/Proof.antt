@@ -2,16 +2,8 @@
 -- Assumes nothing.
 use borrow.Author.Needs.{needs}
 use Rattle.casetext.proofs.Cases.{fields}
-use native.Mathlib.Omega.{arith}
-use mathlib.Core.Path.{_≡_, refl, sym, _∙_, ap, subst}
 use Rattle.casetext.proofs.add_field.Statement.{statement}
 use Rattle.casetext.proofs.add_field.Tie as tie
-use Rattle.casetext.proofs.add_field.Reads as reads
-use Rattle.casetext.proofs.add_field.Lts as lts
-use Rattle.casefile.proofs.field_start.Reads as field-start-reads
-use Rattle.casetext.proofs.add_number.Reads as add-number-reads
-use Rattle.casetext.proofs.add_raw.Reads as add-raw-reads
-use Rattle.casetext.proofs.value.Reads as value-reads
 
 value-requires : tie.Need-value-requires
 value-requires c κs = search needs

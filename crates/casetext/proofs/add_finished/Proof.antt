@@ -1,15 +1,9 @@
 -- `casetext::add_finished` meets its contract.
 -- Assumes nothing.
 use Rattle.casetext.proofs.Cases.{finished-added}
-use native.Mathlib.Omega.{arith}
-use mathlib.Core.Path.{_≡_, refl, sym, _∙_, ap, subst}
 use borrow.Author.Needs.{needs}
 use Rattle.casetext.proofs.add_finished.Statement.{statement}
 use Rattle.casetext.proofs.add_finished.Tie as tie
-use Rattle.casetext.proofs.add_finished.Reads as reads
-use Rattle.casetext.proofs.add_finished.Lts as lts
-use Rattle.casetext.proofs.add_counted.Reads as add-counted-reads
-use Rattle.casetext.proofs.add_next.Reads as add-next-reads
 
 slice-aggregate-add-counted : tie.Need-slice-aggregate-add-counted
 slice-aggregate-add-counted c = search needs

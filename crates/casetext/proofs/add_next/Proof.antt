@@ -1,15 +1,9 @@
 -- `casetext::add_next` meets its contract.
 -- Assumes nothing.
 use Rattle.casetext.proofs.Cases.{next-added}
-use native.Mathlib.Omega.{arith}
-use mathlib.Core.Path.{_≡_, refl, sym, _∙_, ap, subst}
 use borrow.Author.Needs.{needs}
 use Rattle.casetext.proofs.add_next.Statement.{statement}
 use Rattle.casetext.proofs.add_next.Tie as tie
-use Rattle.casetext.proofs.add_next.Reads as reads
-use Rattle.casetext.proofs.add_next.Lts as lts
-use Rattle.casefile.proofs.add_byte.Reads as add-byte-reads
-use Rattle.casetext.proofs.add_number.Reads as add-number-reads
 
 add-byte-requires : tie.Need-add-byte-requires
 add-byte-requires c κs = search needs

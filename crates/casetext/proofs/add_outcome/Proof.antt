@@ -1,15 +1,9 @@
 -- `casetext::add_outcome` meets its contract.
 -- Assumes nothing.
 use Rattle.casetext.proofs.Cases.{outcomes}
-use native.Mathlib.Omega.{arith}
-use mathlib.Core.Path.{_≡_, refl, sym, _∙_, ap, subst}
 use borrow.Author.Needs.{needs}
 use Rattle.casetext.proofs.add_outcome.Statement.{statement}
 use Rattle.casetext.proofs.add_outcome.Tie as tie
-use Rattle.casetext.proofs.add_outcome.Reads as reads
-use Rattle.casetext.proofs.add_outcome.Lts as lts
-use Rattle.casetext.proofs.add_state.Reads as add-state-reads
-use Rattle.casetext.proofs.add_unsound.Reads as add-unsound-reads
 
 enum-told : tie.Need-enum-told
 enum-told c = search needs

@@ -2,14 +2,8 @@
 -- Assumes nothing.
 use borrow.Author.Needs.{needs}
 use Rattle.casetext.proofs.Cases.{raw-added}
-use native.Mathlib.Omega.{arith}
-use mathlib.Core.Path.{_≡_, refl, sym, _∙_, ap, subst}
 use Rattle.casetext.proofs.add_raw.Statement.{statement}
 use Rattle.casetext.proofs.add_raw.Tie as tie
-use Rattle.casetext.proofs.add_raw.Reads as reads
-use Rattle.casetext.proofs.add_raw.Lts as lts
-use Rattle.casetext.proofs.add_all.Reads as add-all-reads
-use Rattle.casetext.proofs.word_end.Reads as word-end-reads
 
 word-end-requires : tie.Need-word-end-requires
 word-end-requires c κs = search needs

@@ -1,15 +1,9 @@
 -- `casetext::add_record` meets its contract.
 -- Assumes nothing.
 use Rattle.casetext.proofs.Cases.{record-added}
-use native.Mathlib.Omega.{arith}
-use mathlib.Core.Path.{_≡_, refl, sym, _∙_, ap, subst}
 use borrow.Author.Needs.{needs}
 use Rattle.casetext.proofs.add_record.Statement.{statement}
 use Rattle.casetext.proofs.add_record.Tie as tie
-use Rattle.casetext.proofs.add_record.Reads as reads
-use Rattle.casetext.proofs.add_record.Lts as lts
-use Rattle.casetext.proofs.add_counted.Reads as add-counted-reads
-use Rattle.casetext.proofs.add_next.Reads as add-next-reads
 
 slice-aggregate-add-counted : tie.Need-slice-aggregate-add-counted
 slice-aggregate-add-counted c = search needs

@@ -1,15 +1,9 @@
 -- `casetext::add_rejected` meets its contract.
 -- Assumes nothing.
 use Rattle.casetext.proofs.Cases.{rejected-added}
-use native.Mathlib.Omega.{arith}
-use mathlib.Core.Path.{_≡_, refl, sym, _∙_, ap, subst}
 use borrow.Author.Needs.{needs}
 use Rattle.casetext.proofs.add_rejected.Statement.{statement}
 use Rattle.casetext.proofs.add_rejected.Tie as tie
-use Rattle.casetext.proofs.add_rejected.Reads as reads
-use Rattle.casetext.proofs.add_rejected.Lts as lts
-use Rattle.casetext.proofs.add_all.Reads as add-all-reads
-use Rattle.casetext.proofs.add_next.Reads as add-next-reads
 
 slice-aggregate-add-all : tie.Need-slice-aggregate-add-all
 slice-aggregate-add-all c = search needs

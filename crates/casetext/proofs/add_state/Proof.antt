@@ -1,16 +1,9 @@
 -- `casetext::add_state` meets its contract.
 -- Assumes nothing.
 use Rattle.casetext.proofs.Cases.{states}
-use native.Mathlib.Omega.{arith}
-use mathlib.Core.Path.{_≡_, refl, sym, _∙_, ap, subst}
 use borrow.Author.Needs.{needs}
 use Rattle.casetext.proofs.add_state.Statement.{statement}
 use Rattle.casetext.proofs.add_state.Tie as tie
-use Rattle.casetext.proofs.add_state.Reads as reads
-use Rattle.casetext.proofs.add_state.Lts as lts
-use Rattle.casetext.proofs.add_counted.Reads as add-counted-reads
-use Rattle.casetext.proofs.add_finished.Reads as add-finished-reads
-use Rattle.casetext.proofs.add_stopped.Reads as add-stopped-reads
 
 enum-told : tie.Need-enum-told
 enum-told c = search needs

@@ -1,15 +1,9 @@
 -- `casetext::add_stopped` meets its contract.
 -- Assumes nothing.
 use Rattle.casetext.proofs.Cases.{stopped-added}
-use native.Mathlib.Omega.{arith}
-use mathlib.Core.Path.{_≡_, refl, sym, _∙_, ap, subst}
 use borrow.Author.Needs.{needs}
 use Rattle.casetext.proofs.add_stopped.Statement.{statement}
 use Rattle.casetext.proofs.add_stopped.Tie as tie
-use Rattle.casetext.proofs.add_stopped.Reads as reads
-use Rattle.casetext.proofs.add_stopped.Lts as lts
-use Rattle.casetext.proofs.add_counted.Reads as add-counted-reads
-use Rattle.casetext.proofs.add_next.Reads as add-next-reads
 
 slice-aggregate-add-counted : tie.Need-slice-aggregate-add-counted
 slice-aggregate-add-counted c = search needs

@@ -1,15 +1,9 @@
 -- `casetext::add_unsound` meets its contract.
 -- Assumes nothing.
 use Rattle.casetext.proofs.Cases.{unsound-added}
-use native.Mathlib.Omega.{arith}
-use mathlib.Core.Path.{_≡_, refl, sym, _∙_, ap, subst}
 use borrow.Author.Needs.{needs}
 use Rattle.casetext.proofs.add_unsound.Statement.{statement}
 use Rattle.casetext.proofs.add_unsound.Tie as tie
-use Rattle.casetext.proofs.add_unsound.Reads as reads
-use Rattle.casetext.proofs.add_unsound.Lts as lts
-use Rattle.casetext.proofs.add_broken.Reads as add-broken-reads
-use Rattle.casetext.proofs.add_counted.Reads as add-counted-reads
 
 slice-aggregate-add-counted : tie.Need-slice-aggregate-add-counted
 slice-aggregate-add-counted c = search needs

@@ -4,17 +4,8 @@ use borrow.Author.Needs.{needs}
 use Prim.Native.Nat.{_-_}
 use Rattle.casefile.specs.Sources.{source}
 use Rattle.casetext.proofs.Loops.{Showing, showing-start, showing-more, shown-words}
-use native.Mathlib.Omega.{arith}
-use mathlib.Core.Path.{_≡_, refl, sym, _∙_, ap, subst}
 use Rattle.casetext.proofs.add_words.Statement.{statement}
 use Rattle.casetext.proofs.add_words.Tie as tie
-use Rattle.casetext.proofs.add_words.Reads as reads
-use Rattle.casetext.proofs.add_words.Lts as lts
-use Rattle.casetext.proofs.add_all.Reads as add-all-reads
-use Rattle.casetext.proofs.add_counted.Reads as add-counted-reads
-use Rattle.casetext.proofs.add_next.Reads as add-next-reads
-use Rattle.casetext.proofs.count_fields.Reads as count-fields-reads
-use Rattle.casetext.proofs.long.Reads as long-reads
 
 abbrev Inv-loop : tie.InvT-loop
 Inv-loop l at stack text₀ count size₀ i₀ k₀ t10 text size i k =

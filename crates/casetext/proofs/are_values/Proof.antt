@@ -3,13 +3,8 @@
 use borrow.Author.Needs.{needs}
 use Prim.Native.Nat.{_-_}
 use Rattle.casetext.proofs.Loops.{Valuing, valuing}
-use native.Mathlib.Omega.{arith}
-use mathlib.Core.Path.{_≡_, refl, sym, _∙_, ap, subst}
 use Rattle.casetext.proofs.are_values.Statement.{statement}
 use Rattle.casetext.proofs.are_values.Tie as tie
-use Rattle.casetext.proofs.are_values.Reads as reads
-use Rattle.casetext.proofs.are_values.Lts as lts
-use Rattle.casetext.proofs.value.Reads as value-reads
 
 abbrev Inv-loop : tie.InvT-loop
 Inv-loop l from end k₀ k =

@@ -3,12 +3,8 @@
 use borrow.Author.Needs.{needs}
 use Prim.Native.Nat.{_-_}
 use Rattle.casetext.proofs.Loops.{Changing, changing}
-use native.Mathlib.Omega.{arith}
-use mathlib.Core.Path.{_≡_, refl, sym, _∙_, ap, subst}
 use Rattle.casetext.proofs.changed_byte.Statement.{statement}
 use Rattle.casetext.proofs.changed_byte.Tie as tie
-use Rattle.casetext.proofs.changed_byte.Reads as reads
-use Rattle.casetext.proofs.changed_byte.Lts as lts
 
 abbrev Inv-loop : tie.InvT-loop
 Inv-loop m n i₀ i =

@@ -3,12 +3,8 @@
 use borrow.Author.Needs.{needs}
 use Prim.Native.Nat.{_-_}
 use Rattle.casetext.proofs.Loops.{Changing, changing}
-use native.Mathlib.Omega.{arith}
-use mathlib.Core.Path.{_≡_, refl, sym, _∙_, ap, subst}
 use Rattle.casetext.proofs.changed_word.Statement.{statement}
 use Rattle.casetext.proofs.changed_word.Tie as tie
-use Rattle.casetext.proofs.changed_word.Reads as reads
-use Rattle.casetext.proofs.changed_word.Lts as lts
 
 abbrev Inv-loop : tie.InvT-loop
 Inv-loop k n i₀ i =

@@ -4,13 +4,8 @@ use borrow.Author.Needs.{needs}
 use Prim.Native.Nat.{_-_}
 use lib.ListN.{length}
 use Rattle.stores.proofs.Cases.{Putting, wording}
-use native.Mathlib.Omega.{arith}
-use mathlib.Core.Path.{_≡_, refl, sym, _∙_, ap, subst}
 use Rattle.casetext.proofs.copy_bytes.Statement.{statement}
 use Rattle.casetext.proofs.copy_bytes.Tie as tie
-use Rattle.casetext.proofs.copy_bytes.Reads as reads
-use Rattle.casetext.proofs.copy_bytes.Lts as lts
-use Rattle.casetext.proofs.put.Reads as put-reads
 
 abbrev Inv-loop : tie.InvT-loop
 Inv-loop from to₀ at i₀ to i =

@@ -2,14 +2,8 @@
 -- Assumes nothing.
 use borrow.Author.Needs.{needs}
 use Rattle.casetext.proofs.Cases.{hasing}
-use native.Mathlib.Omega.{arith}
-use mathlib.Core.Path.{_≡_, refl, sym, _∙_, ap, subst}
 use Rattle.casetext.proofs.has_values.Statement.{statement}
 use Rattle.casetext.proofs.has_values.Tie as tie
-use Rattle.casetext.proofs.has_values.Reads as reads
-use Rattle.casetext.proofs.has_values.Lts as lts
-use Rattle.casetext.proofs.are_values.Reads as are-values-reads
-use Rattle.casetext.proofs.count_fields.Reads as count-fields-reads
 
 count-fields-requires : tie.Need-count-fields-requires
 count-fields-requires c κs = search needs

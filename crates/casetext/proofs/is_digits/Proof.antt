@@ -4,13 +4,8 @@ use borrow.Author.Needs.{needs}
 use Prim.Native.Nat.{_-_}
 use lib.ListN.{length}
 use Rattle.casetext.proofs.Loops.{Testing, testing}
-use native.Mathlib.Omega.{arith}
-use mathlib.Core.Path.{_≡_, refl, sym, _∙_, ap, subst}
 use Rattle.casetext.proofs.is_digits.Statement.{statement}
 use Rattle.casetext.proofs.is_digits.Tie as tie
-use Rattle.casetext.proofs.is_digits.Reads as reads
-use Rattle.casetext.proofs.is_digits.Lts as lts
-use Rattle.prelude.proofs.byte_at.Reads as byte-at-reads
 
 abbrev Inv-loop : tie.InvT-loop
 Inv-loop l from i₀ i =

@@ -1,14 +1,9 @@
 -- `casetext::is_number_poke` meets its contract.
 -- Assumes nothing.
 use Rattle.casetext.proofs.Cases.{named}
-use native.Mathlib.Omega.{arith}
-use mathlib.Core.Path.{_≡_, refl, sym, _∙_, ap, subst}
 use borrow.Author.Needs.{needs}
 use Rattle.casetext.proofs.is_number_poke.Statement.{statement}
 use Rattle.casetext.proofs.is_number_poke.Tie as tie
-use Rattle.casetext.proofs.is_number_poke.Reads as reads
-use Rattle.casetext.proofs.is_number_poke.Lts as lts
-use Rattle.casetext.proofs.has_word.Reads as has-word-reads
 
 slice-aggregate-has-word : tie.Need-slice-aggregate-has-word
 slice-aggregate-has-word c = search needs

@@ -2,15 +2,8 @@
 -- Assumes nothing.
 use borrow.Author.Needs.{needs}
 use Rattle.casetext.proofs.Cases.{changes}
-use native.Mathlib.Omega.{arith}
-use mathlib.Core.Path.{_≡_, refl, sym, _∙_, ap, subst}
 use Rattle.casetext.proofs.is_record_poke.Statement.{statement}
 use Rattle.casetext.proofs.is_record_poke.Tie as tie
-use Rattle.casetext.proofs.is_record_poke.Reads as reads
-use Rattle.casetext.proofs.is_record_poke.Lts as lts
-use Rattle.casetext.proofs.has_values.Reads as has-values-reads
-use Rattle.casetext.proofs.is_number_poke.Reads as is-number-poke-reads
-use Rattle.casetext.proofs.is_state_poke.Reads as is-state-poke-reads
 
 is-state-poke-requires : tie.Need-is-state-poke-requires
 is-state-poke-requires c κs = search needs

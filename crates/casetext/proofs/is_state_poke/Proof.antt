@@ -2,14 +2,8 @@
 -- Assumes nothing.
 use borrow.Author.Needs.{needs}
 use Rattle.casetext.proofs.Cases.{statenames}
-use native.Mathlib.Omega.{arith}
-use mathlib.Core.Path.{_≡_, refl, sym, _∙_, ap, subst}
 use Rattle.casetext.proofs.is_state_poke.Statement.{statement}
 use Rattle.casetext.proofs.is_state_poke.Tie as tie
-use Rattle.casetext.proofs.is_state_poke.Reads as reads
-use Rattle.casetext.proofs.is_state_poke.Lts as lts
-use Rattle.casetext.proofs.has_values.Reads as has-values-reads
-use Rattle.casetext.proofs.has_word.Reads as has-word-reads
 
 slice-aggregate-has-word : tie.Need-slice-aggregate-has-word
 slice-aggregate-has-word c = search needs

@@ -3,13 +3,8 @@
 use borrow.Author.Needs.{needs}
 use Prim.Native.Nat.{_-_}
 use Rattle.casetext.proofs.Loops.{Keeping, keeping}
-use native.Mathlib.Omega.{arith}
-use mathlib.Core.Path.{_≡_, refl, sym, _∙_, ap, subst}
 use Rattle.casetext.proofs.keep_memory.Statement.{statement}
 use Rattle.casetext.proofs.keep_memory.Tie as tie
-use Rattle.casetext.proofs.keep_memory.Reads as reads
-use Rattle.casetext.proofs.keep_memory.Lts as lts
-use Rattle.casetext.proofs.at_most.Reads as at-most-reads
 
 abbrev Inv-loop : tie.InvT-loop
 Inv-loop m₀ n most i₀ m i =

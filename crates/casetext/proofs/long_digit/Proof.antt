@@ -1,14 +1,9 @@
 -- `casetext::long_digit` meets its contract.
 -- Assumes nothing.
 use Rattle.casetext.proofs.Cases.{longs}
-use native.Mathlib.Omega.{arith}
-use mathlib.Core.Path.{_≡_, refl, sym, _∙_, ap, subst}
 use borrow.Author.Needs.{needs}
 use Rattle.casetext.proofs.long_digit.Statement.{statement}
 use Rattle.casetext.proofs.long_digit.Tie as tie
-use Rattle.casetext.proofs.long_digit.Reads as reads
-use Rattle.casetext.proofs.long_digit.Lts as lts
-use Rattle.std.proofs.num.wrapping_add_u64.Reads as wrapping-add-u64-reads
 
 returns : tie.Need-returns
 returns c =

@@ -4,14 +4,8 @@ use borrow.Author.Needs.{needs}
 use Prim.Native.Nat.{_-_}
 use lib.ListN.{length}
 use Rattle.casetext.proofs.Loops.{Longing, longing}
-use native.Mathlib.Omega.{arith}
-use mathlib.Core.Path.{_≡_, refl, sym, _∙_, ap, subst}
 use Rattle.casetext.proofs.long_number.Statement.{statement}
 use Rattle.casetext.proofs.long_number.Tie as tie
-use Rattle.casetext.proofs.long_number.Reads as reads
-use Rattle.casetext.proofs.long_number.Lts as lts
-use Rattle.casetext.proofs.long_digit.Reads as long-digit-reads
-use Rattle.prelude.proofs.byte_at.Reads as byte-at-reads
 
 abbrev Inv-loop : tie.InvT-loop
 Inv-loop l from n₀ i₀ n i =

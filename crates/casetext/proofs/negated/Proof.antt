@@ -1,13 +1,9 @@
 -- `casetext::negated` meets its contract.
 -- Assumes nothing.
 use Rattle.casetext.proofs.Cases.{negations}
-use native.Mathlib.Omega.{arith}
-use mathlib.Core.Path.{_≡_, refl, sym, _∙_, ap, subst}
 use borrow.Author.Needs.{needs}
 use Rattle.casetext.proofs.negated.Statement.{statement}
 use Rattle.casetext.proofs.negated.Tie as tie
-use Rattle.casetext.proofs.negated.Reads as reads
-use Rattle.casetext.proofs.negated.Lts as lts
 
 sub-result : tie.Need-sub-result
 sub-result c = search needs

@@ -4,15 +4,8 @@ use borrow.Author.Needs.{needs}
 use Prim.Native.Nat.{_-_}
 use Rattle.casefile.specs.Sources.{source}
 use Rattle.casetext.proofs.Loops.{Lining, lining}
-use native.Mathlib.Omega.{arith}
-use mathlib.Core.Path.{_≡_, refl, sym, _∙_, ap, subst}
 use Rattle.casetext.proofs.plain_line.Statement.{statement}
 use Rattle.casetext.proofs.plain_line.Tie as tie
-use Rattle.casetext.proofs.plain_line.Reads as reads
-use Rattle.casetext.proofs.plain_line.Lts as lts
-use Rattle.casefile.proofs.add_byte.Reads as add-byte-reads
-use Rattle.casetext.proofs.add_field.Reads as add-field-reads
-use Rattle.casetext.proofs.count_fields.Reads as count-fields-reads
 
 abbrev Inv-loop : tie.InvT-loop
 Inv-loop l text₀ count size₀ k₀ text size k =

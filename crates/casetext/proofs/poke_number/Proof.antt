@@ -1,16 +1,9 @@
 -- `casetext::poke_number` meets its contract.
 -- Assumes nothing.
 use Rattle.casetext.proofs.Cases.{pokes}
-use native.Mathlib.Omega.{arith}
-use mathlib.Core.Path.{_≡_, refl, sym, _∙_, ap, subst}
 use borrow.Author.Needs.{needs}
 use Rattle.casetext.proofs.poke_number.Statement.{statement}
 use Rattle.casetext.proofs.poke_number.Tie as tie
-use Rattle.casetext.proofs.poke_number.Reads as reads
-use Rattle.casetext.proofs.poke_number.Lts as lts
-use Rattle.casefile.proofs.narrow.Reads as narrow-reads
-use Rattle.casetext.proofs.has_word.Reads as has-word-reads
-use Rattle.casetext.proofs.value.Reads as value-reads
 
 value-requires : tie.Need-value-requires
 value-requires c κs = search needs

@@ -2,15 +2,8 @@
 -- Assumes nothing.
 use borrow.Author.Needs.{needs}
 use Rattle.casetext.proofs.Cases.{poked}
-use native.Mathlib.Omega.{arith}
-use mathlib.Core.Path.{_≡_, refl, sym, _∙_, ap, subst}
 use Rattle.casetext.proofs.poke_record.Statement.{statement}
 use Rattle.casetext.proofs.poke_record.Tie as tie
-use Rattle.casetext.proofs.poke_record.Reads as reads
-use Rattle.casetext.proofs.poke_record.Lts as lts
-use Rattle.casetext.proofs.is_state_poke.Reads as is-state-poke-reads
-use Rattle.casetext.proofs.poke_number.Reads as poke-number-reads
-use Rattle.casetext.proofs.poke_state.Reads as poke-state-reads
 
 is-state-poke-requires : tie.Need-is-state-poke-requires
 is-state-poke-requires c κs = search needs

@@ -1,17 +1,9 @@
 -- `casetext::poke_state` meets its contract.
 -- Assumes nothing.
 use Rattle.casetext.proofs.Cases.{statepokes}
-use native.Mathlib.Omega.{arith}
-use mathlib.Core.Path.{_≡_, refl, sym, _∙_, ap, subst}
 use borrow.Author.Needs.{needs}
 use Rattle.casetext.proofs.poke_state.Statement.{statement}
 use Rattle.casetext.proofs.poke_state.Tie as tie
-use Rattle.casetext.proofs.poke_state.Reads as reads
-use Rattle.casetext.proofs.poke_state.Lts as lts
-use Rattle.casefile.proofs.narrow.Reads as narrow-reads
-use Rattle.casetext.proofs.has_word.Reads as has-word-reads
-use Rattle.casetext.proofs.value.Reads as value-reads
-use Rattle.casetext.proofs.with_state.Reads as with-state-reads
 
 value-requires : tie.Need-value-requires
 value-requires c κs = search needs

@@ -1,13 +1,9 @@
 -- `casetext::put` meets its contract.
 -- Assumes nothing.
 use Rattle.stores.proofs.Cases.{put-past}
-use native.Mathlib.Omega.{arith}
-use mathlib.Core.Path.{_≡_, refl, sym, _∙_, ap, subst}
 use borrow.Author.Needs.{needs}
 use Rattle.casetext.proofs.put.Statement.{statement}
 use Rattle.casetext.proofs.put.Tie as tie
-use Rattle.casetext.proofs.put.Reads as reads
-use Rattle.casetext.proofs.put.Lts as lts
 
 slice-write-m : tie.Need-slice-write-m
 slice-write-m c = search needs

@@ -3,14 +3,8 @@
 use borrow.Author.Needs.{needs}
 use Prim.Native.Nat.{_-_}
 use Rattle.casetext.proofs.Loops.{Bytes, storingbytes}
-use native.Mathlib.Omega.{arith}
-use mathlib.Core.Path.{_≡_, refl, sym, _∙_, ap, subst}
 use Rattle.casetext.proofs.put_bytes.Statement.{statement}
 use Rattle.casetext.proofs.put_bytes.Tie as tie
-use Rattle.casetext.proofs.put_bytes.Reads as reads
-use Rattle.casetext.proofs.put_bytes.Lts as lts
-use Rattle.casetext.proofs.count_fields.Reads as count-fields-reads
-use Rattle.casetext.proofs.value.Reads as value-reads
 
 abbrev Inv-loop : tie.InvT-loop
 Inv-loop l at n m₀ count i₀ f₀ m i f =

@@ -3,15 +3,8 @@
 use borrow.Author.Needs.{needs}
 use Prim.Native.Nat.{_-_}
 use Rattle.casetext.proofs.Loops.{Listing, listing}
-use native.Mathlib.Omega.{arith}
-use mathlib.Core.Path.{_≡_, refl, sym, _∙_, ap, subst}
 use Rattle.casetext.proofs.read_arguments.Statement.{statement}
 use Rattle.casetext.proofs.read_arguments.Tie as tie
-use Rattle.casetext.proofs.read_arguments.Reads as reads
-use Rattle.casetext.proofs.read_arguments.Lts as lts
-use Rattle.casefile.proofs.narrow.Reads as narrow-reads
-use Rattle.casetext.proofs.count_fields.Reads as count-fields-reads
-use Rattle.casetext.proofs.value.Reads as value-reads
 
 abbrev Inv-loop : tie.InvT-loop
 Inv-loop l arguments₀ count n₀ arguments n =

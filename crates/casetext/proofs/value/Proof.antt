@@ -1,17 +1,9 @@
 -- `casetext::value` meets its contract.
 -- Assumes nothing.
 use Rattle.casetext.proofs.Cases.{values, sign-within}
-use native.Mathlib.Omega.{arith}
-use mathlib.Core.Path.{_≡_, refl, sym, _∙_, ap, subst}
 use borrow.Author.Needs.{needs}
 use Rattle.casetext.proofs.value.Statement.{statement}
 use Rattle.casetext.proofs.value.Tie as tie
-use Rattle.casetext.proofs.value.Reads as reads
-use Rattle.casetext.proofs.value.Lts as lts
-use Rattle.casefile.proofs.field.Reads as field-reads
-use Rattle.casefile.proofs.field_start.Reads as field-start-reads
-use Rattle.casetext.proofs.negated.Reads as negated-reads
-use Rattle.prelude.proofs.byte_at.Reads as byte-at-reads
 
 field-start-requires : tie.Need-field-start-requires
 field-start-requires c κs = search needs
