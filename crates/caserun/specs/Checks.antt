@@ -9,15 +9,11 @@ use Rattle.machine.specs.Access.{storeFrom}
 use Rattle.checker.specs.Check.{Left, Lent, lent, checkOf}
 use Rattle.checker.specs.declared.Checked.{Checked}
 use Rattle.checker.specs.declared.Checked.the-variants.{Accepted, Refused}
-use Rattle.casefile.specs.Sources.{Source, source}
+use Rattle.casefile.specs.Sources.{source}
 use Rattle.casetext.specs.Answers.{addAll, rejectedBytes}
 use Rattle.casestate.specs.declared.Progress.{Progress}
-use Rattle.casestate.specs.Progress.{On, on, checkedOf, answeredOf, countedOf}
+use Rattle.casestate.specs.Progress.{On, on, checkedOf, answeredBy, countedOf}
 use Rattle.casestate.specs.Source.{closeBody}
-
--- an answer, which waits for its line
-abbrev pub answeredBy : Progress → Source → On
-answeredBy q s = on (answeredOf q (s .size)) (s .text)
 
 -- the answer of a check, in the progress; a refusal waits for its line
 unfoldable pub withChecked : Checked → Progress → List ℕ → On

@@ -13,7 +13,7 @@ use Rattle.casestate.specs.Source.{body-word, readSource}
 use Rattle.casestate.specs.Views.{readMemory, readStack, readAnswer, readView}
 use Rattle.casestate.specs.Changes.{Changed, readChange}
 use Rattle.caserun.specs.Checks.{Once, checkOnce}
-use Rattle.caserun.specs.Calls.{Ran, run-word, step-word, isStart, readCall}
+use Rattle.casecalls.specs.Calls.{Ran, run-word, step-word, isStart, readCall}
 
 -- `begun`
 abbrev pub begun-word : List ℕ

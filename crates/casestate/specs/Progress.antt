@@ -6,6 +6,7 @@ use mathlib.Core.List.{List}
 use Rattle.limits.specs.Fresh.{freshOf}
 use Rattle.limits.specs.declared.Machine.{Machine}
 use Rattle.casefile.specs.Lines.{oneMore}
+use Rattle.casefile.specs.Sources.{Source}
 use Rattle.casestate.specs.declared.Lent.{Lent}
 use Rattle.casestate.specs.declared.Progress.{Progress}
 
@@ -181,6 +182,10 @@ answeredOf q size =
       counts = q .counts;
       machine = q .machine;
     }
+
+-- an answer, which waits for its line
+abbrev pub answeredBy : Progress → Source → On
+answeredBy q s = on (answeredOf q (s .size)) (s .text)
 
 unfoldable pub unansweredOf : Progress → Progress
 unansweredOf q =
