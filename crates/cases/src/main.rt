@@ -1,13 +1,13 @@
-// Runs check, start, step and run on the cases of standard input and prints those that differ.
+// Runs check, start, step and run on the cases of standard input and prints each answer and what differs.
 use casefile::Case;
 use casefile::front;
 use casefile::is_comment;
 use casefile::line_end;
 use casefile::one_more;
 use casefile::starts_with;
-use caserun::Fault;
-use caserun::Progress;
-use caserun::failed;
+use casestate::Fault;
+use casestate::Progress;
+use casestate::failed;
 use casetext::Room;
 use casetext::clear_memory;
 use casetext::clear_stack;
@@ -61,6 +61,14 @@ fn put_name(s: &[u8], q: Progress) {
     put(b": ");
 }
 
+// An answer of so many bytes; none where there are none.
+fn put_answer(got: &[u8]) {
+    if 0 < got.len() {
+        put(got);
+        put(b"\n");
+    }
+}
+
 fn put_bad_line(line: u64) {
     put(b"line ");
     put_number(line);
@@ -92,8 +100,8 @@ fn differs(mut q: Progress) -> Progress {
     q
 }
 
-// Prints what a line came to.
-fn report(s: &[u8], l: &[u8], q: Progress, got: &Text) -> Progress {
+// Prints where a line came to a fault.
+fn report_fault(s: &[u8], l: &[u8], q: Progress, got: &Text) -> Progress {
     let fault = q.fault;
     if fault == 0 {
         return q;
@@ -110,6 +118,12 @@ fn report(s: &[u8], l: &[u8], q: Progress, got: &Text) -> Progress {
     differs(q)
 }
 
+// Prints what a line came to.
+fn report(s: &[u8], l: &[u8], q: Progress, got: &Text) -> Progress {
+    put_answer(front(got, q.told));
+    report_fault(s, l, q, got)
+}
+
 // The end of a case: its last call has an answer, and it has a call.
 fn close_case(s: &[u8], q: Progress) -> Progress {
     if q.cases == 0 {
@@ -124,10 +138,20 @@ fn close_case(s: &[u8], q: Progress) -> Progress {
     differs(q)
 }
 
-fn begin_case(s: &[u8], q: Progress, name: usize, k: &mut Stack, m: &mut Memory) -> Progress {
+fn begin_case(
+    s: &[u8],
+    l: &[u8],
+    q: Progress,
+    name: usize,
+    k: &mut Stack,
+    m: &mut Memory,
+) -> Progress {
     clear_stack(k, 0);
     clear_memory(m, 0);
-    caserun::open_case(close_case(s, q), name)
+    let closed = close_case(s, q);
+    put(l);
+    put(b"\n");
+    casestate::open_case(closed, name)
 }
 
 // A line that does not begin a case.
@@ -165,12 +189,13 @@ fn take_line(
     requires { ⌜ (at ≤ end) × (end ≤ length (now s)) ⌝ }
 {
     q.line = one_more(q.line);
+    q.told = 0;
     let l = &s[at..end];
     if is_comment(l) {
         return q;
     }
     if starts_with(l, b"case ") {
-        return begin_case(s, q, at + 5, k, m);
+        return begin_case(s, l, q, at + 5, k, m);
     }
     take_part(s, l, q, text, got, t, b, k, m)
 }
@@ -182,7 +207,7 @@ fn run(s: &[u8]) {
     let mut b = [0u8; Room::BYTES];
     let mut k = [0u32; Room::TWO_STACKS];
     let mut m = [0u8; Room::TWO_MEMORIES];
-    let mut q = caserun::first();
+    let mut q = casestate::first();
     let mut at: usize = 0;
     while at < s.len() {
         let end = line_end(s, at);

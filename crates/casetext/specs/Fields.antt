@@ -1,9 +1,9 @@
--- The fields of a line: how many it has, the word that one starts with, and where a word ends.
+-- The fields of a line: how many it has, the word that one starts with, where a word ends, and its bytes.
 -- Assumes nothing.
-use Prim.Native.Nat.{ℕ, suc, _+_}
+use Prim.Native.Nat.{ℕ, suc, _+_, _-_}
 use mathlib.Core.Bool.{Bool}
 use mathlib.Core.List.{List}
-use lib.ListN.{length, drop}
+use lib.ListN.{length, take, drop}
 use Rattle.prelude.specs.Choice.{ifLt, ifEq}
 use Rattle.prelude.specs.Bytes.{byteAt}
 use Rattle.prelude.specs.Walk.{Step, go, stop, walk}
@@ -30,3 +30,7 @@ wordStep l i = ifLt i (length l) (ifEq (byteAt l i) 32 (stop i) (go (i + 1))) (s
 -- the place of the blank from a place on, or the end
 unfoldable pub wordEnd : List ℕ → ℕ → ℕ
 wordEnd l at = walk (wordStep l) at (suc (length l)) at
+
+-- the bytes of the word from a place on
+unfoldable pub rawAt : List ℕ → ℕ → List ℕ
+rawAt l at = take (wordEnd l at - at) (drop at l)

@@ -1,2 +1,5 @@
 pub mod Fields
-pub mod Parts
+pub mod Numbers
+pub mod Answers
+pub mod Records
+pub mod Buffers

@@ -1,13 +1,15 @@
--- `casetext::add_bytes` is safe and ends.
+-- `casetext::add_bytes` meets its contract.
 -- Assumes nothing.
 use borrow.Author.Needs.{needs}
-use Prim.Native.Nat.{_≤_, _-_}
+use Prim.Native.Nat.{_-_}
+use Rattle.casefile.specs.Sources.{source}
+use Rattle.casetext.proofs.Loops.{Showing, showing-start, showing-more, shown-bytes}
 use Rattle.casetext.proofs.add_bytes.Statement.{statement}
 use Rattle.casetext.proofs.add_bytes.Tie as tie
 
 abbrev Inv-loop : tie.InvT-loop
 Inv-loop l at memory text₀ count size₀ i₀ k₀ t10 text size i k =
-    k ≤ k
+    Showing memory count at (source size₀ text₀) text size i k
 
 abbrev μ-loop : tie.MeasureT-loop
 μ-loop l at memory text₀ count size₀ i₀ k₀ t10 text size i k =
@@ -23,19 +25,24 @@ add-counted-requires : tie.Need-add-counted-requires Inv-loop μ-loop
 add-counted-requires c κs = search needs
 
 loop-holds : tie.Need-loop-holds Inv-loop μ-loop
-loop-holds c = search needs
+loop-holds c =
+    search showing-start
 
-slice-aggregate-add-text : tie.Need-slice-aggregate-add-text Inv-loop μ-loop
-slice-aggregate-add-text c = search needs
+slice-aggregate-add-all : tie.Need-slice-aggregate-add-all Inv-loop μ-loop
+slice-aggregate-add-all c = search needs
 
-add-text-requires : tie.Need-add-text-requires Inv-loop μ-loop
-add-text-requires c κs = search needs
+add-all-requires : tie.Need-add-all-requires Inv-loop μ-loop
+add-all-requires c κs = search needs
 
 returns : tie.Need-returns Inv-loop μ-loop
-returns c = search needs
+returns c =
+    search shown-bytes
 
-byte-at-requires : tie.Need-byte-at-requires Inv-loop μ-loop
-byte-at-requires c κs = search needs
+shared-slice-read-wide : tie.Need-shared-slice-read-wide Inv-loop μ-loop
+shared-slice-read-wide c = search needs
+
+wide-requires : tie.Need-wide-requires Inv-loop μ-loop
+wide-requires c κs = search needs
 
 cast-add-next : tie.Need-cast-add-next Inv-loop μ-loop
 cast-add-next c = search needs
@@ -53,10 +60,12 @@ loop-less : tie.Need-loop-less Inv-loop μ-loop
 loop-less c = search needs
 
 loop-again : tie.Need-loop-again Inv-loop μ-loop
-loop-again c = search needs
+loop-again c =
+    search showing-more
 
 returns-2 : tie.Need-returns-2 Inv-loop μ-loop
-returns-2 c = search needs
+returns-2 c =
+    search shown-bytes
 
 pub add-bytes-spec : {M : Type 1} → statement M
 add-bytes-spec =
@@ -68,10 +77,11 @@ add-bytes-spec =
     slice-aggregate-add-counted
     add-counted-requires
     loop-holds
-    slice-aggregate-add-text
-    add-text-requires
+    slice-aggregate-add-all
+    add-all-requires
     returns
-    byte-at-requires
+    shared-slice-read-wide
+    wide-requires
     cast-add-next
     add-next-requires
     add-i

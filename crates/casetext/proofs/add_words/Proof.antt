@@ -1,13 +1,15 @@
--- `casetext::add_words` is safe and ends.
+-- `casetext::add_words` meets its contract.
 -- Assumes nothing.
 use borrow.Author.Needs.{needs}
-use Prim.Native.Nat.{_≤_, _-_}
+use Prim.Native.Nat.{_-_}
+use Rattle.casefile.specs.Sources.{source}
+use Rattle.casetext.proofs.Loops.{Showing, showing-start, showing-more, shown-words}
 use Rattle.casetext.proofs.add_words.Statement.{statement}
 use Rattle.casetext.proofs.add_words.Tie as tie
 
 abbrev Inv-loop : tie.InvT-loop
 Inv-loop l at stack text₀ count size₀ i₀ k₀ t10 text size i k =
-    k ≤ k
+    Showing stack count at (source size₀ text₀) text size i k
 
 abbrev μ-loop : tie.MeasureT-loop
 μ-loop l at stack text₀ count size₀ i₀ k₀ t10 text size i k =
@@ -23,22 +25,27 @@ add-counted-requires : tie.Need-add-counted-requires Inv-loop μ-loop
 add-counted-requires c κs = search needs
 
 loop-holds : tie.Need-loop-holds Inv-loop μ-loop
-loop-holds c = search needs
+loop-holds c =
+    search showing-start
 
-slice-aggregate-add-text : tie.Need-slice-aggregate-add-text Inv-loop μ-loop
-slice-aggregate-add-text c = search needs
+slice-aggregate-add-all : tie.Need-slice-aggregate-add-all Inv-loop μ-loop
+slice-aggregate-add-all c = search needs
 
-add-text-requires : tie.Need-add-text-requires Inv-loop μ-loop
-add-text-requires c κs = search needs
+add-all-requires : tie.Need-add-all-requires Inv-loop μ-loop
+add-all-requires c κs = search needs
 
 returns : tie.Need-returns Inv-loop μ-loop
-returns c = search needs
+returns c =
+    search shown-words
 
-word-at-requires : tie.Need-word-at-requires Inv-loop μ-loop
-word-at-requires c κs = search needs
+mul-long : tie.Need-mul-long Inv-loop μ-loop
+mul-long c = search needs
 
-cast-add-next : tie.Need-cast-add-next Inv-loop μ-loop
-cast-add-next c = search needs
+shared-slice-read-long : tie.Need-shared-slice-read-long Inv-loop μ-loop
+shared-slice-read-long c = search needs
+
+long-requires : tie.Need-long-requires Inv-loop μ-loop
+long-requires c κs = search needs
 
 add-next-requires : tie.Need-add-next-requires Inv-loop μ-loop
 add-next-requires c κs = search needs
@@ -53,10 +60,12 @@ loop-less : tie.Need-loop-less Inv-loop μ-loop
 loop-less c = search needs
 
 loop-again : tie.Need-loop-again Inv-loop μ-loop
-loop-again c = search needs
+loop-again c =
+    search showing-more
 
 returns-2 : tie.Need-returns-2 Inv-loop μ-loop
-returns-2 c = search needs
+returns-2 c =
+    search shown-words
 
 pub add-words-spec : {M : Type 1} → statement M
 add-words-spec =
@@ -68,11 +77,12 @@ add-words-spec =
     slice-aggregate-add-counted
     add-counted-requires
     loop-holds
-    slice-aggregate-add-text
-    add-text-requires
+    slice-aggregate-add-all
+    add-all-requires
     returns
-    word-at-requires
-    cast-add-next
+    mul-long
+    shared-slice-read-long
+    long-requires
     add-next-requires
     add-i
     add-k

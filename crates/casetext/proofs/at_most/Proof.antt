@@ -4,8 +4,6 @@ use Rattle.casetext.proofs.Cases.{lessers}
 use borrow.Author.Needs.{needs}
 use Rattle.casetext.proofs.at_most.Statement.{statement}
 use Rattle.casetext.proofs.at_most.Tie as tie
-use Rattle.casetext.proofs.at_most.Reads as reads
-use Rattle.casetext.proofs.at_most.Lts as lts
 
 returns : tie.Need-returns
 returns c = (search lessers, search needs)

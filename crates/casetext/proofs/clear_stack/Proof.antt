@@ -1,20 +1,22 @@
--- `casetext::clear_stack` is safe and ends.
+-- `casetext::clear_stack` meets its contract.
 -- Assumes nothing.
 use borrow.Author.Needs.{needs}
-use Prim.Native.Nat.{_≤_, _-_}
+use Prim.Native.Nat.{_-_}
+use Rattle.casetext.proofs.Loops.{Zeroing, zeroing}
 use Rattle.casetext.proofs.clear_stack.Statement.{statement}
 use Rattle.casetext.proofs.clear_stack.Tie as tie
 
 abbrev Inv-loop : tie.InvT-loop
 Inv-loop k₀ from i₀ k i =
-    i ≤ i
+    Zeroing 16385 k₀ from k i
 
 abbrev μ-loop : tie.MeasureT-loop
 μ-loop k₀ from i₀ k i =
     16385 - i
 
 loop-holds : tie.Need-loop-holds Inv-loop μ-loop
-loop-holds c = search needs
+loop-holds c =
+    search zeroing
 
 mul-k : tie.Need-mul-k Inv-loop μ-loop
 mul-k c = search needs
@@ -29,10 +31,12 @@ loop-less : tie.Need-loop-less Inv-loop μ-loop
 loop-less c = search needs
 
 loop-again : tie.Need-loop-again Inv-loop μ-loop
-loop-again c = search needs
+loop-again c =
+    search zeroing
 
 returns : tie.Need-returns Inv-loop μ-loop
-returns c = search needs
+returns c =
+    search zeroing
 
 pub clear-stack-spec : {M : Type 1} → statement M
 clear-stack-spec =

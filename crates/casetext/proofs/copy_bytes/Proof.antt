@@ -1,45 +1,49 @@
--- `casetext::copy_bytes` is safe and ends.
+-- `casetext::copy_bytes` meets its contract.
 -- Assumes nothing.
 use borrow.Author.Needs.{needs}
-use Prim.Native.Nat.{_≤_, _-_}
+use Prim.Native.Nat.{_-_}
 use lib.ListN.{length}
+use Rattle.stores.proofs.Cases.{Putting, wording}
 use Rattle.casetext.proofs.copy_bytes.Statement.{statement}
 use Rattle.casetext.proofs.copy_bytes.Tie as tie
 
 abbrev Inv-loop : tie.InvT-loop
-Inv-loop from to₀ at i₀ j₀ to i j =
-    i ≤ length from
+Inv-loop from to₀ at i₀ to i =
+    Putting to₀ at from to i
 
 abbrev μ-loop : tie.MeasureT-loop
-μ-loop from to₀ at i₀ j₀ to i j =
+μ-loop from to₀ at i₀ to i =
     length from - i
 
 loop-holds : tie.Need-loop-holds Inv-loop μ-loop
-loop-holds c = search needs
+loop-holds c =
+    search wording
 
-returns : tie.Need-returns Inv-loop μ-loop
-returns c = search needs
+add-put : tie.Need-add-put Inv-loop μ-loop
+add-put c = search needs
 
-shared-slice-read-to : tie.Need-shared-slice-read-to Inv-loop μ-loop
-shared-slice-read-to c = search needs
+shared-slice-read-put : tie.Need-shared-slice-read-put Inv-loop μ-loop
+shared-slice-read-put c = search needs
 
-element-write-to : tie.Need-element-write-to Inv-loop μ-loop
-element-write-to c = search needs
+put-requires : tie.Need-put-requires Inv-loop μ-loop
+put-requires c κs = search needs
 
 add-i : tie.Need-add-i Inv-loop μ-loop
 add-i c = search needs
-
-add-j : tie.Need-add-j Inv-loop μ-loop
-add-j c = search needs
 
 loop-less : tie.Need-loop-less Inv-loop μ-loop
 loop-less c = search needs
 
 loop-again : tie.Need-loop-again Inv-loop μ-loop
-loop-again c = search needs
+loop-again c =
+    search wording
 
-returns-2 : tie.Need-returns-2 Inv-loop μ-loop
-returns-2 c = search needs
+same-length : tie.Need-same-length Inv-loop μ-loop
+same-length c = search needs
+
+returns : tie.Need-returns Inv-loop μ-loop
+returns c =
+    search wording
 
 pub copy-bytes-spec : {M : Type 1} → statement M
 copy-bytes-spec =
@@ -48,11 +52,11 @@ copy-bytes-spec =
     Inv-loop
     μ-loop
     loop-holds
-    returns
-    shared-slice-read-to
-    element-write-to
+    add-put
+    shared-slice-read-put
+    put-requires
     add-i
-    add-j
     loop-less
     loop-again
-    returns-2)
+    same-length
+    returns)

@@ -1,7 +1,7 @@
 -- `casetext::count_fields` counts the fields of a line.
 -- Assumes nothing.
 use borrow.Author.Needs.{needs}
-use Prim.Native.Nat.{_≤_, _-_}
+use Prim.Native.Nat.{_-_}
 use lib.ListN.{length}
 use Rattle.casetext.proofs.Loops.{Counting, counting}
 use Rattle.casetext.proofs.count_fields.Statement.{statement}

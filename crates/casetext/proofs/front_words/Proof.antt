@@ -1,13 +1,9 @@
 -- `casetext::front_words` gives the first words.
 -- Assumes nothing.
 use Rattle.casefile.proofs.Cases.{fronts}
-use native.Mathlib.Omega.{arith}
-use mathlib.Core.Path.{_≡_, refl, sym, _∙_, ap, subst}
 use borrow.Author.Needs.{needs}
 use Rattle.casetext.proofs.front_words.Statement.{statement}
 use Rattle.casetext.proofs.front_words.Tie as tie
-use Rattle.casetext.proofs.front_words.Reads as reads
-use Rattle.casetext.proofs.front_words.Lts as lts
 
 sub-result : tie.Need-sub-result
 sub-result c = search needs

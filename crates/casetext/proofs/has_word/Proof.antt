@@ -4,10 +4,6 @@ use Rattle.casetext.proofs.Cases.{word-at}
 use borrow.Author.Needs.{needs}
 use Rattle.casetext.proofs.has_word.Statement.{statement}
 use Rattle.casetext.proofs.has_word.Tie as tie
-use Rattle.casetext.proofs.has_word.Reads as reads
-use Rattle.casetext.proofs.has_word.Lts as lts
-use Rattle.casefile.proofs.field_start.Reads as field-start-reads
-use Rattle.casefile.proofs.starts_with.Reads as starts-with-reads
 
 field-start-requires : tie.Need-field-start-requires
 field-start-requires c κs = search needs

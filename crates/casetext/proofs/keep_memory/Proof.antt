@@ -1,23 +1,25 @@
--- `casetext::keep_memory` is safe and ends.
+-- `casetext::keep_memory` meets its contract.
 -- Assumes nothing.
 use borrow.Author.Needs.{needs}
-use Prim.Native.Nat.{_≤_, _-_}
+use Prim.Native.Nat.{_-_}
+use Rattle.casetext.proofs.Loops.{Keeping, keeping}
 use Rattle.casetext.proofs.keep_memory.Statement.{statement}
 use Rattle.casetext.proofs.keep_memory.Tie as tie
 
 abbrev Inv-loop : tie.InvT-loop
-Inv-loop m₀ n i₀ m i =
-    i ≤ i
+Inv-loop m₀ n most i₀ m i =
+    Keeping 65537 most m₀ m i
 
 abbrev μ-loop : tie.MeasureT-loop
-μ-loop m₀ n i₀ m i =
-    n - i
+μ-loop m₀ n most i₀ m i =
+    most - i
+
+at-most-requires : tie.Need-at-most-requires Inv-loop μ-loop
+at-most-requires c κs = search needs
 
 loop-holds : tie.Need-loop-holds Inv-loop μ-loop
-loop-holds c = search needs
-
-returns : tie.Need-returns Inv-loop μ-loop
-returns c = search needs
+loop-holds c =
+    search keeping
 
 element-copy-out-v : tie.Need-element-copy-out-v Inv-loop μ-loop
 element-copy-out-v c = search needs
@@ -35,10 +37,12 @@ loop-less : tie.Need-loop-less Inv-loop μ-loop
 loop-less c = search needs
 
 loop-again : tie.Need-loop-again Inv-loop μ-loop
-loop-again c = search needs
+loop-again c =
+    search keeping
 
-returns-2 : tie.Need-returns-2 Inv-loop μ-loop
-returns-2 c = search needs
+returns : tie.Need-returns Inv-loop μ-loop
+returns c =
+    search keeping
 
 pub keep-memory-spec : {M : Type 1} → statement M
 keep-memory-spec =
@@ -46,12 +50,12 @@ keep-memory-spec =
     (tie.spec
     Inv-loop
     μ-loop
+    at-most-requires
     loop-holds
-    returns
     element-copy-out-v
     add-m
     element-write-m
     add-i
     loop-less
     loop-again
-    returns-2)
+    returns)

@@ -1,23 +1,25 @@
--- `casetext::keep_stack` is safe and ends.
+-- `casetext::keep_stack` meets its contract.
 -- Assumes nothing.
 use borrow.Author.Needs.{needs}
-use Prim.Native.Nat.{_≤_, _-_}
+use Prim.Native.Nat.{_-_}
+use Rattle.casetext.proofs.Loops.{Keeping, keeping}
 use Rattle.casetext.proofs.keep_stack.Statement.{statement}
 use Rattle.casetext.proofs.keep_stack.Tie as tie
 
 abbrev Inv-loop : tie.InvT-loop
-Inv-loop k₀ n i₀ k i =
-    i ≤ i
+Inv-loop k₀ n most i₀ k i =
+    Keeping 16385 most k₀ k i
 
 abbrev μ-loop : tie.MeasureT-loop
-μ-loop k₀ n i₀ k i =
-    n - i
+μ-loop k₀ n most i₀ k i =
+    most - i
+
+at-most-requires : tie.Need-at-most-requires Inv-loop μ-loop
+at-most-requires c κs = search needs
 
 loop-holds : tie.Need-loop-holds Inv-loop μ-loop
-loop-holds c = search needs
-
-returns : tie.Need-returns Inv-loop μ-loop
-returns c = search needs
+loop-holds c =
+    search keeping
 
 mul-v : tie.Need-mul-v Inv-loop μ-loop
 mul-v c = search needs
@@ -41,10 +43,12 @@ loop-less : tie.Need-loop-less Inv-loop μ-loop
 loop-less c = search needs
 
 loop-again : tie.Need-loop-again Inv-loop μ-loop
-loop-again c = search needs
+loop-again c =
+    search keeping
 
-returns-2 : tie.Need-returns-2 Inv-loop μ-loop
-returns-2 c = search needs
+returns : tie.Need-returns Inv-loop μ-loop
+returns c =
+    search keeping
 
 pub keep-stack-spec : {M : Type 1} → statement M
 keep-stack-spec =
@@ -52,8 +56,8 @@ keep-stack-spec =
     (tie.spec
     Inv-loop
     μ-loop
+    at-most-requires
     loop-holds
-    returns
     mul-v
     element-copy-out-v
     add-k
@@ -62,4 +66,4 @@ keep-stack-spec =
     add-i
     loop-less
     loop-again
-    returns-2)
+    returns)

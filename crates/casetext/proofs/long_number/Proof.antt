@@ -1,27 +1,29 @@
--- `casetext::long_number` is safe and ends.
+-- `casetext::long_number` meets its contract.
 -- Assumes nothing.
 use borrow.Author.Needs.{needs}
-use Prim.Native.Nat.{_≤_, _-_}
+use Prim.Native.Nat.{_-_}
 use lib.ListN.{length}
+use Rattle.casetext.proofs.Loops.{Longing, longing}
 use Rattle.casetext.proofs.long_number.Statement.{statement}
 use Rattle.casetext.proofs.long_number.Tie as tie
 
 abbrev Inv-loop : tie.InvT-loop
 Inv-loop l from n₀ i₀ n i =
-    i ≤ i
+    Longing l from n i
 
 abbrev μ-loop : tie.MeasureT-loop
 μ-loop l from n₀ i₀ n i =
     length l - i
 
 loop-holds : tie.Need-loop-holds Inv-loop μ-loop
-loop-holds c = search needs
+loop-holds c =
+    search longing
 
 byte-at-requires : tie.Need-byte-at-requires Inv-loop μ-loop
 byte-at-requires c κs = search needs
 
-with-digit-requires : tie.Need-with-digit-requires Inv-loop μ-loop
-with-digit-requires c κs = search needs
+long-digit-requires : tie.Need-long-digit-requires Inv-loop μ-loop
+long-digit-requires c κs = search needs
 
 add-i : tie.Need-add-i Inv-loop μ-loop
 add-i c = search needs
@@ -30,10 +32,12 @@ loop-less : tie.Need-loop-less Inv-loop μ-loop
 loop-less c = search needs
 
 loop-again : tie.Need-loop-again Inv-loop μ-loop
-loop-again c = search needs
+loop-again c =
+    search longing
 
 returns : tie.Need-returns Inv-loop μ-loop
-returns c = search needs
+returns c =
+    search longing
 
 pub long-number-spec : {M : Type 1} → statement M
 long-number-spec =
@@ -43,7 +47,7 @@ long-number-spec =
     μ-loop
     loop-holds
     byte-at-requires
-    with-digit-requires
+    long-digit-requires
     add-i
     loop-less
     loop-again

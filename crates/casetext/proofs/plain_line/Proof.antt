@@ -1,13 +1,15 @@
--- `casetext::plain_line` is safe and ends.
+-- `casetext::plain_line` meets its contract.
 -- Assumes nothing.
 use borrow.Author.Needs.{needs}
-use Prim.Native.Nat.{_≤_, _-_}
+use Prim.Native.Nat.{_-_}
+use Rattle.casefile.specs.Sources.{source}
+use Rattle.casetext.proofs.Loops.{Lining, lining}
 use Rattle.casetext.proofs.plain_line.Statement.{statement}
 use Rattle.casetext.proofs.plain_line.Tie as tie
 
 abbrev Inv-loop : tie.InvT-loop
 Inv-loop l text₀ count size₀ k₀ text size k =
-    k ≤ k
+    Lining l count (source size₀ text₀) text size k
 
 abbrev μ-loop : tie.MeasureT-loop
 μ-loop l text₀ count size₀ k₀ text size k =
@@ -20,7 +22,8 @@ add-field-requires : tie.Need-add-field-requires Inv-loop μ-loop
 add-field-requires c κs = search needs
 
 loop-holds : tie.Need-loop-holds Inv-loop μ-loop
-loop-holds c = search needs
+loop-holds c =
+    search lining
 
 add-byte-requires : tie.Need-add-byte-requires Inv-loop μ-loop
 add-byte-requires c κs = search needs
@@ -35,10 +38,12 @@ loop-less : tie.Need-loop-less Inv-loop μ-loop
 loop-less c = search needs
 
 loop-again : tie.Need-loop-again Inv-loop μ-loop
-loop-again c = search needs
+loop-again c =
+    search lining
 
 returns : tie.Need-returns Inv-loop μ-loop
-returns c = search needs
+returns c =
+    search lining
 
 pub plain-line-spec : {M : Type 1} → statement M
 plain-line-spec =

@@ -1,13 +1,14 @@
--- `casetext::put_bytes` is safe and ends.
+-- `casetext::put_bytes` meets its contract.
 -- Assumes nothing.
 use borrow.Author.Needs.{needs}
-use Prim.Native.Nat.{_≤_, _-_}
+use Prim.Native.Nat.{_-_}
+use Rattle.casetext.proofs.Loops.{Bytes, storingbytes}
 use Rattle.casetext.proofs.put_bytes.Statement.{statement}
 use Rattle.casetext.proofs.put_bytes.Tie as tie
 
 abbrev Inv-loop : tie.InvT-loop
 Inv-loop l at n m₀ count i₀ f₀ m i f =
-    f ≤ f
+    Bytes l count at n m₀ m i f
 
 abbrev μ-loop : tie.MeasureT-loop
 μ-loop l at n m₀ count i₀ f₀ m i f =
@@ -17,19 +18,23 @@ count-fields-requires : tie.Need-count-fields-requires Inv-loop μ-loop
 count-fields-requires c κs = search needs
 
 loop-holds : tie.Need-loop-holds Inv-loop μ-loop
-loop-holds c = search needs
+loop-holds c =
+    search storingbytes
 
 returns : tie.Need-returns Inv-loop μ-loop
-returns c = search needs
+returns c =
+    search storingbytes
 
 returns-2 : tie.Need-returns-2 Inv-loop μ-loop
-returns-2 c = search needs
+returns-2 c =
+    search storingbytes
 
 value-requires : tie.Need-value-requires Inv-loop μ-loop
 value-requires c κs = search needs
 
 returns-3 : tie.Need-returns-3 Inv-loop μ-loop
-returns-3 c = search needs
+returns-3 c =
+    search storingbytes
 
 cast-m : tie.Need-cast-m Inv-loop μ-loop
 cast-m c = search needs
@@ -47,10 +52,12 @@ loop-less : tie.Need-loop-less Inv-loop μ-loop
 loop-less c = search needs
 
 loop-again : tie.Need-loop-again Inv-loop μ-loop
-loop-again c = search needs
+loop-again c =
+    search storingbytes
 
 returns-4 : tie.Need-returns-4 Inv-loop μ-loop
-returns-4 c = search needs
+returns-4 c =
+    search storingbytes
 
 pub put-bytes-spec : {M : Type 1} → statement M
 put-bytes-spec =

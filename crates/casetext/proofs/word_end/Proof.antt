@@ -1,7 +1,7 @@
 -- `casetext::word_end` finds the end of a word.
 -- Assumes nothing.
 use borrow.Author.Needs.{needs}
-use Prim.Native.Nat.{_≤_, _-_}
+use Prim.Native.Nat.{_-_}
 use lib.ListN.{length}
 use Rattle.casetext.proofs.Loops.{Wording, wording}
 use Rattle.casetext.proofs.word_end.Statement.{statement}

@@ -1,0 +1,4 @@
+pub mod Progress
+pub mod Source
+pub mod Views
+pub mod Changes
