@@ -75,7 +75,7 @@ module _ (l : List ℕ) (from end n : ℕ) (p : n ≡ countFields l) where
   unfolding hasValues
   has-all r e f = rw (← p, ← f) (search tests)
 
-pub ruleset hasing = (has-others, has-all)
+pub ruleset has-values = (has-others, has-all)
 
 module _ (n c : ℕ) where
   pub long-low : c < 48 → n ≡ longDigit n c
@@ -335,7 +335,7 @@ module _ (l : List ℕ) (a : Bool) (p : a ≡ hasWord l 2 poke.finished-word) (r
     unfolding pokeState
     poke-running e f = rw (← p, ← p′, ← f) (search tests)
 
-pub ruleset statepokes = (poke-finished, poke-stopped, poke-running)
+pub ruleset state-pokes = (poke-finished, poke-stopped, poke-running)
 
 module _ (l : List ℕ) (r a : Bool) (p : a ≡ hasWord l 2 poke.running-word) where
   pub names-running : a ≡ true → r ≡ hasValues l 3 4 → r ≡ isStatePoke l
@@ -356,7 +356,7 @@ module _ (l : List ℕ) (r a : Bool) (p : a ≡ hasWord l 2 poke.running-word) w
       unfolding isStatePoke
       names-none e = rw (← p, ← p′, ← p″) (search tests)
 
-pub ruleset statenames = (names-running, names-finished, names-stopped, names-none)
+pub ruleset state-names = (names-running, names-finished, names-stopped, names-none)
 
 module _ (l : List ℕ) (a : Bool) (p : a ≡ isStatePoke l) where
   pub changes-state : a ≡ true → true ≡ isRecordPoke l

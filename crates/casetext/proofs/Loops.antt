@@ -180,21 +180,21 @@ module _ (l : List ℕ) (n i : ℕ) where
   unfolding longStep
   long-end h = search tests
 
-pub record Longing (l : List ℕ) (from n i : ℕ) : Type 0 where
+pub record LongReading (l : List ℕ) (from n i : ℕ) : Type 0 where
   pub runs : Runs (longStep l) 0 (longNumber l from) (count n i) (suc (length l - i))
 
-pub longing-start : (l : List ℕ) (from : ℕ) → Longing l from 0 from
+pub long-reading-start : (l : List ℕ) (from : ℕ) → LongReading l from 0 from
 unfolding longNumber
-longing-start l from = record { runs = runs-start _ _ _ _ _ (omega arith) }
+long-reading-start l from = record { runs = runs-start _ _ _ _ _ (omega arith) }
 
 module _ (l : List ℕ) (from n i : ℕ) where
-  pub longing-on : (c m : ℕ) → Longing l from n i → i < length l → c ≡ byteAt l i → m ≡ longDigit n c → Longing l from m (i + 1)
-  longing-on c m h g p e = record { runs = runs-go _ _ _ _ _ (length l - i) _ (h .runs) (sym (long-on l n i c m g p e)) (omega arith) }
+  pub long-reading-on : (c m : ℕ) → LongReading l from n i → i < length l → c ≡ byteAt l i → m ≡ longDigit n c → LongReading l from m (i + 1)
+  long-reading-on c m h g p e = record { runs = runs-go _ _ _ _ _ (length l - i) _ (h .runs) (sym (long-on l n i c m g p e)) (omega arith) }
 
-  pub longing-end : Longing l from n i → length l ≤ i → n ≡ longNumber l from
-  longing-end h g = runs-stop _ _ _ _ _ _ (h .runs) (sym (long-end l n i g))
+  pub long-reading-end : LongReading l from n i → length l ≤ i → n ≡ longNumber l from
+  long-reading-end h g = runs-stop _ _ _ _ _ _ (h .runs) (sym (long-end l n i g))
 
-pub ruleset longing = (longing-start, longing-on, longing-end)
+pub ruleset long-reading = (long-reading-start, long-reading-on, long-reading-end)
 
 -- `add_all`
 next-drop : (s : List ℕ) (i : ℕ) → i < length s → drop i s ≡ getD s i 0 ∷ drop (i + 1) s
@@ -567,4 +567,4 @@ module _ (l : List ℕ) (fields at n : ℕ) (m₀ m : List ℕ) (i f : ℕ) (h :
   pub bytes-end : fields ≤ f → stored (ltb at i) m ≡ bytesStored l at n m₀
   bytes-end g = runs-stop _ _ _ _ _ _ (h .runs) (sym (store-end l fields at n i f m p g))
 
-pub ruleset storingbytes = (bytes-start, bytes-none, bytes-far, bytes-large, bytes-on, bytes-end)
+pub ruleset storing-bytes = (bytes-start, bytes-none, bytes-far, bytes-large, bytes-on, bytes-end)

@@ -1,7 +1,7 @@
 -- `casetext::has_values` meets its contract.
 -- Assumes nothing.
 use borrow.Author.Needs.{needs}
-use Rattle.casetext.proofs.Cases.{hasing}
+use Rattle.casetext.proofs.Cases.{has-values}
 use Rattle.casetext.proofs.has_values.Statement.{statement}
 use Rattle.casetext.proofs.has_values.Tie as tie
 
@@ -10,14 +10,14 @@ count-fields-requires c κs = search needs
 
 returns : tie.Need-returns
 returns c =
-    search hasing
+    search has-values
 
 are-values-requires : tie.Need-are-values-requires
 are-values-requires c κs = search needs
 
 returns-2 : tie.Need-returns-2
 returns-2 c =
-    search hasing
+    search has-values
 
 pub has-values-spec : {M : Type 1} → statement M
 has-values-spec = tie.close (tie.spec count-fields-requires returns are-values-requires returns-2)

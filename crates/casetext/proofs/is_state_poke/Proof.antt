@@ -1,7 +1,7 @@
 -- `casetext::is_state_poke` meets its contract.
 -- Assumes nothing.
 use borrow.Author.Needs.{needs}
-use Rattle.casetext.proofs.Cases.{statenames}
+use Rattle.casetext.proofs.Cases.{state-names}
 use Rattle.casetext.proofs.is_state_poke.Statement.{statement}
 use Rattle.casetext.proofs.is_state_poke.Tie as tie
 
@@ -16,7 +16,7 @@ has-values-requires c κs = search needs
 
 returns : tie.Need-returns
 returns c =
-    search statenames
+    search state-names
 
 slice-aggregate-has-word-2 : tie.Need-slice-aggregate-has-word-2
 slice-aggregate-has-word-2 c = search needs
@@ -29,7 +29,7 @@ has-values-requires-2 c κs = search needs
 
 returns-2 : tie.Need-returns-2
 returns-2 c =
-    search statenames
+    search state-names
 
 slice-aggregate-has-word-3 : tie.Need-slice-aggregate-has-word-3
 slice-aggregate-has-word-3 c = search needs
@@ -42,11 +42,11 @@ has-values-requires-3 c κs = search needs
 
 returns-3 : tie.Need-returns-3
 returns-3 c =
-    search statenames
+    search state-names
 
 returns-4 : tie.Need-returns-4
 returns-4 c =
-    search statenames
+    search state-names
 
 pub is-state-poke-spec : {M : Type 1} → statement M
 is-state-poke-spec =

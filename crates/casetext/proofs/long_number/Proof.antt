@@ -3,13 +3,13 @@
 use borrow.Author.Needs.{needs}
 use Prim.Native.Nat.{_-_}
 use lib.ListN.{length}
-use Rattle.casetext.proofs.Loops.{Longing, longing}
+use Rattle.casetext.proofs.Loops.{LongReading, long-reading}
 use Rattle.casetext.proofs.long_number.Statement.{statement}
 use Rattle.casetext.proofs.long_number.Tie as tie
 
 abbrev Inv-loop : tie.InvT-loop
 Inv-loop l from n₀ i₀ n i =
-    Longing l from n i
+    LongReading l from n i
 
 abbrev μ-loop : tie.MeasureT-loop
 μ-loop l from n₀ i₀ n i =
@@ -17,7 +17,7 @@ abbrev μ-loop : tie.MeasureT-loop
 
 loop-holds : tie.Need-loop-holds Inv-loop μ-loop
 loop-holds c =
-    search longing
+    search long-reading
 
 byte-at-requires : tie.Need-byte-at-requires Inv-loop μ-loop
 byte-at-requires c κs = search needs
@@ -33,11 +33,11 @@ loop-less c = search needs
 
 loop-again : tie.Need-loop-again Inv-loop μ-loop
 loop-again c =
-    search longing
+    search long-reading
 
 returns : tie.Need-returns Inv-loop μ-loop
 returns c =
-    search longing
+    search long-reading
 
 pub long-number-spec : {M : Type 1} → statement M
 long-number-spec =

@@ -1,6 +1,6 @@
 -- `casetext::poke_state` meets its contract.
 -- Assumes nothing.
-use Rattle.casetext.proofs.Cases.{statepokes}
+use Rattle.casetext.proofs.Cases.{state-pokes}
 use borrow.Author.Needs.{needs}
 use Rattle.casetext.proofs.poke_state.Statement.{statement}
 use Rattle.casetext.proofs.poke_state.Tie as tie
@@ -22,7 +22,7 @@ with-state-requires c κs = search needs
 
 returns : tie.Need-returns
 returns c =
-    search statepokes
+    search state-pokes
 
 slice-aggregate-has-word-2 : tie.Need-slice-aggregate-has-word-2
 slice-aggregate-has-word-2 c = search needs
@@ -41,14 +41,14 @@ with-state-requires-2 c κs = search needs
 
 returns-2 : tie.Need-returns-2
 returns-2 c =
-    search statepokes
+    search state-pokes
 
 with-state-requires-3 : tie.Need-with-state-requires-3
 with-state-requires-3 c κs = search needs
 
 returns-3 : tie.Need-returns-3
 returns-3 c =
-    search statepokes
+    search state-pokes
 
 pub poke-state-spec : {M : Type 1} → statement M
 poke-state-spec =

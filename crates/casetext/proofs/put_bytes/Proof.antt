@@ -2,7 +2,7 @@
 -- Assumes nothing.
 use borrow.Author.Needs.{needs}
 use Prim.Native.Nat.{_-_}
-use Rattle.casetext.proofs.Loops.{Bytes, storingbytes}
+use Rattle.casetext.proofs.Loops.{Bytes, storing-bytes}
 use Rattle.casetext.proofs.put_bytes.Statement.{statement}
 use Rattle.casetext.proofs.put_bytes.Tie as tie
 
@@ -19,22 +19,22 @@ count-fields-requires c κs = search needs
 
 loop-holds : tie.Need-loop-holds Inv-loop μ-loop
 loop-holds c =
-    search storingbytes
+    search storing-bytes
 
 returns : tie.Need-returns Inv-loop μ-loop
 returns c =
-    search storingbytes
+    search storing-bytes
 
 returns-2 : tie.Need-returns-2 Inv-loop μ-loop
 returns-2 c =
-    search storingbytes
+    search storing-bytes
 
 value-requires : tie.Need-value-requires Inv-loop μ-loop
 value-requires c κs = search needs
 
 returns-3 : tie.Need-returns-3 Inv-loop μ-loop
 returns-3 c =
-    search storingbytes
+    search storing-bytes
 
 cast-m : tie.Need-cast-m Inv-loop μ-loop
 cast-m c = search needs
@@ -53,11 +53,11 @@ loop-less c = search needs
 
 loop-again : tie.Need-loop-again Inv-loop μ-loop
 loop-again c =
-    search storingbytes
+    search storing-bytes
 
 returns-4 : tie.Need-returns-4 Inv-loop μ-loop
 returns-4 c =
-    search storingbytes
+    search storing-bytes
 
 pub put-bytes-spec : {M : Type 1} → statement M
 put-bytes-spec =
