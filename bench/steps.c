@@ -2,7 +2,8 @@
  * Runs `bench` of a file of rules on the proved runner and on the hand-written interpreter of plain.c, and compares their
  * answers, counts, stacks and memories:
  *
- *     steps FILE N     prints the word, the steps, and nanoseconds a step of each (best of 3, processor time)
+ *     steps FILE N     prints the word, the steps, and nanoseconds a step of the runner, of the interpreter, and of the
+ *                      interpreter without the tests for 35 (best of 3 or more, processor time)
  */
 #define _POSIX_C_SOURCE 200809L
 #include "plain.h"
@@ -72,7 +73,12 @@ static double proved(uint32_t n, uint64_t *count)
     return seconds() - before;
 }
 
-static double plain(uint32_t function, uint32_t n, struct run *r, uint64_t *count)
+typedef uint64_t plain_runner(const struct program *p, struct run *r, uint64_t budget);
+
+/* plain.c without the tests for 35 */
+plain_runner plain_run_untested;
+
+static double plain(plain_runner *run, uint32_t function, uint32_t n, struct run *r, uint64_t *count)
 {
     struct program p = {statements, checked[VOODOO_STATEMENTS], checked[VOODOO_DATA]};
     r->stack = stack[1];
@@ -82,7 +88,7 @@ static double plain(uint32_t function, uint32_t n, struct run *r, uint64_t *coun
     memcpy(memory[1], data, checked[VOODOO_DATA]);
     plain_start(&p, r, function, &n);
     double before = seconds();
-    *count = plain_run(&p, r, UINT64_MAX);
+    *count = run(&p, r, UINT64_MAX);
     return seconds() - before;
 }
 
@@ -101,20 +107,23 @@ int main(int count, char **words)
         fail("usage: steps FILE N");
     check(words[1]);
     uint32_t n = (uint32_t)strtoul(words[2], NULL, 10);
-    double best[2] = {1e9, 1e9};
+    double best[3] = {1e9, 1e9, 1e9};
     for (int i = 0; i < RUNS; i++) {
-        uint64_t steps[2];
-        struct run r;
-        memset(memory, 0, sizeof memory);
-        memset(stack, 0, sizeof stack);
-        double a = proved(n, &steps[0]), b = plain(exported(), n, &r, &steps[1]);
-        if (steps[0] != steps[1] || r.state != PLAIN_FINISHED || r.value != result[VOODOO_WORD] ||
-            memcmp(stack[0], stack[1], sizeof stack[0]) != 0 || memcmp(memory[0], memory[1], sizeof memory[0]) != 0)
-            fail("the two differ");
-        best[0] = a / (double)steps[0] < best[0] ? a / (double)steps[0] : best[0];
-        best[1] = b / (double)steps[1] < best[1] ? b / (double)steps[1] : best[1];
+        for (int way = 1; way <= 2; way++) {
+            uint64_t steps[2];
+            struct run r;
+            memset(memory, 0, sizeof memory);
+            memset(stack, 0, sizeof stack);
+            double a = proved(n, &steps[0]);
+            double b = plain(way == 1 ? plain_run : plain_run_untested, exported(), n, &r, &steps[1]);
+            if (steps[0] != steps[1] || r.state != PLAIN_FINISHED || r.value != result[VOODOO_WORD] ||
+                memcmp(stack[0], stack[1], sizeof stack[0]) != 0 || memcmp(memory[0], memory[1], sizeof memory[0]) != 0)
+                fail("the two differ");
+            best[0] = a / (double)steps[0] < best[0] ? a / (double)steps[0] : best[0];
+            best[way] = b / (double)steps[1] < best[way] ? b / (double)steps[1] : best[way];
+        }
     }
-    printf("%u %llu %.2f %.2f\n", (unsigned)result[VOODOO_WORD], (unsigned long long)voodoo_count(result), best[0] * 1e9,
-           best[1] * 1e9);
+    printf("%u %llu %.2f %.2f %.2f\n", (unsigned)result[VOODOO_WORD], (unsigned long long)voodoo_count(result), best[0] * 1e9,
+           best[1] * 1e9, best[2] * 1e9);
     return 0;
 }
