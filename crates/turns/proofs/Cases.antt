@@ -20,7 +20,7 @@ use Rattle.fast.specs.Fast.{goodRead, goodWork, sizeOf}
 use Rattle.tables.proofs.Ranges.{one-more}
 use Rattle.turns.specs.declared.Turn.{Turn}
 use Rattle.turns.specs.declared.Turn.the-variants.{To, Stays}
-use Rattle.turns.specs.Turns.{Turned, turned, goodFrom, calleeSize, callsLocal, callsAny, callGood, goodAll, pushed, enteredBy, entered, callTurn, resultOf, landed, handTo, handTurn, returnBy, returnTurn, turnOf}
+use Rattle.turns.specs.Turns.{Turned, turned, goodFrom, calleeSize, callsLocal, callsAny, callGood, goodAll, pushed, enteredBy, entered, callTurn, tailTurn, resultOf, landed, handTo, handTurn, returnBy, returnTurn, turnOf}
 
 -- ---- operands
 
@@ -159,50 +159,64 @@ pub ruleset call-tests = (call-many, call-none, call-other, call-local)
 
 -- ---- calls
 
-pub push-built : (st st′ : List ℕ) (s used n top p z : ℕ) (vs : List ℕ) → st′ ≡ storeFrom st used (frameWords n s top vs z)
-    → turned (To (p + 1) used (used + z) top) st′ ≡ pushed st s used n top p z vs
+pub push-built : (st st′ : List ℕ) (at call below top p z : ℕ) (vs : List ℕ) → st′ ≡ storeFrom st at (frameWords call below top vs z)
+    → turned (To (p + 1) at (at + z) top) st′ ≡ pushed st at call below top p z vs
 unfolding pushed
-push-built st st′ s used n top p z vs e =
-    ap (λ (i : ℕ). turned (To i used (used + z) top) st′) (one-more p) ∙ ap (λ (y : List ℕ). turned (To (suc p) used (used + z) top) y) e
+push-built st st′ at call below top p z vs e =
+    ap (λ (i : ℕ). turned (To i at (at + z) top) st′) (one-more p) ∙ ap (λ (y : List ℕ). turned (To (suc p) at (at + z) top) y) e
 
-module _ (t : List ℕ) (d size : ℕ) (st : List ℕ) (s used : ℕ) (m : List ℕ) (n top p k z : ℕ) where
-  pub enter-full : length st < used + z → turned Stays st ≡ entered t d size st s used m n top p k z
+module _ (t : List ℕ) (d size : ℕ) (st : List ℕ) (s : ℕ) (m : List ℕ) (n at call below top p k z : ℕ) where
+  pub enter-full : length st < at + z → turned Stays st ≡ entered t d size st s m n at call below top p k z
   unfolding entered ifLt
-  enter-full l = rw (lt-ltb (length st) (used + z) l)
+  enter-full l = rw (lt-ltb (length st) (at + z) l)
 
-  module _ (b : Bool) (ws : List ℕ) (l : used + z ≤ length st) (e : wordsIn b ws k ≡ goodAll size d st s m (take k (slots t (n * 27)))) where
-    pub enter-bad : b ≡ false → turned Stays st ≡ entered t d size st s used m n top p k z
+  module _ (b : Bool) (ws : List ℕ) (l : at + z ≤ length st) (e : wordsIn b ws k ≡ goodAll size d st s m (take k (slots t (n * 27)))) where
+    pub enter-bad : b ≡ false → turned Stays st ≡ entered t d size st s m n at call below top p k z
     unfolding entered enteredBy ifLt ifTrue
-    enter-bad h = rw (le-ltb (length st) (used + z) l, ← e, h)
+    enter-bad h = rw (le-ltb (length st) (at + z) l, ← e, h)
 
-    pub enter-pushed : (r : Turn) (st′ : List ℕ) → b ≡ true → turned r st′ ≡ pushed st s used n top p z (take (k - 0) ws) → turned r st′ ≡ entered t d size st s used m n top p k z
+    pub enter-pushed : (r : Turn) (st′ : List ℕ) → b ≡ true → turned r st′ ≡ pushed st at call below top p z (take (k - 0) ws)
+        → turned r st′ ≡ entered t d size st s m n at call below top p k z
     unfolding entered enteredBy ifLt ifTrue
     enter-pushed r st′ h q =
         let y : k - 0 ≡ k = omega arith in
-        rw (le-ltb (length st) (used + z) l, ← e, h) (q ∙ ap (λ (i : ℕ). pushed st s used n top p z (take i ws)) y)
+        rw (le-ltb (length st) (at + z) l, ← e, h) (q ∙ ap (λ (i : ℕ). pushed st at call below top p z (take i ws)) y)
 
 pub ruleset entering = (enter-full, enter-bad, enter-pushed)
 
-module _ (t : List ℕ) (c d size : ℕ) (st : List ℕ) (s used : ℕ) (m : List ℕ) (n top k : ℕ) (e : k ≡ rowAt t n .count) where
-  pub turn-many : 8 < k → turned Stays st ≡ callTurn t c d size st s used m n top
+module _ (t : List ℕ) (c d size : ℕ) (st : List ℕ) (s : ℕ) (m : List ℕ) (n at call below top k : ℕ) (e : k ≡ rowAt t n .count) where
+  pub turn-many : 8 < k → turned Stays st ≡ callTurn t c d size st s m n at call below top
   unfolding callTurn ifLt
   turn-many l = rw (← e, lt-ltb 8 k l)
 
   module _ (p : ℕ) (l : k ≤ 8) (g : p ≡ rowAt t n .callee) where
-    pub turn-past : c ≤ p → turned Stays st ≡ callTurn t c d size st s used m n top
+    pub turn-past : c ≤ p → turned Stays st ≡ callTurn t c d size st s m n at call below top
     unfolding callTurn ifLt
     turn-past h = rw (← e, le-ltb 8 k l, ← g, le-ltb p c h)
 
     module _ (z : ℕ) (h : p < c) (i : z ≡ calleeSize (rowAt t) c p k) where
-      pub turn-none : z ≡ 0 → turned Stays st ≡ callTurn t c d size st s used m n top
+      pub turn-none : z ≡ 0 → turned Stays st ≡ callTurn t c d size st s m n at call below top
       unfolding callTurn ifLt ifEq
       turn-none q = rw (← e, le-ltb 8 k l, ← g, lt-ltb p c h, ← i, q)
 
-      pub turn-enters : (r : Turn) (st′ : List ℕ) → (z ≡ 0 → ⊥) → turned r st′ ≡ entered t d size st s used m n top p k z → turned r st′ ≡ callTurn t c d size st s used m n top
+      pub turn-enters : (r : Turn) (st′ : List ℕ) → (z ≡ 0 → ⊥) → turned r st′ ≡ entered t d size st s m n at call below top p k z
+          → turned r st′ ≡ callTurn t c d size st s m n at call below top
       unfolding callTurn ifLt ifEq
       turn-enters r st′ q o = rw (← e, le-ltb 8 k l, ← g, lt-ltb p c h, ← i, ne-eqb z 0 q) o
 
 pub ruleset calling = (turn-many, turn-past, turn-none, turn-enters)
+
+module _ (t : List ℕ) (c d size : ℕ) (st : List ℕ) (s : ℕ) (m : List ℕ) (n top : ℕ) (h : top ≡ getD st (s + 2) 0) where
+  pub tail-high : length m < top → turned Stays st ≡ tailTurn t c d size st s m n
+  unfolding tailTurn ifLt
+  tail-high l = rw (← h, lt-ltb (length m) top l)
+
+  pub tail-calls : (call below : ℕ) (r : Turn) (st′ : List ℕ) → call ≡ getD st s 0 → below ≡ getD st (s + 1) 0 → top ≤ length m
+      → turned r st′ ≡ callTurn t c d size st s m n s call below top → turned r st′ ≡ tailTurn t c d size st s m n
+  unfolding tailTurn ifLt
+  tail-calls call below r st′ e g l q = rw (← h, le-ltb (length m) top l, ← e, ← g) q
+
+pub ruleset tailing = (tail-high, tail-calls)
 
 -- ---- returns
 
@@ -294,12 +308,17 @@ module _ (t : List ℕ) (c g d size : ℕ) (st : List ℕ) (s used : ℕ) (m : L
     turn-other h = rw (lt-ltb n c l, ← e, ne-eqb own g h)
 
     module _ (b : Bool) (r : Turn) (st′ : List ℕ) (h : own ≡ g) (q : b ≡ callsAny (rowAt t) size n) where
-      pub turn-call : b ≡ true → turned r st′ ≡ callTurn t c d size st s used m n top → turned r st′ ≡ turnOf t c g d size st s used m n top
+      pub turn-call : b ≡ true → turned r st′ ≡ callTurn t c d size st s m n used n s top → turned r st′ ≡ turnOf t c g d size st s used m n top
       unfolding turnOf ifLt ifEq ifTrue
       turn-call z o = rw (lt-ltb n c l, ← e, eq-eqb own g h, ← q, z) o
 
-      pub turn-back : b ≡ false → turned r st′ ≡ returnTurn t c d size st s m n top → turned r st′ ≡ turnOf t c g d size st s used m n top
-      unfolding turnOf ifLt ifEq ifTrue
-      turn-back z o = rw (lt-ltb n c l, ← e, eq-eqb own g h, ← q, z) o
+      module _ (k : ℕ) (z : b ≡ false) (i : k ≡ rowAt t n .kind) where
+        pub turn-tail : k ≡ 12 → turned r st′ ≡ tailTurn t c d size st s m n → turned r st′ ≡ turnOf t c g d size st s used m n top
+        unfolding turnOf ifLt ifEq ifTrue
+        turn-tail j o = rw (lt-ltb n c l, ← e, eq-eqb own g h, ← q, z, ← i, eq-eqb k 12 j) o
 
-pub ruleset turning = (turn-beyond, turn-other, turn-call, turn-back)
+        pub turn-back : (k ≡ 12 → ⊥) → turned r st′ ≡ returnTurn t c d size st s m n top → turned r st′ ≡ turnOf t c g d size st s used m n top
+        unfolding turnOf ifLt ifEq ifTrue
+        turn-back j o = rw (lt-ltb n c l, ← e, eq-eqb own g h, ← q, z, ← i, ne-eqb k 12 j) o
+
+pub ruleset turning = (turn-beyond, turn-other, turn-call, turn-tail, turn-back)

@@ -22,7 +22,7 @@ use Rattle.machine.specs.Operands as machine
 use Rattle.machine.specs.Operands.{Words, bad, withWord, readAll, onRead}
 use Rattle.machine.specs.Expressions.{evalOf}
 use Rattle.machine.specs.Frames.{mark, frameWords, isFirst, isReturnCall, isReturn, isCalling, calledFrom, headGood, passesOn, leavesGood, rowsLeft, landingOf}
-use Rattle.machine.specs.Step.{Effect, leaves, movedTo, argumentsOf, callBy, callOf, handedTo, handedBy, returned, returnOf, workedOf, effectOf}
+use Rattle.machine.specs.Step.{Effect, leaves, movedTo, argumentsOf, callBy, callOf, tailCallBy, handedTo, handedBy, returned, returnOf, workedOf, effectOf}
 use Rattle.machine.specs.Lent.{world}
 use Rattle.machine.specs.declared.Landing.the-variants.{Lands}
 use Rattle.machine.specs.declared.Broken.the-variants.{No}
@@ -39,7 +39,7 @@ use Rattle.stretch.proofs.Right.{Held}
 use Rattle.stretch.proofs.Unbroken.{frame-fine, record-fine, call-fine, return-fine}
 use Rattle.turns.specs.declared.Turn.{Turn}
 use Rattle.turns.specs.declared.Turn.the-variants.{To, Stays}
-use Rattle.turns.specs.Turns.{Turned, turned, goodFrom, calleeSize, callsLocal, callsAny, callGood, goodAll, pushed, enteredBy, entered, callTurn, resultOf, landed, handTo, handTurn, returnBy, returnTurn, turnOf}
+use Rattle.turns.specs.Turns.{Turned, turned, goodFrom, calleeSize, callsLocal, callsAny, callGood, goodAll, pushed, enteredBy, entered, callTurn, tailTurn, resultOf, landed, handTo, handTurn, returnBy, returnTurn, turnOf}
 use Rattle.tables.proofs.Each.{both-false}
 
 -- ---- operands
@@ -100,17 +100,109 @@ module _ (t : List ℕ) (c d n size : ℕ) (sized : sizeAt (rowAt t) c n ≡ siz
     words : wordFault (rowAt t) c n ≡ false
     address : addressFault (rowAt t) c d n ≡ false
     calls : isCall (row .kind) (row .expr) ≡ true
-    calling : isCalling row ≡ true
     used : usedBy (row .kind) (row .expr) (row .count) ≡ row .count
     line : eqb (row .kind) 1 ≡ false
     block : eqb (row .kind) 4 ≡ false
     at : eqb (row .kind) 7 ≡ false
-    tail : eqb (row .kind) 12 ≡ false
     returns : isReturn row ≡ false
 
-  row-11 : row .kind ≡ 11 → CallRow
+  -- one to which a value is handed back
+  record Calling : Type 0 where
+    call : CallRow
+    calling : isCalling row ≡ true
+    tail : eqb (row .kind) 12 ≡ false
+
+  row-11 : row .kind ≡ 11 → Calling
   unfolding kindFault targetFault hasTarget sizeFault wordFault addressFault isListed hasExpression isTest isCall isReturn isCalling hasWord usedBy ifLt ifEq ifTrue
   row-11 q =
+      record {
+        call =
+            record {
+              kinds = rw q;
+              targets = rw q;
+              sizes = rw q;
+              words = rw q;
+              address = rw q;
+              calls = rw q;
+              used = rw q;
+              line = rw q;
+              block = rw q;
+              at = rw q;
+              returns = rw q;
+            };
+        calling = rw q;
+        tail = rw q;
+      }
+
+  row-5 : row .kind ≡ 5 → row .expr ≡ 2 → row .a < size → Calling
+  unfolding kindFault targetFault hasTarget sizeFault wordFault addressFault isListed hasExpression expressionListed expressionUses isTest isCall isReturn isCalling hasWord ownWord usedBy ifLt ifEq ifTrue
+  row-5 q e l =
+      record {
+        call =
+            record {
+              kinds = rw (q, e);
+              targets = rw q;
+              sizes = rw q;
+              words = rw (q, sized) (lt-leb size (row .a) l);
+              address = rw q;
+              calls = rw (q, e);
+              used = rw (q, e);
+              line = rw q;
+              block = rw q;
+              at = rw q;
+              returns = rw q;
+            };
+        calling = rw (q, e);
+        tail = rw q;
+      }
+
+  row-6 : row .kind ≡ 6 → row .expr ≡ 2 → row .a < size → Calling
+  unfolding kindFault targetFault hasTarget sizeFault wordFault addressFault isListed hasExpression expressionListed expressionUses isTest isCall isReturn isCalling hasWord ownWord usedBy ifLt ifEq ifTrue
+  row-6 q e l =
+      record {
+        call =
+            record {
+              kinds = rw (q, e);
+              targets = rw q;
+              sizes = rw q;
+              words = rw (q, sized) (lt-leb size (row .a) l);
+              address = rw q;
+              calls = rw (q, e);
+              used = rw (q, e);
+              line = rw q;
+              block = rw q;
+              at = rw q;
+              returns = rw q;
+            };
+        calling = rw (q, e);
+        tail = rw q;
+      }
+
+  row-13 : row .kind ≡ 13 → row .expr ≡ 2 → Calling
+  unfolding kindFault targetFault hasTarget sizeFault wordFault addressFault isListed hasExpression expressionListed expressionUses isTest isCall isReturn isCalling hasWord ownWord usedBy ifLt ifEq ifTrue
+  row-13 q e =
+      record {
+        call =
+            record {
+              kinds = rw (q, e);
+              targets = rw q;
+              sizes = rw q;
+              words = rw q;
+              address = rw q;
+              calls = rw (q, e);
+              used = rw (q, e);
+              line = rw q;
+              block = rw q;
+              at = rw q;
+              returns = rw (q, e);
+            };
+        calling = rw (q, e);
+        tail = rw q;
+      }
+
+  row-12 : row .kind ≡ 12 → CallRow
+  unfolding kindFault targetFault hasTarget sizeFault wordFault addressFault isListed hasExpression isTest isCall isReturn isCalling hasWord usedBy ifLt ifEq ifTrue
+  row-12 q =
       record {
         kinds = rw q;
         targets = rw q;
@@ -118,75 +210,16 @@ module _ (t : List ℕ) (c d n size : ℕ) (sized : sizeAt (rowAt t) c n ≡ siz
         words = rw q;
         address = rw q;
         calls = rw q;
-        calling = rw q;
         used = rw q;
         line = rw q;
         block = rw q;
         at = rw q;
-        tail = rw q;
         returns = rw q;
-      }
-
-  row-5 : row .kind ≡ 5 → row .expr ≡ 2 → row .a < size → CallRow
-  unfolding kindFault targetFault hasTarget sizeFault wordFault addressFault isListed hasExpression expressionListed expressionUses isTest isCall isReturn isCalling hasWord ownWord usedBy ifLt ifEq ifTrue
-  row-5 q e l =
-      record {
-        kinds = rw (q, e);
-        targets = rw q;
-        sizes = rw q;
-        words = rw (q, sized) (lt-leb size (row .a) l);
-        address = rw q;
-        calls = rw (q, e);
-        calling = rw (q, e);
-        used = rw (q, e);
-        line = rw q;
-        block = rw q;
-        at = rw q;
-        tail = rw q;
-        returns = rw q;
-      }
-
-  row-6 : row .kind ≡ 6 → row .expr ≡ 2 → row .a < size → CallRow
-  unfolding kindFault targetFault hasTarget sizeFault wordFault addressFault isListed hasExpression expressionListed expressionUses isTest isCall isReturn isCalling hasWord ownWord usedBy ifLt ifEq ifTrue
-  row-6 q e l =
-      record {
-        kinds = rw (q, e);
-        targets = rw q;
-        sizes = rw q;
-        words = rw (q, sized) (lt-leb size (row .a) l);
-        address = rw q;
-        calls = rw (q, e);
-        calling = rw (q, e);
-        used = rw (q, e);
-        line = rw q;
-        block = rw q;
-        at = rw q;
-        tail = rw q;
-        returns = rw q;
-      }
-
-  row-13 : row .kind ≡ 13 → row .expr ≡ 2 → CallRow
-  unfolding kindFault targetFault hasTarget sizeFault wordFault addressFault isListed hasExpression expressionListed expressionUses isTest isCall isReturn isCalling hasWord ownWord usedBy ifLt ifEq ifTrue
-  row-13 q e =
-      record {
-        kinds = rw (q, e);
-        targets = rw q;
-        sizes = rw q;
-        words = rw q;
-        address = rw q;
-        calls = rw (q, e);
-        calling = rw (q, e);
-        used = rw (q, e);
-        line = rw q;
-        block = rw q;
-        at = rw q;
-        tail = rw q;
-        returns = rw (q, e);
       }
 
   -- a row to which a value is handed in its own frame
   record LocalRow : Type 0 where
-    call : CallRow
+    call : Calling
     stays : eqb (row .kind) 13 ≡ false
 
   local-row : callsLocal (rowAt t) size n ≡ true → LocalRow
@@ -201,10 +234,10 @@ module _ (t : List ℕ) (c d n size : ℕ) (sized : sizeAt (rowAt t) c n ≡ siz
       (λ n6 e. true-false (sym e))))
       (λ x e. true-false (sym e)))
 
-  any-row : callsAny (rowAt t) size n ≡ true → CallRow
+  any-row : callsAny (rowAt t) size n ≡ true → Calling
   unfolding callsAny
   any-row =
-      either-eq (λ (b : Bool). b ≡ true → CallRow) (row .kind) 13 (eqb (row .expr) 2) (callsLocal (rowAt t) size n) (λ q e. row-13 q (eqb-true (row .expr) 2 e))
+      either-eq (λ (b : Bool). b ≡ true → Calling) (row .kind) 13 (eqb (row .expr) 2) (callsLocal (rowAt t) size n) (λ q e. row-13 q (eqb-true (row .expr) 2 e))
       (λ q e. local-row e .call)
 
   operands-are : CallRow → row .operands ≡ take (row .count) (slots t (n * 27))
@@ -239,10 +272,10 @@ handed t c d size p sized =
     made l q x e =
         record {
           good =
-              call-good t c d p size sized _ (x .call) l (callee-good (rowAt t) c (rowAt t p .callee) (rowAt t p .count) _ q refl)
+              call-good t c d p size sized _ (x .call .call) l (callee-good (rowAt t) c (rowAt t p .callee) (rowAt t p .count) _ q refl)
               (from-good t (p * 27) size d (rowAt t p .count) 0 (rowAt t p .count) (omega arith) l e);
           calling = x .call .calling;
-          at = x .call .at;
+          at = x .call .call .at;
           stays = x .stays;
         }
 
@@ -281,39 +314,65 @@ module _ (t : List ℕ) (c g d size : ℕ) (r : Machine) (st m : List ℕ) where
 
     -- ---- calls
 
-    went-call : CallRow t c d n size sized → here .count ≤ 8 → (z : ℕ) → Callee (rowAt t) c (here .callee) (here .count) z → (vs : List ℕ)
+    went-call : Calling t c d n size sized → here .count ≤ 8 → (z : ℕ) → Callee (rowAt t) c (here .callee) (here .count) z → (vs : List ℕ)
         → Each size d st s m (take (here .count) (slots t (n * 27))) vs → r .used + z ≤ length st
         → Moved (suc (here .callee)) (r .used) (r .used + z) (r .top) (storeFrom st (r .used) (frameWords n s (r .top) vs z))
     unfolding effectOf callOf callBy argumentsOf ifTrue ifEq ifLt
-    went-call x l z e vs o b =
+    went-call w l z e vs o b =
+        let x = w .call in
         record {
           fine =
               call-fine t c g d size r st m h below own (x .line) (call-good t c d n size sized z x l e (o .good)) (x .calls) (e .function .below)
               (function-good t c (here .callee) z (e .function) d) (x .returns)
-              (record-fine t c g d size r st m h below own (rw (x .block)) (rw (x .tail)) (rw (x .returns)));
-          effect = rw (x .calling, x .at, operands-are t c d n size sized x, o .all, e .function .words, le-ltb _ _ b);
+              (record-fine t c g d size r st m h below own (rw (x .block)) (rw (w .tail)) (rw (x .returns)));
+          effect = rw (w .calling, x .at, operands-are t c d n size sized x, o .all, e .function .words, le-ltb _ _ b);
           stack = store-length st (r .used) _;
         }
 
-    right-entered : CallRow t c d n size sized → here .count ≤ 8 → (z : ℕ) → Callee (rowAt t) c (here .callee) (here .count) z
-        → Right (entered t d size st s (r .used) m n (r .top) (here .callee) (here .count) z)
-    unfolding entered enteredBy pushed RightBy
-    right-entered x l z e =
-        either Right (length st) (r .used + z) (turned Stays st) _ (λ b. same) (λ b. by b (goodAll size d st s m (take (here .count) (slots t (n * 27)))) refl)
-      where
-        by : r .used + z ≤ length st → (w : Words) → goodAll size d st s m (take (here .count) (slots t (n * 27))) ≡ w
-            → Right (enteredBy t d size st s (r .used) m n (r .top) (here .callee) (here .count) z w)
-        by b (machine.words vs) q = went-call x l z e vs (each-good size d st s m (take (here .count) (slots t (n * 27))) vs q) b
-        by b bad q = same
+    went-tail : here .kind ≡ 12 → getD st (s + 2) 0 ≤ length m → here .count ≤ 8 → (z : ℕ) → Callee (rowAt t) c (here .callee) (here .count) z → (vs : List ℕ)
+        → Each size d st s m (take (here .count) (slots t (n * 27))) vs → s + z ≤ length st
+        → Moved (suc (here .callee)) s (s + z) (getD st (s + 2) 0) (storeFrom st s (frameWords (getD st s 0) (getD st (s + 1) 0) (getD st (s + 2) 0) vs z))
+    unfolding effectOf tailCallBy argumentsOf isCalling isReturn isTest hasExpression ifTrue ifEq ifLt
+    went-tail q k l z e vs o b =
+        let x = row-12 t c d n size sized q in
+        record {
+          fine =
+              call-fine t c g d size r st m h below own (x .line) (call-good t c d n size sized z x l e (o .good)) (x .calls) (e .function .below)
+              (function-good t c (here .callee) z (e .function) d) (x .returns)
+              (record-fine t c g d size r st m h below own (rw (x .block)) (rw (q, le-leb _ _ k)) (rw (x .returns)));
+          effect = rw (operands-are t c d n size sized x, q, o .all, e .function .words, le-ltb _ _ b);
+          stack = store-length st s _;
+        }
 
-    right-call : CallRow t c d n size sized → Right (callTurn t c d size st s (r .used) m n (r .top))
-    unfolding callTurn
-    right-call x =
-        either Right 8 (here .count) (turned Stays st) _ (λ l. same)
-        (λ l. either Right (here .callee) c _ (turned Stays st)
-        (λ p. either-eq Right (calleeSize (rowAt t) c (here .callee) (here .count)) 0 (turned Stays st) _ (λ q. same)
-        (λ q. right-entered x l _ (callee-good (rowAt t) c (here .callee) (here .count) _ q refl)))
-        (λ p. same))
+    -- a call whose new frame starts at a place
+    module _ (at call under top : ℕ)
+        (go : here .count ≤ 8 → (z : ℕ) → Callee (rowAt t) c (here .callee) (here .count) z → (vs : List ℕ) → Each size d st s m (take (here .count) (slots t (n * 27))) vs
+        → at + z ≤ length st → Moved (suc (here .callee)) at (at + z) top (storeFrom st at (frameWords call under top vs z))) where
+      right-entered : here .count ≤ 8 → (z : ℕ) → Callee (rowAt t) c (here .callee) (here .count) z
+          → Right (entered t d size st s m n at call under top (here .callee) (here .count) z)
+      unfolding entered enteredBy pushed RightBy
+      right-entered l z e =
+          either Right (length st) (at + z) (turned Stays st) _ (λ b. same) (λ b. by b (goodAll size d st s m (take (here .count) (slots t (n * 27)))) refl)
+        where
+          by : at + z ≤ length st → (w : Words) → goodAll size d st s m (take (here .count) (slots t (n * 27))) ≡ w
+              → Right (enteredBy t d size st s m n at call under top (here .callee) (here .count) z w)
+          by b (machine.words vs) q = go l z e vs (each-good size d st s m (take (here .count) (slots t (n * 27))) vs q) b
+          by b bad q = same
+
+      right-call : Right (callTurn t c d size st s m n at call under top)
+      unfolding callTurn
+      right-call =
+          either Right 8 (here .count) (turned Stays st) _ (λ l. same)
+          (λ l. either Right (here .callee) c _ (turned Stays st)
+          (λ p. either-eq Right (calleeSize (rowAt t) c (here .callee) (here .count)) 0 (turned Stays st) _ (λ q. same)
+          (λ q. right-entered l _ (callee-good (rowAt t) c (here .callee) (here .count) _ q refl)))
+          (λ p. same))
+
+    right-tail : here .kind ≡ 12 → Right (tailTurn t c d size st s m n)
+    unfolding tailTurn
+    right-tail q =
+        either Right (length m) (getD st (s + 2) 0) (turned Stays st) _ (λ l. same)
+        (λ l. right-call s (getD st s 0) (getD st (s + 1) 0) (getD st (s + 2) 0) (went-tail q l))
 
     -- ---- returns
 
@@ -467,5 +526,8 @@ module _ (t : List ℕ) (c g d size : ℕ) (r : Machine) (st m : List ℕ) where
   right-turn small h =
       either Right n c _ (turned Stays st)
       (λ l. either-eq Right (here .func) g _ (turned Stays st)
-      (λ e. either-true Right (callsAny (rowAt t) size n) _ _ (λ q. right-call h l e (any-row t c d n size (sized h l e) q)) (λ q. right-return h l e small)) (λ e. same))
+      (λ e. either-true Right (callsAny (rowAt t) size n) _ _
+      (λ q. right-call h l e (r .used) n s (r .top) (went-call h l e (any-row t c d n size (sized h l e) q)))
+      (λ q. either-eq Right (here .kind) 12 _ _ (λ k. right-tail h l e k) (λ k. right-return h l e small)))
+      (λ e. same))
       (λ l. same)

@@ -62,27 +62,33 @@ callGood t c d size p =
 abbrev pub goodAll : ℕ → ℕ → List ℕ → ℕ → List ℕ → List Operand → Words
 goodAll size d st s m os = readEach (goodRead size d st s m) os
 
--- a new frame of z words for function p behind the words in use
+-- a new frame of z words for function p at a place: with the place to return to and the start of the caller's frame
 unfoldable pub pushed : List ℕ → ℕ → ℕ → ℕ → ℕ → ℕ → ℕ → List ℕ → Turned
-pushed st s used n top p z vs = turned (To (suc p) used (used + z) top) (storeFrom st used (frameWords n s top vs z))
+pushed st at call below top p z vs = turned (To (suc p) at (at + z) top) (storeFrom st at (frameWords call below top vs z))
 
-module _ (t : List ℕ) (d size : ℕ) (st : List ℕ) (s used : ℕ) (m : List ℕ) (n top p k z : ℕ) where
+module _ (t : List ℕ) (d size : ℕ) (st : List ℕ) (s : ℕ) (m : List ℕ) (n at call below top p k z : ℕ) where
   unfoldable pub enteredBy : Words → Turned
-  enteredBy (words vs) = pushed st s used n top p z vs
+  enteredBy (words vs) = pushed st at call below top p z vs
   enteredBy bad = turned Stays st
 
-  -- the call at row n with k arguments to function p, whose frame has z words
+  -- row n calls function p with k arguments; the new frame of z words starts at a place
   unfoldable pub entered : Turned
-  entered = ifLt (length st) (used + z) (turned Stays st) (enteredBy (goodAll size d st s m (take k (slots t (n * 27)))))
+  entered = ifLt (length st) (at + z) (turned Stays st) (enteredBy (goodAll size d st s m (take k (slots t (n * 27)))))
 
--- the call at row n
-unfoldable pub callTurn : List ℕ → ℕ → ℕ → ℕ → List ℕ → ℕ → ℕ → List ℕ → ℕ → ℕ → Turned
-callTurn t c d size st s used m n top =
+-- row n calls its function, whose frame starts at a place
+unfoldable pub callTurn : List ℕ → ℕ → ℕ → ℕ → List ℕ → ℕ → List ℕ → ℕ → ℕ → ℕ → ℕ → ℕ → Turned
+callTurn t c d size st s m n at call below top =
     ifLt 8 (rowAt t n .count) (turned Stays st)
     (ifLt (rowAt t n .callee) c
     (ifEq (calleeSize (rowAt t) c (rowAt t n .callee) (rowAt t n .count)) 0 (turned Stays st)
-    (entered t d size st s used m n top (rowAt t n .callee) (rowAt t n .count) (calleeSize (rowAt t) c (rowAt t n .callee) (rowAt t n .count))))
+    (entered t d size st s m n at call below top (rowAt t n .callee) (rowAt t n .count) (calleeSize (rowAt t) c (rowAt t n .callee) (rowAt t n .count))))
     (turned Stays st))
+
+-- `tail-call` at row n: the new frame has the head of the frame in use, and its auto top of entry is restored
+unfoldable pub tailTurn : List ℕ → ℕ → ℕ → ℕ → List ℕ → ℕ → List ℕ → ℕ → Turned
+tailTurn t c d size st s m n =
+    ifLt (length m) (getD st (s + 2) 0) (turned Stays st)
+    (callTurn t c d size st s m n s (getD st s 0) (getD st (s + 1) 0) (getD st (s + 2) 0))
 
 -- ---- returns
 
@@ -126,6 +132,7 @@ unfoldable pub turnOf : List ℕ → ℕ → ℕ → ℕ → ℕ → List ℕ �
 turnOf t c g d size st s used m n top =
     ifLt n c
     (ifEq (rowAt t n .func) g
-    (ifTrue (callsAny (rowAt t) size n) (callTurn t c d size st s used m n top) (returnTurn t c d size st s m n top))
+    (ifTrue (callsAny (rowAt t) size n) (callTurn t c d size st s m n used n s top)
+    (ifEq (rowAt t n .kind) 12 (tailTurn t c d size st s m n) (returnTurn t c d size st s m n top)))
     (turned Stays st))
     (turned Stays st)

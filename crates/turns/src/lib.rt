@@ -7,7 +7,7 @@ ghost use lib.ListN.{length, take};
 ghost use Rattle.tables.specs.Statement.{operandAt, rowAt, slots};
 ghost use Rattle.tables.specs.Faults.{operandFault};
 ghost use Rattle.calls.specs.Outcomes.{wordsIn};
-ghost use Rattle.turns.specs.Turns.{turned, goodFrom, calleeSize, callsLocal, callsAny, callGood, goodAll, pushed, entered, callTurn, resultOf, landed, handTo, handTurn, returnTurn, turnOf};
+ghost use Rattle.turns.specs.Turns.{turned, goodFrom, calleeSize, callsLocal, callsAny, callGood, goodAll, pushed, entered, callTurn, tailTurn, resultOf, landed, handTo, handTurn, returnTurn, turnOf};
 
 // What became of a call or a return: the run goes on in another frame, with its words and an auto top; or nothing happened.
 pub enum Turn {
@@ -141,73 +141,77 @@ fn read_arguments(
     true
 }
 
-// A new frame of z words behind the frame in use, for the call at row n to function p.
+// A new frame of z words for function p at a place: where it returns to, and the start of the caller's frame.
 fn push_frame(
     st: &mut [u32],
-    s: u32,
-    used: u32,
-    n: u32,
+    at: u32,
+    call: u32,
+    below: u32,
     top: u32,
     p: u32,
     z: u32,
     words: &[u32],
 ) -> Turn
-    requires { ⌜ (length (now words) ≤ 8) × (used + z < 4294967296) × (p < 4294967295) ⌝ }
-    ensures { λ r. ⌜ turned r (now (st .exit)) ≡ pushed (now (st .entry)) s used n top p z (now (words .entry)) ⌝ }
+    requires { ⌜ (length (now words) ≤ 8) × (at + z < 4294967296) × (p < 4294967295) ⌝ }
+    ensures { λ r. ⌜ turned r (now (st .exit)) ≡ pushed (now (st .entry)) at call below top p z (now (words .entry)) ⌝ }
 {
-    stores::build_frame(st, used, n, s, top, words, z);
+    stores::build_frame(st, at, call, below, top, words, z);
     Turn::To {
         next: p + 1,
-        frame: used,
-        used: used + z,
+        frame: at,
+        used: at + z,
         top: top,
     }
 }
 
-// A call at row n with k arguments to function p, whose frame has z words.
+// Row n calls function p with k arguments; the new frame of z words starts at a place.
 fn enter(
     t: &[u32],
     d: u32,
     size: u32,
     st: &mut [u32],
     s: u32,
-    used: u32,
     m: &[u8],
     n: u32,
+    at: u32,
+    call: u32,
+    below: u32,
     top: u32,
     p: u32,
     k: u32,
     z: u32,
 ) -> Turn
     requires { ⌜ (n * 27 + 27 ≤ length (now t)) × (k ≤ 8) × (s + size ≤ length (now st)) × (length (now st) ≤ 16384) × (p < 4294967295) ⌝ }
-    ensures { λ r. ⌜ turned r (now (st .exit)) ≡ entered (now (t .entry)) d size (now (st .entry)) s used (now (m .entry)) n top p k z ⌝ }
+    ensures { λ r. ⌜ turned r (now (st .exit)) ≡ entered (now (t .entry)) d size (now (st .entry)) s (now (m .entry)) n at call below top p k z ⌝ }
 {
-    if st.len() < used as usize + z as usize {
+    if st.len() < at as usize + z as usize {
         return Turn::Stays;
     }
     let mut words = [0u32; 8];
     if read_arguments(t, n as usize * 27, k, d, size, st, s, m, &mut words) {
         let to = k as usize;
-        return push_frame(st, s, used, n, top, p, z, &words[0..to]);
+        return push_frame(st, at, call, below, top, p, z, &words[0..to]);
     }
     Turn::Stays
 }
 
-// A call at row n.
-fn call(
+// Row n calls its function, whose frame starts at a place.
+fn call_at(
     t: &[u32],
     c: u32,
     d: u32,
     size: u32,
     st: &mut [u32],
     s: u32,
-    used: u32,
     m: &[u8],
     n: u32,
+    at: u32,
+    call: u32,
+    below: u32,
     top: u32,
 ) -> Turn
     requires { ⌜ (n < c) × (c * 27 ≤ length (now t)) × (s + size ≤ length (now st)) × (length (now st) ≤ 16384) ⌝ }
-    ensures { λ r. ⌜ turned r (now (st .exit)) ≡ callTurn (now (t .entry)) c d size (now (st .entry)) s used (now (m .entry)) n top ⌝ }
+    ensures { λ r. ⌜ turned r (now (st .exit)) ≡ callTurn (now (t .entry)) c d size (now (st .entry)) s (now (m .entry)) n at call below top ⌝ }
 {
     let k = tables::count_at(t, n);
     if 8 < k {
@@ -221,7 +225,22 @@ fn call(
     if z == 0 {
         return Turn::Stays;
     }
-    enter(t, d, size, st, s, used, m, n, top, p, k, z)
+    enter(t, d, size, st, s, m, n, at, call, below, top, p, k, z)
+}
+
+// `tail-call` at row n: the new frame has the head of the frame in use.
+fn tail_call(t: &[u32], c: u32, d: u32, size: u32, st: &mut [u32], s: u32, m: &[u8], n: u32) -> Turn
+    requires { ⌜ (n < c) × (c * 27 ≤ length (now t)) × (s + size ≤ length (now st)) × (length (now st) ≤ 16384) ⌝ }
+    ensures { λ r. ⌜ turned r (now (st .exit)) ≡ tailTurn (now (t .entry)) c d size (now (st .entry)) s (now (m .entry)) n ⌝ }
+{
+    let i = s as usize;
+    let call = tables::word_at(st, i);
+    let below = tables::word_at(st, i + 1);
+    let top = tables::word_at(st, i + 2);
+    if m.len() < top as usize {
+        return Turn::Stays;
+    }
+    call_at(t, c, d, size, st, s, m, n, s, call, below, top)
 }
 
 // ---- returns
@@ -360,7 +379,11 @@ pub fn take_turn(
     let own = tables::func_at(t, n);
     if own == g {
         if calls_any(t, size, n) {
-            return call(t, c, d, size, st, s, used, m, n, top);
+            return call_at(t, c, d, size, st, s, m, n, used, n, s, top);
+        }
+        let k = tables::kind_at(t, n);
+        if k == 12 {
+            return tail_call(t, c, d, size, st, s, m, n);
         }
         return give_back(t, c, d, size, st, s, m, n, top);
     }

@@ -2,10 +2,10 @@ use Rattle.turns.proofs.Cases.{calling}
 use native.Mathlib.Omega.{arith}
 use mathlib.Core.Path.{_≡_, refl, sym, _∙_, ap, subst}
 use borrow.Author.Needs.{needs}
-use Rattle.turns.proofs.call.Statement.{statement}
-use Rattle.turns.proofs.call.Tie as tie
-use Rattle.turns.proofs.call.Reads as reads
-use Rattle.turns.proofs.call.Lts as lts
+use Rattle.turns.proofs.call_at.Statement.{statement}
+use Rattle.turns.proofs.call_at.Tie as tie
+use Rattle.turns.proofs.call_at.Reads as reads
+use Rattle.turns.proofs.call_at.Lts as lts
 use Rattle.tables.proofs.callee_at.Reads as callee-at-reads
 use Rattle.tables.proofs.count_at.Reads as count-at-reads
 use Rattle.turns.proofs.callee_size.Reads as callee-size-reads
@@ -42,8 +42,8 @@ returns-4 : tie.Need-returns-4
 returns-4 c =
     search calling
 
-pub call-spec : {M : Type 1} → statement M
-call-spec =
+pub call-at-spec : {M : Type 1} → statement M
+call-at-spec =
     tie.close
     (tie.spec
     count-at-requires
