@@ -1,0 +1,150 @@
+// The machine's type: its limits as associated constants, and the run record.
+ghost use mathlib.Core.Path.{_≡_};
+ghost use Rattle.base_limits.specs.Limits.{limitsOf};
+ghost use Rattle.base_limits.specs.Width.{bitsOf, bytesOf, dataLimit, memoryLimit};
+ghost use Rattle.base_limits.specs.Fresh.{freshOf};
+
+// The width of a word.
+pub enum Width {
+    Bits32,
+    Bits16,
+}
+
+// The state of a run: running, finished with a value, or stopped with a number at a statement.
+pub enum State {
+    Running,
+    Finished(u32),
+    Stopped { number: u32, statement: u32 },
+}
+
+// The run record: the state, the next statement, the start of the frame in use, the stack words in use, the auto top.
+pub struct Machine {
+    pub state: State,
+    pub next: u32,
+    pub frame: u32,
+    pub used: u32,
+    pub top: u32,
+}
+
+impl Machine {
+    pub const WORD_BITS: u32 = 32;
+
+    pub const SOURCE_BYTES: usize = 16384;
+
+    pub const TOKENS: usize = 4096;
+
+    pub const STATEMENTS: usize = 1024;
+
+    pub const LABELS: usize = 256;
+
+    pub const NAME_BYTES: usize = 64;
+
+    pub const PARAMETERS: u32 = 8;
+
+    pub const LOCALS: u32 = 64;
+
+    pub const BLOCK_DEPTH: u32 = 16;
+
+    pub const DATA_BYTES: usize = 32768;
+
+    pub const MEMORY_BYTES: usize = 65536;
+
+    pub const STACK_WORDS: usize = 16384;
+
+    pub const TOKEN_ROW: usize = 8;
+
+    pub const TOKEN_WORDS: usize = 32768;
+
+    // The record at a start: the next statement, the size of the first frame, the auto top.
+    pub fn fresh(next: u32, size: u32, top: u32) -> Machine
+        ensures { λ r. ⌜ r ≡ freshOf next size top ⌝ }
+    {
+        Machine {
+            state: State::Running,
+            next: next,
+            frame: 0,
+            used: size,
+            top: top,
+        }
+    }
+}
+
+// Every constant of the type.
+pub struct Limits {
+    pub word_bits: u32,
+    pub source_bytes: usize,
+    pub tokens: usize,
+    pub statements: usize,
+    pub labels: usize,
+    pub name_bytes: usize,
+    pub parameters: u32,
+    pub locals: u32,
+    pub block_depth: u32,
+    pub data_bytes: usize,
+    pub memory_bytes: usize,
+    pub stack_words: usize,
+    pub token_row: usize,
+    pub token_words: usize,
+}
+
+// The constants of the type are the numbers of specs/Limits.
+pub fn all_limits() -> Limits
+    ensures { λ r. ⌜ r ≡ limitsOf ⌝ }
+{
+    Limits {
+        word_bits: Machine::WORD_BITS,
+        source_bytes: Machine::SOURCE_BYTES,
+        tokens: Machine::TOKENS,
+        statements: Machine::STATEMENTS,
+        labels: Machine::LABELS,
+        name_bytes: Machine::NAME_BYTES,
+        parameters: Machine::PARAMETERS,
+        locals: Machine::LOCALS,
+        block_depth: Machine::BLOCK_DEPTH,
+        data_bytes: Machine::DATA_BYTES,
+        memory_bytes: Machine::MEMORY_BYTES,
+        stack_words: Machine::STACK_WORDS,
+        token_row: Machine::TOKEN_ROW,
+        token_words: Machine::TOKEN_WORDS,
+    }
+}
+
+// Bits of a word.
+pub fn bits_of(w: Width) -> u32
+    ensures { λ r. ⌜ r ≡ bitsOf w ⌝ }
+{
+    match w {
+        Width::Bits32 => 32,
+        Width::Bits16 => 16,
+    }
+}
+
+// Bytes of a word.
+pub fn bytes_of(w: Width) -> u32
+    ensures { λ r. ⌜ r ≡ bytesOf w ⌝ }
+{
+    match w {
+        Width::Bits32 => 4,
+        Width::Bits16 => 2,
+    }
+}
+
+// The most bytes of data.
+pub fn data_limit(w: Width) -> usize
+    ensures { λ r. ⌜ r ≡ dataLimit w ⌝ }
+{
+    match w {
+        Width::Bits32 => Machine::DATA_BYTES,
+        Width::Bits16 => 16384,
+    }
+}
+
+// The most bytes of memory.
+pub fn memory_limit(w: Width) -> usize
+    ensures { λ r. ⌜ r ≡ memoryLimit w ⌝ }
+{
+    match w {
+        Width::Bits32 => Machine::MEMORY_BYTES,
+        Width::Bits16 => 32768,
+    }
+}

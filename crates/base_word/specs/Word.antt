@@ -1,0 +1,181 @@
+-- Machine words of w bits, two's complement, as natural numbers below 2 ^ w. The rules are those of the word machine, each
+-- for every width; a comment quotes the rule at 32 bits.
+-- Assumes nothing.
+use mathlib.Core.Bool.{Bool, true, false, not}
+use Prim.Native.Nat.{ℕ, _+_, _-_, _*_, _/_, _%_, _^_}
+use lib.Dec.{leb, ltb, eqb}
+use lib.Bits.{bitAnd, bitOr, bitXor}
+use Rattle.base_prelude.specs.Choice.{pick}
+use Rattle.base_word.specs.declared.Answer.{Answer}
+use Rattle.base_word.specs.declared.Answer.the-variants.{Word, Division, Shift}
+
+-- the stop's number for each answer, 0 for a word: 30 division, 31 shift count
+abbrev pub stopOf : Answer → ℕ
+stopOf (Word a) = 0
+stopOf Division = 30
+stopOf Shift = 31
+
+-- ---- sum, difference, product
+
+-- "`add`, `sub`, `mul` modulo 2^32"
+unfoldable pub addOf : ℕ → ℕ → ℕ → ℕ
+addOf w a b = (a + b) % 2 ^ w
+
+-- "`add`, `sub`, `mul` modulo 2^32"
+unfoldable pub subOf : ℕ → ℕ → ℕ → ℕ
+subOf w a b = (a + (2 ^ w - b)) % 2 ^ w
+
+-- "`add`, `sub`, `mul` modulo 2^32"
+unfoldable pub mulOf : ℕ → ℕ → ℕ → ℕ
+mulOf w a b = (a * b) % 2 ^ w
+
+-- ---- sign and magnitude
+
+-- the sign bit is set
+abbrev pub negative : ℕ → ℕ → Bool
+negative w a = leb (2 ^ (w - 1)) a
+
+-- the magnitude of the signed value
+abbrev pub magnitude : ℕ → ℕ → ℕ
+magnitude w a = pick (negative w a) (2 ^ w - a) a
+
+-- the word of -n
+abbrev pub negated : ℕ → ℕ → ℕ
+negated w n = (2 ^ w - n) % 2 ^ w
+
+-- the word of a sign and a magnitude
+abbrev pub signedWord : ℕ → Bool → ℕ → ℕ
+signedWord w s n = pick s (negated w n) n
+
+-- exactly one of the two signs is minus
+abbrev pub differ : Bool → Bool → Bool
+differ true t = not t
+differ false t = t
+
+-- ---- quotient and remainder
+
+-- "`div` rounds toward zero"
+abbrev pub quotient : ℕ → ℕ → ℕ → ℕ
+quotient w a b = signedWord w (differ (negative w a) (negative w b)) (magnitude w a / magnitude w b)
+
+-- "`mod` takes the sign of x"
+abbrev pub remainder : ℕ → ℕ → ℕ → ℕ
+remainder w a b = signedWord w (negative w a) (magnitude w a % magnitude w b)
+
+-- "`div` of -2147483648 by -1": the one quotient that has no word
+abbrev pub noWord : ℕ → ℕ → ℕ → Bool
+noWord w a b = pick (eqb a (2 ^ (w - 1))) (eqb b (2 ^ w - 1)) false
+
+-- "zero divisor, or `div` of -2147483648 by -1: stop 30"
+unfoldable pub divOf : ℕ → ℕ → ℕ → Answer
+divOf w a b = pick (eqb b 0) Division (pick (noWord w a b) Division (Word (quotient w a b)))
+
+-- "zero divisor [..]: stop 30; `mod` there is 0": -2147483648 by -1 is not refused
+unfoldable pub modOf : ℕ → ℕ → ℕ → Answer
+modOf w a b = pick (eqb b 0) Division (Word (remainder w a b))
+
+-- ---- shifts and rotates
+
+-- "a negative count is stop 31"
+abbrev pub counted : ℕ → ℕ → ℕ → Answer
+counted w n r = pick (negative w n) Shift (Word r)
+
+-- "Shifts [..] take the count modulo 32": how far a shift moves
+abbrev pub shiftCount : ℕ → ℕ → ℕ
+shiftCount w n = n % w
+
+-- "[..] rotates take the count modulo 32": how far a rotate moves
+abbrev pub rotateCount : ℕ → ℕ → ℕ
+rotateCount w n = n % w
+
+-- moved left by n bits, for every n: zeros from the right
+abbrev pub shlBy : ℕ → ℕ → ℕ → ℕ
+shlBy w a n = (a * 2 ^ n) % 2 ^ w
+
+-- moved right by n bits, for every n: zeros from the left
+abbrev pub bsrBy : ℕ → ℕ → ℕ → ℕ
+bsrBy w a n = a / 2 ^ n
+
+-- moved right by n bits, for every n: copies of the sign bit from the left
+abbrev pub asrBy : ℕ → ℕ → ℕ → ℕ
+asrBy w a n = pick (negative w a) ((2 ^ w - 1) - bsrBy w ((2 ^ w - 1) - a) n) (bsrBy w a n)
+
+-- rotated left by n bits, n at most w: the bits that leave at the left come back at the right
+abbrev pub rolBy : ℕ → ℕ → ℕ → ℕ
+rolBy w a n = bitOr ((a * 2 ^ n) % 2 ^ w) (a * 2 ^ n / 2 ^ w)
+
+-- rotated right by n bits, n at most w
+abbrev pub rorBy : ℕ → ℕ → ℕ → ℕ
+rorBy w a n = rolBy w a (w - n)
+
+-- "Shifts [..] take the count modulo 32; a negative count is stop 31": to the left
+unfoldable pub shlOf : ℕ → ℕ → ℕ → Answer
+shlOf w a n = counted w n (shlBy w a (shiftCount w n))
+
+-- "Shifts [..] take the count modulo 32; a negative count is stop 31": to the right, zeros from the left
+unfoldable pub bsrOf : ℕ → ℕ → ℕ → Answer
+bsrOf w a n = counted w n (bsrBy w a (shiftCount w n))
+
+-- "`shr` is `bsr`"
+abbrev pub shrOf : ℕ → ℕ → ℕ → Answer
+shrOf = bsrOf
+
+-- "Shifts [..] take the count modulo 32; a negative count is stop 31": to the right, the sign bit from the left
+unfoldable pub asrOf : ℕ → ℕ → ℕ → Answer
+asrOf w a n = counted w n (asrBy w a (shiftCount w n))
+
+-- "[..] rotates take the count modulo 32; a negative count is stop 31": to the left
+unfoldable pub rolOf : ℕ → ℕ → ℕ → Answer
+rolOf w a n = counted w n (rolBy w a (rotateCount w n))
+
+-- "[..] rotates take the count modulo 32; a negative count is stop 31": to the right
+unfoldable pub rorOf : ℕ → ℕ → ℕ → Answer
+rorOf w a n = counted w n (rorBy w a (rotateCount w n))
+
+-- ---- bits
+
+-- the bitwise and
+unfoldable pub andOf : ℕ → ℕ → ℕ → ℕ
+andOf w a b = bitAnd a b
+
+-- the bitwise or
+unfoldable pub orOf : ℕ → ℕ → ℕ → ℕ
+orOf w a b = bitOr a b
+
+-- the bitwise exclusive or
+unfoldable pub xorOf : ℕ → ℕ → ℕ → ℕ
+xorOf w a b = bitXor a b
+
+-- all bits inverted
+unfoldable pub notOf : ℕ → ℕ → ℕ
+notOf w a = (2 ^ w - 1) - a
+
+-- ---- tests
+
+-- the place of a word in the signed order: the word with its sign bit turned
+abbrev pub rank : ℕ → ℕ → ℕ
+rank w a = (a + 2 ^ (w - 1)) % 2 ^ w
+
+-- "Tests are signed": the first is less
+unfoldable pub ltOf : ℕ → ℕ → ℕ → Bool
+ltOf w a b = ltb (rank w a) (rank w b)
+
+-- "Tests are signed": the first is greater
+unfoldable pub gtOf : ℕ → ℕ → ℕ → Bool
+gtOf w a b = ltOf w b a
+
+-- "Tests are signed": the first is not less
+unfoldable pub geOf : ℕ → ℕ → ℕ → Bool
+geOf w a b = not (ltOf w a b)
+
+-- "Tests are signed": the first is not greater
+unfoldable pub leOf : ℕ → ℕ → ℕ → Bool
+leOf w a b = not (ltOf w b a)
+
+-- "Tests are signed": the words are equal
+unfoldable pub eqOf : ℕ → ℕ → ℕ → Bool
+eqOf w a b = eqb a b
+
+-- "Tests are signed": the words differ
+unfoldable pub neOf : ℕ → ℕ → ℕ → Bool
+neOf w a b = not (eqOf w a b)

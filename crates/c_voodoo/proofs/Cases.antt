@@ -1,0 +1,109 @@
+-- One law for each way through a function of this crate.
+-- Assumes nothing.
+use mathlib.Core.Path.{_≡_, refl, sym, _∙_, ap, ap₂}
+use mathlib.Core.List.{List, [], _∷_}
+use Prim.Native.Nat.{ℕ, _%_, _<_, _≤_}
+use lib.ListN.{length}
+use Rattle.base_prelude.specs.Lists.{overlay}
+use Rattle.base_prelude.proofs.Choice.{ifLt-yes, ifLt-no}
+use Rattle.check_source.specs.Check.{Left, left}
+use Rattle.check_source.specs.declared.Checked.{Checked}
+use Rattle.check_source.specs.declared.Checked.the-variants.{Accepted, Refused}
+use Rattle.base_limits.specs.declared.Width.the-variants.{Bits32}
+use Rattle.base_limits.specs.declared.Machine.{Machine}
+use Rattle.base_limits.specs.Fresh.{freshOf}
+use Rattle.prog_tables.specs.Label.{Tables}
+use Rattle.vm_definitions.specs.Step.{After, stepOf, runOf}
+use Rattle.vm_definitions.specs.Lent.{tablesOf, world}
+use Rattle.vm_definitions.specs.Lent as lent
+use Rattle.vm_definitions.specs.declared.Outcome.{Outcome}
+use Rattle.vm_definitions.specs.declared.Opening.{Opening}
+use Rattle.vm_start.specs.Opening.{Opened, opened, openingOf}
+use Rattle.c_words.specs.Record.{recordOf}
+use Rattle.c_words.specs.Reply.{Reply, reply, unfitWords, outcomeReply, openingReply}
+use Rattle.c_words.specs.declared.Loaded.{Loaded}
+use Rattle.c_words.specs.declared.Loaded.the-variants.{Fit, Unfit}
+use Rattle.c_voodoo.specs.Answer.{numberOf, resultWords, Told, told, toldOf}
+use Rattle.c_voodoo.specs.Calls.{Answered, answered, replied, unfit, outcomeAnswer, openingAnswer, stepBy, stepCall, runBy, runCall, startCall}
+
+-- ---- the answer in words
+
+module _ (x : Checked) (out o : List ℕ) (r : ℕ) where
+  module _ (n c l size : ℕ) (e : x ≡ Accepted n c l size) where
+    pub number-accepted : r ≡ 0 → r ≡ numberOf x
+    unfolding numberOf
+    number-accepted q = q ∙ sym (ap numberOf e)
+
+    pub words-accepted : o ≡ overlay (0 ∷ 0 ∷ n ∷ c ∷ l ∷ size ∷ []) out → o ≡ overlay (resultWords x) out
+    unfolding resultWords
+    words-accepted q = q ∙ sym (ap (λ (y : Checked). overlay (resultWords y) out) e)
+
+  module _ (number place : ℕ) (e : x ≡ Refused number place) where
+    pub number-refused : r ≡ number → r ≡ numberOf x
+    unfolding numberOf
+    number-refused q = q ∙ sym (ap numberOf e)
+
+    pub words-refused : o ≡ overlay (number ∷ place % 4294967296 ∷ 0 ∷ 0 ∷ 0 ∷ 0 ∷ []) out → o ≡ overlay (resultWords x) out
+    unfolding resultWords
+    words-refused q = q ∙ sym (ap (λ (y : Checked). overlay (resultWords y) out) e)
+
+pub told-is : (x : Checked) (a b c d e : List ℕ) (y : Left) (number : ℕ) (out o : List ℕ) → left x a b c d e ≡ y
+    → (number ≡ numberOf x) × (o ≡ overlay (resultWords x) out) → told number a b c d e o ≡ toldOf y out
+unfolding toldOf
+told-is x a b c d e y number out o p q =
+    ap₂ (λ (n : ℕ) (l : List ℕ). told n a b c d e l) (q .0) (q .1) ∙ ap (λ (z : Left). toldOf z out) p
+
+-- ---- start, step and run
+
+module _ (ws st m out : List ℕ) (n : ℕ) (out′ : List ℕ) where
+  -- the answer where there is no record
+  none : (n ≡ 35) × (out′ ≡ overlay unfitWords out) → answered n ws st m out′ ≡ unfit ws st m out
+  unfolding unfit
+  none q = rw (q .0, q .1)
+
+  module _ (x : Loaded) (e : x ≡ recordOf ws) (t : List ℕ) (c : ℕ) (l : List ℕ) (k : ℕ) (names : List ℕ) (d : ℕ) where
+    abbrev T : Tables
+    T = tablesOf t c l k names d
+
+    pub step-unfit : x ≡ Unfit → (n ≡ 35) × (out′ ≡ overlay unfitWords out) → answered n ws st m out′ ≡ stepCall ws st m out T
+    unfolding stepCall stepBy
+    step-unfit h q = none q ∙ ap (stepBy ws st m out T) (sym h ∙ e)
+
+    pub run-unfit : (budget : ℕ) → x ≡ Unfit → (n ≡ 35) × (out′ ≡ overlay unfitWords out) → answered n ws st m out′ ≡ runCall ws st m out T budget
+    unfolding runCall runBy
+    run-unfit budget h q = none q ∙ ap (runBy ws st m out T budget) (sym h ∙ e)
+
+    module _ (r : Machine) (h : x ≡ Fit r) (o : Outcome) (ws′ st′ m′ : List ℕ) (q : reply n ws′ out′ ≡ outcomeReply o ws out) where
+      after : (y : After) → lent.left o st′ m′ ≡ y → answered n ws′ st′ m′ out′ ≡ outcomeAnswer ws st m out y
+      unfolding outcomeAnswer
+      after y g = ap (λ (p : Reply). replied p st′ m′) q ∙ ap (outcomeAnswer ws st m out) g
+
+      pub step-fit : lent.left o st′ m′ ≡ stepOf Bits32 T (world r st m) → answered n ws′ st′ m′ out′ ≡ stepCall ws st m out T
+      unfolding stepCall stepBy
+      step-fit g = after (stepOf Bits32 T (world r st m)) g ∙ ap (stepBy ws st m out T) (sym h ∙ e)
+
+      pub run-fit : (budget : ℕ) → lent.left o st′ m′ ≡ runOf Bits32 T budget (world r st m) → answered n ws′ st′ m′ out′ ≡ runCall ws st m out T budget
+      unfolding runCall runBy
+      run-fit budget g = after (runOf Bits32 T budget (world r st m)) g ∙ ap (runBy ws st m out T budget) (sym h ∙ e)
+
+  module _ (t : List ℕ) (c : ℕ) (l : List ℕ) (k : ℕ) (names : List ℕ) (d : ℕ) (bytes name args : List ℕ) where
+    pub start-unfit : length ws < 16 → (n ≡ 35) × (out′ ≡ overlay unfitWords out)
+        → answered n ws st m out′ ≡ startCall ws st m out (tablesOf t c l k names d) bytes name args
+    unfolding startCall
+    start-unfit h q = none q ∙ sym (ifLt-yes (unfit ws st m out) _ h)
+
+    pub start-fit : (r : Machine) (o : Opening) (ws′ st′ m′ : List ℕ) → 16 ≤ length ws → r ≡ freshOf 0 0 0
+        → opened o st′ m′ ≡ openingOf Bits32 (tablesOf t c l k names d) bytes name args (world r st m)
+        → reply n ws′ out′ ≡ openingReply o ws out
+        → answered n ws′ st′ m′ out′ ≡ startCall ws st m out (tablesOf t c l k names d) bytes name args
+    unfolding startCall openingAnswer
+    start-fit r o ws′ st′ m′ h f g q =
+        ap (λ (p : Reply). replied p st′ m′) q ∙ ap (openingAnswer ws st m out) g
+        ∙ ap (λ (z : Machine). openingAnswer ws st m out (openingOf Bits32 (tablesOf t c l k names d) bytes name args (world z st m))) f
+        ∙ sym (ifLt-no (unfit ws st m out) _ h)
+
+pub ruleset steps = (step-unfit, step-fit)
+
+pub ruleset runs = (run-unfit, run-fit)
+
+pub ruleset starts = (start-unfit, start-fit)

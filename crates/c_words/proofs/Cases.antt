@@ -1,0 +1,217 @@
+-- The ways through the functions of this crate.
+-- Assumes nothing.
+use mathlib.Core.Path.{_≡_, refl, sym, _∙_, ap, ap₂}
+use mathlib.Core.Bool.{Bool, true, false}
+use mathlib.Core.List.{List, [], _∷_}
+use Prim.Native.Nat.{ℕ, zero, suc, _+_, _/_, _%_, _<_, _≤_}
+use native.Mathlib.Omega.{arith}
+use lib.Dec.{eqb}
+use borrow.Author.Tests.{ne-eqb}
+use lib.ListN.{length, getD, set}
+use Rattle.base_prelude.specs.Choice.{pick, ifLt, ifEq, ifTrue}
+use Rattle.base_prelude.specs.Lists.{overlay}
+use Rattle.base_prelude.proofs.Choice.{ifLt-yes, ifLt-no, ifEq-yes, ifEq-no, ifTrue-yes, ifTrue-no}
+use Rattle.base_limits.specs.declared.State.{State}
+use Rattle.base_limits.specs.declared.State.the-variants.{Running, Finished, Stopped}
+use Rattle.base_limits.specs.declared.Machine.{Machine}
+use Rattle.vm_definitions.specs.declared.Broken.{Broken}
+use Rattle.vm_definitions.specs.declared.Started.{Started}
+use Rattle.vm_definitions.specs.declared.Started.the-variants.{Begun, Refused, Unsound}
+use Rattle.vm_definitions.specs.declared.Opening.{Opening}
+use Rattle.vm_definitions.specs.declared.Outcome.{Outcome}
+use Rattle.c_words.specs.declared.Loaded.{Loaded}
+use Rattle.c_words.specs.declared.Loaded.the-variants.{Fit, Unfit}
+use Rattle.c_words.specs.Placed.{placed, threeAt}
+use Rattle.c_words.specs.Record.{isListed, stateOf, machineOf, recordOf, stateNumber, stateValue, statePlace, recordWords}
+use Rattle.c_words.specs.Reply.{Reply, reply, unfitWords, nowhere, brokenNumber, brokenPlace, finishedFlag, finishedWord, outcomeNumber, outcomeWords, changes, recordAfter, outcomeReply, startNumber, startPlace, startWords, recordBegun, openingReply}
+
+set-past : (out : List ℕ) (i v : ℕ) → length out ≤ i → out ≡ set out i v
+set-past [] i v h = refl
+set-past (x ∷ xs) zero v h = let z : ⊥ = omega arith in absurd z
+set-past (x ∷ xs) (suc i) v h = ap (λ (l : List ℕ). x ∷ l) (set-past xs i v (omega arith))
+
+module _ (out : List ℕ) (i v : ℕ) where
+  pub placed-in : i < length out → set out i v ≡ placed out i v
+  unfolding placed
+  placed-in h = refl
+
+  pub placed-past : length out ≤ i → out ≡ placed out i v
+  unfolding placed
+  placed-past h = set-past out i v h
+
+pub overlay-none : (out : List ℕ) → out ≡ overlay [] out
+unfolding overlay
+overlay-none [] = refl
+overlay-none (x ∷ xs) = ap (λ (l : List ℕ). x ∷ l) (overlay-none xs)
+
+overlay-full : (xs : List ℕ) → [] ≡ overlay xs []
+unfolding overlay
+overlay-full xs = refl
+
+overlay-one : (x : ℕ) (xs : List ℕ) (y : ℕ) (out : List ℕ) → overlay (x ∷ xs) (y ∷ out) ≡ x ∷ overlay xs out
+unfolding overlay
+overlay-one x xs y out = refl
+
+-- what a list of words written one by one leaves
+pub over : (x : ℕ) (xs : List ℕ) (y : ℕ) (out r : List ℕ) → r ≡ overlay xs out → x ∷ r ≡ overlay (x ∷ xs) (y ∷ out)
+over x xs y out r e = ap (λ (l : List ℕ). x ∷ l) e ∙ sym (overlay-one x xs y out)
+
+one-put : (a : ℕ) (out : List ℕ) → set out 0 a ≡ overlay (a ∷ []) out
+one-put a [] = overlay-full (a ∷ [])
+one-put a (x ∷ xs) = over a [] x xs xs (overlay-none xs)
+
+two-put : (a b : ℕ) (out : List ℕ) → set (set out 0 a) 1 b ≡ overlay (a ∷ b ∷ []) out
+two-put a b [] = overlay-full (a ∷ b ∷ [])
+two-put a b (x ∷ xs) = over a (b ∷ []) x xs (set xs 0 b) (one-put b xs)
+
+three-put : (a b c : ℕ) (out : List ℕ) → set (set (set out 0 a) 1 b) 2 c ≡ overlay (a ∷ b ∷ c ∷ []) out
+three-put a b c [] = overlay-full (a ∷ b ∷ c ∷ [])
+three-put a b c (x ∷ xs) = over a (b ∷ c ∷ []) x xs (set (set xs 0 b) 1 c) (two-put b c xs)
+
+four-put : (a b c d : ℕ) (out : List ℕ) → set (set (set (set out 0 a) 1 b) 2 c) 3 d ≡ overlay (a ∷ b ∷ c ∷ d ∷ []) out
+four-put a b c d [] = overlay-full (a ∷ b ∷ c ∷ d ∷ [])
+four-put a b c d (x ∷ xs) = over a (b ∷ c ∷ d ∷ []) x xs (set (set (set xs 0 b) 1 c) 2 d) (three-put b c d xs)
+
+five-put : (a b c d e : ℕ) (out : List ℕ) → set (set (set (set (set out 0 a) 1 b) 2 c) 3 d) 4 e ≡ overlay (a ∷ b ∷ c ∷ d ∷ e ∷ []) out
+five-put a b c d e [] = overlay-full (a ∷ b ∷ c ∷ d ∷ e ∷ [])
+five-put a b c d e (x ∷ xs) = over a (b ∷ c ∷ d ∷ e ∷ []) x xs (set (set (set (set xs 0 b) 1 c) 2 d) 3 e) (four-put b c d e xs)
+
+six-put : (a b c d e f : ℕ) (out : List ℕ)
+    → set (set (set (set (set (set out 0 a) 1 b) 2 c) 3 d) 4 e) 5 f ≡ overlay (a ∷ b ∷ c ∷ d ∷ e ∷ f ∷ []) out
+six-put a b c d e f [] = overlay-full (a ∷ b ∷ c ∷ d ∷ e ∷ f ∷ [])
+six-put a b c d e f (x ∷ xs) =
+    over a (b ∷ c ∷ d ∷ e ∷ f ∷ []) x xs (set (set (set (set (set xs 0 b) 1 c) 2 d) 3 e) 4 f) (five-put b c d e f xs)
+
+pub six-placed : (a b c d e f : ℕ) (out o₀ o₁ : List ℕ) → o₁ ≡ threeAt o₀ 3 d e f → o₀ ≡ threeAt out 0 a b c
+    → o₁ ≡ overlay (a ∷ b ∷ c ∷ d ∷ e ∷ f ∷ []) out
+unfolding threeAt placed
+six-placed a b c d e f out o₀ o₁ q p =
+    q ∙ ap (λ (l : List ℕ). set (set (set l 3 d) 4 e) 5 f) p ∙ six-put a b c d e f out
+
+seven-put : (a b c d e f g : ℕ) (out : List ℕ)
+    → set (set (set (set (set (set (set out 0 a) 1 b) 2 c) 3 d) 4 e) 5 f) 6 g ≡ overlay (a ∷ b ∷ c ∷ d ∷ e ∷ f ∷ g ∷ []) out
+seven-put a b c d e f g [] = overlay-full (a ∷ b ∷ c ∷ d ∷ e ∷ f ∷ g ∷ [])
+seven-put a b c d e f g (x ∷ xs) =
+    over a (b ∷ c ∷ d ∷ e ∷ f ∷ g ∷ []) x xs (set (set (set (set (set (set xs 0 b) 1 c) 2 d) 3 e) 4 f) 5 g) (six-put b c d e f g xs)
+
+-- ---- the record
+
+module _ (s : ℕ) where
+  pub listed-running : s ≡ 1 → true ≡ isListed s
+  unfolding isListed
+  listed-running h = sym (ifEq-yes true _ h)
+
+  pub listed-finished : (s ≡ 1 → ⊥) → s ≡ 2 → true ≡ isListed s
+  unfolding isListed
+  listed-finished h q = sym (ifEq-no true _ h ∙ ifEq-yes true _ q)
+
+  pub listed-stopped : (s ≡ 1 → ⊥) → (s ≡ 2 → ⊥) → eqb s 3 ≡ isListed s
+  unfolding isListed ifEq
+  listed-stopped h q = rw (ne-eqb _ _ h, ne-eqb _ _ q) (as-test (eqb s 3))
+    where
+      as-test : (b : Bool) → b ≡ pick b true false
+      as-test true = refl
+      as-test false = refl
+
+pub ruleset listed-ways = (listed-running, listed-finished, listed-stopped)
+
+module _ (ws : List ℕ) where
+  pub load-short : length ws < 16 → Unfit ≡ recordOf ws
+  unfolding recordOf
+  load-short h = sym (ifLt-yes Unfit _ h)
+
+  module _ (b : Bool) (h : 16 ≤ length ws) (e : b ≡ isListed (getD ws 0 0)) where
+    pub load-unlisted : b ≡ false → Unfit ≡ recordOf ws
+    unfolding recordOf
+    load-unlisted q = sym (ifLt-no Unfit _ h ∙ ifTrue-no (Fit (machineOf ws)) Unfit (sym e ∙ q))
+
+    pub load-fit : (s : State) → b ≡ true → s ≡ stateOf (getD ws 0 0) (getD ws 5 0) (getD ws 6 0)
+        → Fit (record { state = s; next = getD ws 1 0; frame = getD ws 2 0; used = getD ws 3 0; top = getD ws 4 0 }) ≡ recordOf ws
+    unfolding recordOf machineOf
+    load-fit s q r =
+        ap (λ (z : State). Fit (record { state = z; next = getD ws 1 0; frame = getD ws 2 0; used = getD ws 3 0; top = getD ws 4 0 })) r
+        ∙ sym (ifLt-no Unfit _ h ∙ ifTrue-yes (Fit (machineOf ws)) Unfit (sym e ∙ q))
+
+pub ruleset load-ways = (load-short, load-unlisted, load-fit)
+
+pub record-stored : (r : Machine) (s v p : ℕ) (ws o₀ o₁ o₂ : List ℕ) → s ≡ stateNumber (r .state) → v ≡ stateValue (r .state) → p ≡ statePlace (r .state)
+    → o₀ ≡ threeAt ws 0 s (r .next) (r .frame) → o₁ ≡ threeAt o₀ 3 (r .used) (r .top) v → o₂ ≡ placed o₁ 6 p → o₂ ≡ overlay (recordWords r) ws
+unfolding threeAt placed recordWords
+record-stored r s v p ws o₀ o₁ o₂ e q h a b c = rw (c, b, a, e, q, h) (seven-put _ _ _ _ _ _ _ ws)
+
+-- ---- a step and a run
+
+pub outcome-number : (o : Outcome) (n a : ℕ) → n ≡ brokenNumber (o .broken) (o .machine .state) → a ≡ n → a ≡ outcomeNumber o
+unfolding outcomeNumber
+outcome-number o n a e q = q ∙ e
+
+pub outcome-words : (o : Outcome) (n p low high flag word : ℕ) (out out′ : List ℕ) → n ≡ brokenNumber (o .broken) (o .machine .state)
+    → p ≡ brokenPlace (o .broken) (o .machine .state) → low ≡ o .count % 4294967296 → high ≡ o .count / 4294967296
+    → flag ≡ finishedFlag (o .machine .state) → word ≡ finishedWord (o .machine .state)
+    → out′ ≡ overlay (n ∷ p ∷ low ∷ high ∷ flag ∷ word ∷ []) out → out′ ≡ overlay (outcomeWords o) out
+unfolding outcomeNumber outcomeWords
+outcome-words o n p low high flag word out out′ e q h g f w s = rw (← e, ← q, ← h, ← g, ← f, ← w) s
+
+module _ (s : ℕ) (o : Outcome) where
+  pub changed-counted : (o .count ≡ 0 → ⊥) → true ≡ changes s o
+  unfolding changes
+  changed-counted h = sym (ifEq-no _ true h)
+
+  pub changed-before : o .count ≡ 0 → (s ≡ 1 → ⊥) → false ≡ changes s o
+  unfolding changes
+  changed-before h q = sym (ifEq-yes _ true h ∙ ifEq-no _ false q)
+
+  pub changed-stopped : (n : ℕ) → o .count ≡ 0 → s ≡ 1 → n ≡ stateNumber (o .machine .state) → eqb n 3 ≡ changes s o
+  unfolding changes
+  changed-stopped n h q e = ap (λ (k : ℕ). eqb k 3) e ∙ sym (ifEq-yes _ true h ∙ ifEq-yes _ false q)
+
+pub ruleset change-ways = (changed-counted, changed-before, changed-stopped)
+
+module _ (o : Outcome) (ws : List ℕ) (s : ℕ) (b : Bool) (q : s ≡ getD ws 0 0) (e : b ≡ changes s o) where
+  is : b ≡ changes (getD ws 0 0) o
+  is = e ∙ ap (λ (n : ℕ). changes n o) q
+
+  pub kept-changed : (ws′ : List ℕ) → b ≡ true → ws′ ≡ overlay (recordWords (o .machine)) ws → ws′ ≡ recordAfter o ws
+  unfolding recordAfter
+  kept-changed ws′ h g = g ∙ sym (ifTrue-yes _ ws (sym is ∙ h))
+
+  pub kept-same : b ≡ false → ws ≡ recordAfter o ws
+  unfolding recordAfter
+  kept-same h = sym (ifTrue-no _ ws (sym is ∙ h))
+
+pub ruleset keep-ways = (kept-changed, kept-same)
+
+pub outcome-replied : (o : Outcome) (n : ℕ) (ws ws′ out out′ : List ℕ) → ws′ ≡ recordAfter o ws → (n ≡ outcomeNumber o) × (out′ ≡ overlay (outcomeWords o) out)
+    → reply n ws′ out′ ≡ outcomeReply o ws out
+unfolding outcomeReply
+outcome-replied o n ws ws′ out out′ e q = rw (e, q .0, q .1)
+
+-- ---- a start
+
+pub start-numbered : (a : Started) (n r : ℕ) → n ≡ startNumber a → r ≡ n → r ≡ startNumber a
+start-numbered a n r e q = q ∙ e
+
+pub start-worded : (a : Started) (n p : ℕ) (out out′ : List ℕ) → n ≡ startNumber a → p ≡ startPlace a
+    → out′ ≡ overlay (n ∷ p ∷ 0 ∷ 0 ∷ 0 ∷ 0 ∷ []) out → out′ ≡ overlay (startWords a) out
+unfolding startWords
+start-worded a n p out out′ e q s = rw (← e, ← q) s
+
+module _ (a : Started) (r : Machine) (ws : List ℕ) where
+  pub begun-kept : (ws′ : List ℕ) → a ≡ Begun → ws′ ≡ overlay (recordWords r) ws → ws′ ≡ recordBegun a (recordWords r) ws
+  unfolding recordBegun
+  begun-kept ws′ e q = q ∙ sym (ap (λ (x : Started). recordBegun x (recordWords r) ws) e)
+
+  pub refused-kept : (k : ℕ) → a ≡ Refused k → ws ≡ recordBegun a (recordWords r) ws
+  unfolding recordBegun
+  refused-kept k e = sym (ap (λ (x : Started). recordBegun x (recordWords r) ws) e)
+
+  pub unsound-kept : (b : Broken) → a ≡ Unsound b → ws ≡ recordBegun a (recordWords r) ws
+  unfolding recordBegun
+  unsound-kept b e = sym (ap (λ (x : Started). recordBegun x (recordWords r) ws) e)
+
+pub ruleset begun-ways = (begun-kept, refused-kept, unsound-kept)
+
+pub opening-replied : (o : Opening) (n : ℕ) (ws ws′ out out′ : List ℕ) → ws′ ≡ recordBegun (o .answer) (recordWords (o .machine)) ws
+    → (n ≡ startNumber (o .answer)) × (out′ ≡ overlay (startWords (o .answer)) out) → reply n ws′ out′ ≡ openingReply o ws out
+unfolding openingReply
+opening-replied o n ws ws′ out out′ e q = rw (e, q .0, q .1)

@@ -1,0 +1,44 @@
+use Rattle.c_words.specs.Placed.{threeAt}
+use native.Mathlib.Omega.{arith}
+use mathlib.Core.Path.{_≡_, refl, sym, _∙_, ap, subst}
+use borrow.Author.Needs.{needs}
+use Rattle.c_words.proofs.put_three.Statement.{statement}
+use Rattle.c_words.proofs.put_three.Tie as tie
+use Rattle.c_words.proofs.put_three.Reads as reads
+use Rattle.c_words.proofs.put_three.Lts as lts
+use Rattle.c_words.proofs.put_word.Reads as put-word-reads
+
+put-word-requires : tie.Need-put-word-requires
+put-word-requires c κs = search needs
+
+add-put-word : tie.Need-add-put-word
+add-put-word c = search needs
+
+put-word-requires-2 : tie.Need-put-word-requires-2
+put-word-requires-2 c κs = search needs
+
+add-put-word-2 : tie.Need-add-put-word-2
+add-put-word-2 c = search needs
+
+put-word-requires-3 : tie.Need-put-word-requires-3
+put-word-requires-3 c κs = search needs
+
+same-length : tie.Need-same-length
+same-length c = search needs
+
+returns : tie.Need-returns
+unfolding threeAt
+returns c =
+    cc
+
+pub put-three-spec : {M : Type 1} → statement M
+put-three-spec =
+    tie.close
+    (tie.spec
+    put-word-requires
+    add-put-word
+    put-word-requires-2
+    add-put-word-2
+    put-word-requires-3
+    same-length
+    returns)

@@ -1,0 +1,36 @@
+use Rattle.c_words.specs.Record.{stateValue}
+use native.Mathlib.Omega.{arith}
+use mathlib.Core.Path.{_≡_, refl, sym, _∙_, ap, subst}
+use borrow.Author.Needs.{needs}
+use Rattle.c_words.proofs.state_value.Statement.{statement}
+use Rattle.c_words.proofs.state_value.Tie as tie
+use Rattle.c_words.proofs.state_value.Reads as reads
+use Rattle.c_words.proofs.state_value.Lts as lts
+
+enum-told : tie.Need-enum-told
+enum-told c = search needs
+
+enum-known-s : tie.Need-enum-known-s
+enum-known-s c = search needs
+
+enum-known-s-2 : tie.Need-enum-known-s-2
+enum-known-s-2 c = search needs
+
+returns : tie.Need-returns
+unfolding stateValue
+returns c =
+    cc
+
+returns-2 : tie.Need-returns-2
+unfolding stateValue
+returns-2 c =
+    cc
+
+returns-3 : tie.Need-returns-3
+unfolding stateValue
+returns-3 c =
+    cc
+
+pub state-value-spec : {M : Type 1} → statement M
+state-value-spec =
+    tie.close (tie.spec enum-told enum-known-s enum-known-s-2 returns returns-2 returns-3)

@@ -1,0 +1,343 @@
+// What a call of the tracker reads and writes: the run record in 16 lent words, and the six words of the answer.
+use base_limits::Machine;
+use base_limits::State;
+use vm_definitions::Broken;
+use vm_definitions::Opening;
+use vm_definitions::Outcome;
+use vm_definitions::Started;
+ghost use mathlib.Core.Path.{_≡_};
+ghost use mathlib.Core.List.{[], _∷_};
+ghost use Prim.Native.Nat.{_≤_, _/_, _%_};
+ghost use Rattle.base_prelude.specs.Lists.{overlay};
+ghost use Rattle.c_words.specs.Placed.{placed, threeAt};
+ghost use Rattle.c_words.specs.Record.{isListed, stateOf, recordOf, stateNumber, stateValue, statePlace, recordWords};
+ghost use Rattle.c_words.specs.Reply.{reply, unfitWords, stopNumber, stopPlace, brokenNumber, brokenPlace, finishedFlag, finishedWord, outcomeNumber, outcomeWords, changes, recordAfter, outcomeReply, unsoundPlace, startNumber, startPlace, startWords, recordBegun, openingReply};
+
+// The record of some lent words, or none.
+pub enum Loaded {
+    Fit(Machine),
+    Unfit,
+}
+
+// A word at a place of a buffer, if it is long enough.
+fn put_word(out: &mut [u32], i: usize, v: u32)
+    ensures { λ _. ⌜ now (out .exit) ≡ placed (now (out .entry)) i v ⌝ }
+{
+    if i < out.len() {
+        out[i] = v;
+    }
+}
+
+// Three words from a place on.
+fn put_three(out: &mut [u32], i: usize, a: u32, b: u32, c: u32)
+    requires { ⌜ i ≤ 3 ⌝ }
+    ensures { λ _. ⌜ now (out .exit) ≡ threeAt (now (out .entry)) i a b c ⌝ }
+{
+    put_word(out, i, a);
+    put_word(out, i + 1, b);
+    put_word(out, i + 2, c);
+}
+
+// Six words over the front of a buffer; gives the first.
+pub fn put_six(out: &mut [u32], a: u32, b: u32, c: u32, d: u32, e: u32, f: u32) -> u32
+    ensures { λ r. ⌜ (r ≡ a) × (now (out .exit) ≡ overlay (a ∷ b ∷ c ∷ d ∷ e ∷ f ∷ []) (now (out .entry))) ⌝ }
+{
+    put_three(out, 0, a, b, c);
+    put_three(out, 3, d, e, f);
+    a
+}
+
+// Whether a number is one of a state.
+fn is_listed(s: u32) -> bool
+    ensures { λ r. ⌜ r ≡ isListed s ⌝ }
+{
+    if s == 1 {
+        return true;
+    }
+    if s == 2 {
+        return true;
+    }
+    s == 3
+}
+
+// A listed state, with the words that it may hold.
+fn make_state(s: u32, a: u32, b: u32) -> State
+    ensures { λ r. ⌜ r ≡ stateOf s a b ⌝ }
+{
+    if s == 1 {
+        return State::Running;
+    }
+    if s == 2 {
+        return State::Finished(a);
+    }
+    State::Stopped {
+        number: a,
+        statement: b,
+    }
+}
+
+// The record that the words hold.
+pub fn load_record(record: &[u32]) -> Loaded
+    ensures { λ r. ⌜ r ≡ recordOf (now («record» .entry)) ⌝ }
+{
+    if record.len() < 16 {
+        return Loaded::Unfit;
+    }
+    let s = record[0];
+    if is_listed(s) {
+        let state = make_state(s, record[5], record[6]);
+        return Loaded::Fit(Machine {
+            state: state,
+            next: record[1],
+            frame: record[2],
+            used: record[3],
+            top: record[4],
+        });
+    }
+    Loaded::Unfit
+}
+
+// The number of a state.
+fn state_number(s: State) -> u32
+    ensures { λ r. ⌜ r ≡ stateNumber s ⌝ }
+{
+    match s {
+        State::Running => 1,
+        State::Finished(_) => 2,
+        State::Stopped { number, statement } => 3,
+    }
+}
+
+// The word of a finished record, the number of a stopped one.
+fn state_value(s: State) -> u32
+    ensures { λ r. ⌜ r ≡ stateValue s ⌝ }
+{
+    match s {
+        State::Running => 0,
+        State::Finished(v) => v,
+        State::Stopped { number, statement } => number,
+    }
+}
+
+// The statement of a stopped record.
+fn state_place(s: State) -> u32
+    ensures { λ r. ⌜ r ≡ statePlace s ⌝ }
+{
+    match s {
+        State::Running => 0,
+        State::Finished(_) => 0,
+        State::Stopped { number, statement } => statement,
+    }
+}
+
+// Writes a record over the front of the lent words.
+pub fn store_record(record: &mut [u32], r: Machine)
+    ensures { λ _. ⌜ now («record» .exit) ≡ overlay (recordWords r) (now («record» .entry)) ⌝ }
+{
+    let s = r.state;
+    put_three(record, 0, state_number(s), r.next, r.frame);
+    put_three(record, 3, r.used, r.top, state_value(s));
+    put_word(record, 6, state_place(s));
+}
+
+// The number of a stop, or 0.
+fn stop_number(s: State) -> u32
+    ensures { λ r. ⌜ r ≡ stopNumber s ⌝ }
+{
+    match s {
+        State::Running => 0,
+        State::Finished(_) => 0,
+        State::Stopped { number, statement } => number,
+    }
+}
+
+// The statement of a stop.
+fn stop_place(s: State) -> u32
+    ensures { λ r. ⌜ r ≡ stopPlace s ⌝ }
+{
+    match s {
+        State::Running => 4294967295,
+        State::Finished(_) => 4294967295,
+        State::Stopped { number, statement } => statement,
+    }
+}
+
+// 35, else the number of a stop, else 0.
+fn broken_number(b: Broken, s: State) -> u32
+    ensures { λ r. ⌜ r ≡ brokenNumber b s ⌝ }
+{
+    match b {
+        Broken::No => stop_number(s),
+        Broken::At(_) => 35,
+        Broken::Somewhere => 35,
+    }
+}
+
+// The statement of a 35, else of a stop.
+fn broken_place(b: Broken, s: State) -> u32
+    ensures { λ r. ⌜ r ≡ brokenPlace b s ⌝ }
+{
+    match b {
+        Broken::No => stop_place(s),
+        Broken::At(i) => i,
+        Broken::Somewhere => 4294967295,
+    }
+}
+
+// 1 of a finished record.
+fn finished_flag(s: State) -> u32
+    ensures { λ r. ⌜ r ≡ finishedFlag s ⌝ }
+{
+    match s {
+        State::Running => 0,
+        State::Finished(_) => 1,
+        State::Stopped { number, statement } => 0,
+    }
+}
+
+// The word of a finished record.
+fn finished_word(s: State) -> u32
+    ensures { λ r. ⌜ r ≡ finishedWord s ⌝ }
+{
+    match s {
+        State::Running => 0,
+        State::Finished(word) => word,
+        State::Stopped { number, statement } => 0,
+    }
+}
+
+// The lower half of a count.
+fn low_half(n: u64) -> u32
+    ensures { λ r. ⌜ r ≡ n % 4294967296 ⌝ }
+{
+    (n % 4294967296) as u32
+}
+
+// The upper half of a count.
+fn high_half(n: u64) -> u32
+    ensures { λ r. ⌜ r ≡ n / 4294967296 ⌝ }
+{
+    (n / 4294967296) as u32
+}
+
+// Writes what a step or a run came to in six words, and gives its number.
+fn put_outcome(o: Outcome, result: &mut [u32]) -> u32
+    ensures { λ r. ⌜ (r ≡ outcomeNumber o) × (now (result .exit) ≡ overlay (outcomeWords o) (now (result .entry))) ⌝ }
+{
+    let b = o.broken;
+    let n = o.count;
+    let r = o.machine;
+    let s = r.state;
+    put_six(
+        result,
+        broken_number(b, s),
+        broken_place(b, s),
+        low_half(n),
+        high_half(n),
+        finished_flag(s),
+        finished_word(s),
+    )
+}
+
+// Whether a call changed the record, whose state's number was s.
+fn is_changed(s: u32, o: Outcome) -> bool
+    ensures { λ r. ⌜ r ≡ changes s o ⌝ }
+{
+    let n = o.count;
+    if n != 0 {
+        return true;
+    }
+    if s != 1 {
+        return false;
+    }
+    let r = o.machine;
+    let state = r.state;
+    state_number(state) == 3
+}
+
+// Writes the record, if the call changed it.
+fn keep_record(o: Outcome, record: &mut [u32])
+    ensures { λ _. ⌜ now («record» .exit) ≡ recordAfter o (now («record» .entry)) ⌝ }
+{
+    let s = prog_tables::word_at(record, 0);
+    if is_changed(s, o) {
+        let r = o.machine;
+        store_record(record, r);
+    }
+}
+
+// The answer of a step or a run.
+pub fn reply_outcome(o: Outcome, record: &mut [u32], result: &mut [u32]) -> u32
+    ensures { λ r. ⌜ reply r (now («record» .exit)) (now (result .exit)) ≡ outcomeReply o (now («record» .entry)) (now (result .entry)) ⌝ }
+{
+    keep_record(o, record);
+    put_outcome(o, result)
+}
+
+// The answer where the lent words hold no record.
+pub fn reply_unfit(result: &mut [u32]) -> u32
+    ensures { λ r. ⌜ (r ≡ 35) × (now (result .exit) ≡ overlay unfitWords (now (result .entry))) ⌝ }
+{
+    put_six(result, 35, 4294967295, 0, 0, 0, 0)
+}
+
+// The statement of a 35 at a start.
+fn unsound_place(b: Broken) -> u32
+    ensures { λ r. ⌜ r ≡ unsoundPlace b ⌝ }
+{
+    match b {
+        Broken::No => 4294967295,
+        Broken::At(i) => i,
+        Broken::Somewhere => 4294967295,
+    }
+}
+
+// The number of a start's answer.
+fn start_number(a: Started) -> u32
+    ensures { λ r. ⌜ r ≡ startNumber a ⌝ }
+{
+    match a {
+        Started::Begun => 0,
+        Started::Refused(k) => k,
+        Started::Unsound(_) => 35,
+    }
+}
+
+// The place of a start's answer.
+fn start_place(a: Started) -> u32
+    ensures { λ r. ⌜ r ≡ startPlace a ⌝ }
+{
+    match a {
+        Started::Begun => 4294967295,
+        Started::Refused(_) => 4294967295,
+        Started::Unsound(b) => unsound_place(b),
+    }
+}
+
+// Writes a start's answer in six words, and gives its number.
+fn put_start(a: Started, result: &mut [u32]) -> u32
+    ensures { λ r. ⌜ (r ≡ startNumber a) × (now (result .exit) ≡ overlay (startWords a) (now (result .entry))) ⌝ }
+{
+    put_six(result, start_number(a), start_place(a), 0, 0, 0, 0)
+}
+
+// Writes the record that a start has begun.
+fn keep_begun(a: Started, r: Machine, record: &mut [u32])
+    ensures { λ _. ⌜ now («record» .exit) ≡ recordBegun a (recordWords r) (now («record» .entry)) ⌝ }
+{
+    match a {
+        Started::Begun => store_record(record, r),
+        Started::Refused(_) => {}
+        Started::Unsound(_) => {}
+    }
+}
+
+// The answer of a start.
+pub fn reply_opening(o: Opening, record: &mut [u32], result: &mut [u32]) -> u32
+    ensures { λ r. ⌜ reply r (now («record» .exit)) (now (result .exit)) ≡ openingReply o (now («record» .entry)) (now (result .entry)) ⌝ }
+{
+    let a = o.answer;
+    let r = o.machine;
+    keep_begun(a, r, record);
+    put_start(a, result)
+}

@@ -1,0 +1,78 @@
+use Rattle.base_prelude.proofs.Choice.{tests}
+use Rattle.lang_kinds.specs.Nesting.{standsIn}
+use Rattle.lang_kinds.proofs.Cases.{stands-statement}
+use native.Mathlib.Omega.{arith}
+use mathlib.Core.Path.{_≡_, refl, sym, _∙_, ap, subst}
+use Rattle.base_prelude.proofs.Choice.{tests}
+use Rattle.lang_kinds.specs.Nesting.{standsIn}
+use Rattle.lang_kinds.proofs.Cases.{stands-statement}
+use native.Mathlib.Omega.{arith}
+use mathlib.Core.Path.{_≡_, refl, sym, _∙_, ap, subst}
+use borrow.Author.Needs.{needs}
+use Rattle.lang_kinds.proofs.stands_in.Statement.{statement}
+use Rattle.lang_kinds.proofs.stands_in.Tie as tie
+use Rattle.lang_kinds.proofs.stands_in.Reads as reads
+use Rattle.lang_kinds.proofs.stands_in.Lts as lts
+use Rattle.lang_kinds.proofs.statement_range.Reads as statement-range-reads
+
+returns : tie.Need-returns
+unfolding standsIn
+returns c =
+    search tests depth 16
+
+statement-range-requires : tie.Need-statement-range-requires
+statement-range-requires c κs = search needs
+
+returns-2 : tie.Need-returns-2
+returns-2 c =
+    search stands-statement
+
+returns-3 : tie.Need-returns-3
+unfolding standsIn
+returns-3 c =
+    search tests depth 16
+
+returns-4 : tie.Need-returns-4
+unfolding standsIn
+returns-4 c =
+    search tests depth 16
+
+returns-5 : tie.Need-returns-5
+unfolding standsIn
+returns-5 c =
+    search tests depth 16
+
+returns-6 : tie.Need-returns-6
+unfolding standsIn
+returns-6 c =
+    search tests depth 16
+
+returns-7 : tie.Need-returns-7
+unfolding standsIn
+returns-7 c =
+    search tests depth 16
+
+returns-8 : tie.Need-returns-8
+unfolding standsIn
+returns-8 c =
+    search tests depth 16
+
+returns-9 : tie.Need-returns-9
+unfolding standsIn
+returns-9 c =
+    search tests depth 16
+
+pub stands-in-spec : {M : Type 1} → statement M
+stands-in-spec =
+    tie.close
+    (tie.spec
+    returns
+    statement-range-requires
+    returns-2
+    returns-3
+    returns-4
+    returns-5
+    returns-6
+    returns-7
+    returns-8
+    returns-9)

@@ -1,0 +1,27 @@
+-- What the code asks of a token before it writes its row.
+-- Assumes nothing.
+use mathlib.Core.Path.{_≡_}
+use mathlib.Core.Bool.{true}
+use mathlib.Core.List.{List}
+use Prim.Native.Nat.{ℕ, _+_, _*_, _≤_, _<_}
+use lib.ListN.{length}
+use Rattle.lex_spelling.specs.Text.{nameAt}
+use Rattle.lex_lexeme.specs.declared.Lexeme.{Lexeme}
+use Rattle.lex_lexeme.specs.declared.Reading.{Reading}
+use Rattle.lex_lexeme.specs.declared.Reading.the-variants.{End, Lone, Broken, Open, Whole}
+use Rattle.lex_lexeme.specs.Reading.{isNamed}
+
+pub record LexemeFits (s t : List ℕ) (n : ℕ) (x : Lexeme) : Type 0 where
+  pub room : n * 8 + 8 ≤ length t
+  pub few : n < 4096
+  pub first : x .first < 4294967296
+  pub next : x .next < 4294967296
+  pub size : x .size < 4294967296
+  pub named : isNamed (x .kind) ≡ true → (x .size ≡ length (nameAt s (x .start))) × (x .size ≤ 64)
+
+abbrev pub ReadingFits : List ℕ → List ℕ → ℕ → Reading → Type 0
+ReadingFits s t n End = Unit {0}
+ReadingFits s t n (Lone p) = Unit {0}
+ReadingFits s t n (Broken p) = Unit {0}
+ReadingFits s t n (Open p) = Unit {0}
+ReadingFits s t n (Whole x) = LexemeFits s t n x

@@ -1,0 +1,29 @@
+use borrow.Author.Needs.{needs}
+use Rattle.base_prelude.proofs.Choice.{tests}
+use Rattle.lex_spelling.specs.Classes.{isBlank, isSeparator, isDigit, isLetter}
+use Rattle.lex_spelling.specs.Escape.{hexOf, plainOf}
+use Rattle.lex_spelling.specs.Text.{inString}
+use native.Mathlib.Omega.{arith}
+use mathlib.Core.Path.{_≡_, refl, sym, _∙_, ap, subst}
+use Rattle.lex_spelling.proofs.is_digit.Statement.{statement}
+use Rattle.lex_spelling.proofs.is_digit.Tie as tie
+use Rattle.lex_spelling.proofs.is_digit.Reads as reads
+use Rattle.lex_spelling.proofs.is_digit.Lts as lts
+
+returns : tie.Need-returns
+unfolding isBlank isSeparator isDigit isLetter hexOf plainOf inString
+returns c =
+    search tests depth 16
+
+returns-2 : tie.Need-returns-2
+unfolding isBlank isSeparator isDigit isLetter hexOf plainOf inString
+returns-2 c =
+    search tests depth 16
+
+returns-3 : tie.Need-returns-3
+unfolding isBlank isSeparator isDigit isLetter hexOf plainOf inString
+returns-3 c =
+    search tests depth 16
+
+pub is-digit-spec : {M : Type 1} → statement M
+is-digit-spec = tie.close (tie.spec returns returns-2 returns-3)

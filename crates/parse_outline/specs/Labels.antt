@@ -1,0 +1,85 @@
+-- Label rows: four words for each label, in source order: its token, its kind, what it names, 0.
+-- Assumes nothing.
+use Prim.Native.Nat.{ℕ, zero, suc, _+_, _-_, _*_}
+use mathlib.Core.List.{List, [], _∷_, _++_}
+use lib.ListN.{length, take, drop}
+use Rattle.base_prelude.specs.Choice.{ifLt, ifEq}
+use Rattle.base_prelude.specs.Lists.{zeros}
+use Rattle.base_prelude.specs.Walk.{Step, go, stop, walk}
+use Rattle.lang_kinds.specs.Nesting.{rowsOf}
+use Rattle.parse_lines.specs.Tokens.{kindAt}
+use Rattle.parse_lines.specs.Units.{unitAt}
+use Rattle.parse_lines.specs.Lines.{lineKind}
+use Rattle.parse_lines.specs.declared.Span.{Span}
+use Rattle.parse_units.specs.Parse.{sectionBehind}
+use Rattle.parse_outline.specs.declared.Marks.{Marks}
+use Rattle.parse_outline.specs.declared.Going.{Going}
+use Rattle.parse_outline.specs.declared.Going.the-variants.{On, Over}
+
+-- 1 data, 3 function, 5 place: by the section, and whether the line is a function
+unfoldable pub labelKind : ℕ → ℕ → ℕ
+labelKind k section = ifLt section 2 (ifEq k 1 3 5) 1
+
+-- in data the magic word's token, else the row that the line makes first
+unfoldable pub labelNumber : ℕ → ℕ → ℕ → ℕ
+labelNumber section word row = ifLt section 2 row word
+
+-- label row c
+unfoldable pub putLabel : List ℕ → ℕ → ℕ → ℕ → ℕ → List ℕ
+putLabel x c token kind number = ifLt c 256 (take (c * 4) x ++ (token ∷ kind ∷ number ∷ 0 ∷ []) ++ drop (c * 4 + 4) x) x
+
+-- labels so far, and their rows
+pub record Marked : Type 0 where
+  pub count : ℕ
+  pub table : List ℕ
+
+abbrev pub marked : ℕ → List ℕ → Marked
+marked c x = record { count = c; table = x }
+
+-- a token before the magic word: a label, or a newline
+unfoldable pub markToken : List ℕ → ℕ → ℕ → ℕ → Marked → Marked
+markToken t i kind number m =
+    ifEq (kindAt t i) 2 (marked (m .count + 1) (putLabel (m .table) (m .count) i kind number)) m
+
+unfoldable pub markFrom : ℕ → List ℕ → ℕ → ℕ → ℕ → Marked → Marked
+markFrom zero t i kind number m = m
+markFrom (suc left) t i kind number m = markFrom left t (i + 1) kind number (markToken t i kind number m)
+
+-- the labels of a unit
+unfoldable pub markUnit : List ℕ → Span → ℕ → Marks → List ℕ → Marked
+markUnit t u k s x =
+    markFrom (u .word - u .first) t (u .first) (labelKind k (s .section)) (labelNumber (s .section) (u .word) (s .row)) (marked (s .labels) x)
+
+pub record Marking : Type 0 where
+  pub state : Marks
+  pub table : List ℕ
+
+abbrev pub marking : Marks → List ℕ → Marking
+marking s x = record { state = s; table = x }
+
+unfoldable pub marksBehind : Span → ℕ → Marks → ℕ → Marks
+marksBehind u k s labels = record { at = u .next; row = s .row + rowsOf k; section = sectionBehind k (s .section); labels = labels }
+
+unfoldable pub markOn : List ℕ → Span → ℕ → Marking → Step Marking (List ℕ)
+markOn t u k m =
+    ifEq k 0 (stop (markUnit t u k (m .state) (m .table) .table))
+    (go (marking (marksBehind u k (m .state) (markUnit t u k (m .state) (m .table) .count)) (markUnit t u k (m .state) (m .table) .table)))
+
+-- unit after unit, to the source's end
+unfoldable pub markStep : List ℕ → Marking → Step Marking (List ℕ)
+markStep t m = markOn t (unitAt t (m .state .at)) (lineKind t (unitAt t (m .state .at) .word)) m
+
+-- what a turn of the code comes to
+abbrev pub going : Going → List ℕ → Step Marking (List ℕ)
+going (On s) x = go (marking s x)
+going Over x = stop x
+
+unfoldable pub marksFrom : List ℕ → Marking → List ℕ
+marksFrom t m = walk (markStep t) [] (suc (length t)) m
+
+abbrev pub firstMarks : Marks
+firstMarks = record { at = 0; row = 1; section = 0; labels = 0 }
+
+-- the label rows of the tokens t
+unfoldable pub labelRows : List ℕ → List ℕ
+labelRows t = marksFrom t (marking firstMarks (zeros 1024))

@@ -1,0 +1,44 @@
+use Rattle.parse_units.specs.Parse.{stateBehind}
+use native.Mathlib.Omega.{arith}
+use mathlib.Core.Path.{_≡_, refl, sym, _∙_, ap, subst}
+use borrow.Author.Needs.{needs}
+use Rattle.parse_units.proofs.state_behind.Statement.{statement}
+use Rattle.parse_units.proofs.state_behind.Tie as tie
+use Rattle.parse_units.proofs.state_behind.Reads as reads
+use Rattle.parse_units.proofs.state_behind.Lts as lts
+use Rattle.parse_shapes.proofs.operand_count.Reads as operand-count-reads
+use Rattle.parse_units.proofs.depth_behind.Reads as depth-behind-reads
+use Rattle.parse_units.proofs.locals_behind.Reads as locals-behind-reads
+use Rattle.parse_units.proofs.section_behind.Reads as section-behind-reads
+use Rattle.parse_rules.proofs.labels_rule.Reads as labels-rule-reads
+
+labels-rule-requires : tie.Need-labels-rule-requires
+labels-rule-requires c κs = search needs
+
+section-behind-requires : tie.Need-section-behind-requires
+section-behind-requires c κs = search needs
+
+operand-count-requires : tie.Need-operand-count-requires
+operand-count-requires c κs = search needs
+
+locals-behind-requires : tie.Need-locals-behind-requires
+locals-behind-requires c κs = search needs
+
+depth-behind-requires : tie.Need-depth-behind-requires
+depth-behind-requires c κs = search needs
+
+returns : tie.Need-returns
+unfolding stateBehind
+returns c =
+    cc
+
+pub state-behind-spec : {M : Type 1} → statement M
+state-behind-spec =
+    tie.close
+    (tie.spec
+    labels-rule-requires
+    section-behind-requires
+    operand-count-requires
+    locals-behind-requires
+    depth-behind-requires
+    returns)

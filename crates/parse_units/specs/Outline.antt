@@ -1,0 +1,49 @@
+-- The outline: a row of eight words for each statement, written once, in order. Row 0 is the edge, all zeros; statement n is row n + 1.
+-- Assumes nothing.
+use Prim.Native.Nat.{ℕ, _+_, _*_}
+use mathlib.Core.List.{List, [], _∷_, _++_}
+use lib.ListN.{take, drop}
+use Rattle.base_prelude.specs.Choice.{ifEq, ifTrue}
+use Rattle.lang_kinds.specs.Nesting.{enters, leaves, isFrame}
+use Rattle.parse_lines.specs.Tokens.{tokenWord}
+use Rattle.parse_units.specs.declared.Row.{Row}
+
+-- kind; rows of its function, its innermost frame, and what is open around it; its first token and the one behind its line; the
+-- locals in scope before it; its operand tokens
+unfoldable pub rowAt : List ℕ → ℕ → Row
+rowAt t n =
+    record {
+      kind = tokenWord t n 0;
+      func = tokenWord t n 1;
+      scope = tokenWord t n 2;
+      up = tokenWord t n 3;
+      token = tokenWord t n 4;
+      next = tokenWord t n 5;
+      before = tokenWord t n 6;
+      operands = tokenWord t n 7;
+    }
+
+abbrev pub wordsOf : Row → List ℕ
+wordsOf r = r .kind ∷ r .func ∷ r .scope ∷ r .up ∷ r .token ∷ r .next ∷ r .before ∷ r .operands ∷ []
+
+unfoldable pub putRow : List ℕ → ℕ → Row → List ℕ
+putRow t n r = take (n * 8) t ++ wordsOf r ++ drop (n * 8 + 8) t
+
+-- the row that a kind makes as row n, where the row `top`, which is o, is open: a function is its own; else the function and the
+-- innermost frame are those of what is open; a row that closes or changes an arm holds what stands around it
+unfoldable pub rowIn : ℕ → ℕ → ℕ → Row → ℕ → ℕ → ℕ → ℕ → Row
+rowIn k n top o token next before operands =
+    record {
+      kind = k;
+      func = ifEq k 1 n (o .func);
+      scope = ifEq k 1 n (ifTrue (isFrame (o .kind)) top (o .scope));
+      up = ifTrue (leaves k) (o .up) top;
+      token = token;
+      next = next;
+      before = before;
+      operands = operands;
+    }
+
+-- what is open behind row n
+unfoldable pub behind : ℕ → Row → ℕ
+behind n r = ifTrue (enters (r .kind)) n (r .up)

@@ -1,0 +1,80 @@
+-- The rules of 'Tokens to statements' that look at the state: where a line stands, what its labels may name, and limits.
+-- Assumes nothing.
+use Prim.Native.Nat.{ℕ, _+_, _-_, min}
+use mathlib.Core.Bool.{Bool, true, false}
+use mathlib.Core.List.{List, [], _∷_}
+use Rattle.base_prelude.specs.Choice.{ifLt, ifEq, ifTrue}
+use Rattle.base_prelude.specs.Fault.{none, leastOf}
+use Rattle.base_limits.specs.declared.Width.{Width}
+use Rattle.lang_kinds.specs.Nesting.{standsIn, rowsOf, groundOf}
+use Rattle.lang_kinds.specs.declared.Range.{Range}
+use Rattle.parse_lines.specs.Tokens.{kindAt, wordAt, keyAt}
+use Rattle.parse_lines.specs.declared.Span.{Span}
+use Rattle.parse_rules.specs.Rules.{shapeRule, leftRule, tokensRule, listRule, labelsRule}
+use Rattle.parse_units.specs.Outline.{rowAt}
+use Rattle.parse_units.specs.declared.Row.{Row}
+use Rattle.parse_units.specs.declared.State.{State}
+
+-- the ground on which the next line stands: that of the open row, or the section's
+unfoldable pub groundIn : State → Row → ℕ
+groundIn s o = ifEq (s .top) 0 (s .section) (groundOf (o .kind))
+
+-- words for data, and for what stands in a function
+unfoldable pub dataWord : ℕ → Bool
+dataWord w = ifLt w 4 false (ifLt w 9 true false)
+
+unfoldable pub statementWord : ℕ → Bool
+statementWord w = ifLt w 9 false (ifEq w 13 false (ifLt w 33 true false))
+
+-- "A label names a data definition, group or `align` in data, a function in functions, or a statement inside a function, `end` and
+-- `else` lines included, however its line goes on": judged by the ground and the magic word alone
+unfoldable pub mayLabel : ℕ → ℕ → ℕ → Bool
+mayLabel g kind w =
+    ifEq kind 3
+    (ifEq g 0 false
+    (ifEq g 1 (ifEq w 9 true false)
+    (ifLt g 4 (dataWord w) (statementWord w))))
+    false
+
+-- 8: "else, or at the source's end, refusal 8 at it": the first of the labels before the line
+unfoldable pub labelRule : List ℕ → ℕ → Span → ℕ → ℕ
+labelRule t n u g =
+    ifEq (kindAt t (u .first)) 2
+    (ifTrue (mayLabel g (kindAt t (u .word)) (wordAt t (u .word))) none (keyAt t n (u .first) 8))
+    none
+
+-- 8: "not allowed here: magic word"; "8 at source end if something is open"
+unfoldable pub placeRule : List ℕ → ℕ → Span → ℕ → ℕ → ℕ
+placeRule t n u k g =
+    ifLt g (standsIn k .lo) (keyAt t n (u .word) 8) (ifLt g (standsIn k .hi) none (keyAt t n (u .word) 8))
+
+-- 14: 1,024 statements; row 0 is the edge, so the first free row is at most 1,025
+unfoldable pub roomRule : List ℕ → ℕ → Span → ℕ → ℕ → ℕ
+roomRule t n u k count = ifLt (1025 - count) (rowsOf k) (keyAt t n (u .word) 14) none
+
+-- 14: 64 locals in scope
+unfoldable pub localsRule : List ℕ → ℕ → Span → ℕ → ℕ → ℕ
+localsRule t n u k locals = ifEq k 5 (ifLt locals 64 none (keyAt t n (u .word) 14)) none
+
+-- 14: blocks 16 deep
+unfoldable pub depthRule : List ℕ → ℕ → Span → ℕ → ℕ → ℕ
+depthRule t n u k depth = ifEq k 3 (ifLt depth 16 none (keyAt t n (u .word) 14)) none
+
+-- what the rules find in a unit, on a ground, in a state: words, shapes and places
+unfoldable pub lineFaults : Width → List ℕ → ℕ → Span → ℕ → ℕ → State → List ℕ
+lineFaults w t n u k g s =
+    labelRule t n u g ∷ labelsRule t n u (s .labels) .fault ∷ shapeRule w t n u k ∷ placeRule t n u k g ∷ leftRule t n u k ∷ []
+
+-- limits, and the tokens of the line
+unfoldable pub limitFaults : List ℕ → ℕ → Span → ℕ → State → List ℕ
+limitFaults t n u k s =
+    roomRule t n u k (s .count)
+    ∷ localsRule t n u k (s .locals)
+    ∷ depthRule t n u k (s .depth)
+    ∷ tokensRule t n u k
+    ∷ listRule t n u k
+    ∷ []
+
+-- the least of all
+unfoldable pub unitFault : Width → List ℕ → ℕ → Span → ℕ → ℕ → State → ℕ
+unitFault w t n u k g s = min (leastOf (lineFaults w t n u k g s)) (leastOf (limitFaults t n u k s))

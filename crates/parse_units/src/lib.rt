@@ -1,0 +1,542 @@
+// Tokens to the outline: places, sections, nesting, labels and limits.
+use base_limits::Machine;
+use base_limits::Width;
+use parse_lines::Span;
+ghost use mathlib.Core.Path.{_≡_};
+ghost use Prim.Native.Nat.{_+_, _*_, _-_, _≤_, _<_};
+ghost use lib.ListN.{length};
+ghost use mathlib.Core.Bool.{true, false};
+ghost use Rattle.base_prelude.specs.Choice.{ifEq, ifTrue};
+ghost use Rattle.lang_kinds.specs.Nesting.{isFrame, leaves};
+ghost use Rattle.base_prelude.specs.Fault.{none};
+ghost use Rattle.parse_units.specs.Outline.{rowAt, putRow, rowIn, behind};
+ghost use Rattle.parse_units.specs.Places.{groundIn, dataWord, statementWord, mayLabel, labelRule, placeRule, roomRule, localsRule, depthRule, lineFaults, limitFaults, unitFault};
+ghost use Rattle.base_prelude.specs.Fault.{leastOf};
+ghost use Rattle.lang_kinds.specs.Nesting.{rowsOf};
+ghost use Rattle.parse_lines.specs.Tokens.{tokenWord};
+ghost use Rattle.parse_lines.specs.Lines.{lineKind};
+ghost use Rattle.parse_shapes.specs.Shapes.{operandCount};
+ghost use Rattle.base_prelude.specs.Lists.{zeros};
+ghost use Rattle.parse_units.specs.Parse.{world, putState, putKind, growTwo, growBy, localsBehind, depthBehind, sectionBehind, stateBehind, joinState, advance, result, stepped, turnOf, parseFrom, parseOf, begin};
+ghost use Rattle.parse_units.specs.Fits.{StepFits, TurnFits};
+
+// Sizes of the outline's tables.
+pub struct Outline {}
+
+impl Outline {
+    pub const ROW: usize = 8;
+
+    pub const WORDS: usize = 8200;
+
+    pub const LABEL_ROW: usize = 4;
+
+    pub const LABEL_WORDS: usize = 1024;
+}
+
+// A row of the outline.
+pub struct Row {
+    pub kind: u32,
+    pub func: u32,
+    pub scope: u32,
+    pub up: u32,
+    pub token: u32,
+    pub next: u32,
+    pub before: u32,
+    pub operands: u32,
+}
+
+// The state between two units: the next token, the first free row, the open row, the section, locals in scope, open blocks, labels.
+pub struct State {
+    pub at: u32,
+    pub count: u32,
+    pub top: u32,
+    pub section: u32,
+    pub locals: u32,
+    pub depth: u32,
+    pub labels: u32,
+}
+
+// The first free row and the number of labels, or the key of the least fault.
+pub enum Verdict {
+    Accepted { count: u32, labels: u32 },
+    Refused(u64),
+}
+
+// What a turn comes to: the next state, or the verdict.
+pub enum Turn {
+    More(State),
+    Done(Verdict),
+}
+
+fn row_at(rows: &[u32], n: u32) -> Row
+    ensures { λ r. ⌜ r ≡ rowAt (now (rows .entry)) n ⌝ }
+{
+    Row {
+        kind: parse_lines::token_word(rows, n, 0),
+        func: parse_lines::token_word(rows, n, 1),
+        scope: parse_lines::token_word(rows, n, 2),
+        up: parse_lines::token_word(rows, n, 3),
+        token: parse_lines::token_word(rows, n, 4),
+        next: parse_lines::token_word(rows, n, 5),
+        before: parse_lines::token_word(rows, n, 6),
+        operands: parse_lines::token_word(rows, n, 7),
+    }
+}
+
+fn put_row(rows: &mut [u32], n: u32, r: Row)
+    requires { ⌜ n * 8 + 8 ≤ length (now rows) ⌝ }
+    ensures { λ _. ⌜ now (rows .exit) ≡ putRow (now (rows .entry)) n r ⌝ }
+{
+    let w = n as usize * 8;
+    rows[w] = r.kind;
+    rows[w + 1] = r.func;
+    rows[w + 2] = r.scope;
+    rows[w + 3] = r.up;
+    rows[w + 4] = r.token;
+    rows[w + 5] = r.next;
+    rows[w + 6] = r.before;
+    rows[w + 7] = r.operands;
+}
+
+fn own_or(k: u32, n: u32, other: u32) -> u32
+    ensures { λ r. ⌜ r ≡ ifEq k 1 n other ⌝ }
+{
+    if k == 1 {
+        return n;
+    }
+    other
+}
+
+fn frame_of(top: u32, o: Row) -> u32
+    ensures { λ r. ⌜ r ≡ ifTrue (isFrame (o .kind)) top (o .scope) ⌝ }
+{
+    if lang_kinds::is_frame(o.kind) {
+        return top;
+    }
+    o.scope
+}
+
+fn up_of(k: u32, top: u32, o: Row) -> u32
+    ensures { λ r. ⌜ r ≡ ifTrue (leaves k) (o .up) top ⌝ }
+{
+    if lang_kinds::is_closer(k) {
+        return o.up;
+    }
+    top
+}
+
+fn row_in(
+    k: u32,
+    n: u32,
+    top: u32,
+    o: Row,
+    token: u32,
+    next: u32,
+    before: u32,
+    operands: u32,
+) -> Row
+    ensures { λ r. ⌜ r ≡ rowIn k n top o token next before operands ⌝ }
+{
+    Row {
+        kind: k,
+        func: own_or(k, n, o.func),
+        scope: own_or(k, n, frame_of(top, o)),
+        up: up_of(k, top, o),
+        token: token,
+        next: next,
+        before: before,
+        operands: operands,
+    }
+}
+
+fn open_behind(n: u32, r: Row) -> u32
+    ensures { λ x. ⌜ x ≡ behind n r ⌝ }
+{
+    if lang_kinds::is_opener(r.kind) {
+        return n;
+    }
+    r.up
+}
+
+fn ground_in(s: State, o: Row) -> u32
+    ensures { λ r. ⌜ r ≡ groundIn s o ⌝ }
+{
+    if s.top == 0 {
+        return s.section;
+    }
+    lang_kinds::ground_of(o.kind)
+}
+
+fn data_word(w: u32) -> bool
+    ensures { λ r. ⌜ r ≡ dataWord w ⌝ }
+{
+    if w < 4 {
+        return false;
+    }
+    if w < 9 {
+        return true;
+    }
+    false
+}
+
+fn statement_word(w: u32) -> bool
+    ensures { λ r. ⌜ r ≡ statementWord w ⌝ }
+{
+    if w < 9 {
+        return false;
+    }
+    if w == 13 {
+        return false;
+    }
+    if w < 33 {
+        return true;
+    }
+    false
+}
+
+fn function_word(w: u32) -> bool
+    ensures { λ r. ⌜ r ≡ ifEq w 9 true false ⌝ }
+{
+    if w == 9 {
+        return true;
+    }
+    false
+}
+
+fn may_label(g: u32, kind: u32, w: u32) -> bool
+    ensures { λ r. ⌜ r ≡ mayLabel g kind w ⌝ }
+{
+    if kind == 3 {
+        if g == 0 {
+            return false;
+        }
+        if g == 1 {
+            return function_word(w);
+        }
+        if g < 4 {
+            return data_word(w);
+        }
+        return statement_word(w);
+    }
+    false
+}
+
+// 8: labels before what they may not name.
+fn label_rule(t: &[u32], n: u32, u: Span, g: u32) -> u64
+    ensures { λ r. ⌜ r ≡ labelRule (now (t .entry)) n u g ⌝ }
+{
+    if parse_lines::kind_at(t, u.first) == 2 {
+        if may_label(
+            g,
+            parse_lines::kind_at(t, u.word),
+            parse_lines::word_at(t, u.word),
+        ) {
+            return 1099511627776;
+        }
+        return parse_lines::key_at(t, n, u.first, 8);
+    }
+    1099511627776
+}
+
+// 8: a line that may not stand here.
+fn place_rule(t: &[u32], n: u32, u: Span, k: u32, g: u32) -> u64
+    ensures { λ r. ⌜ r ≡ placeRule (now (t .entry)) n u k g ⌝ }
+{
+    let x = lang_kinds::stands_in(k);
+    if g < x.lo {
+        return parse_lines::key_at(t, n, u.word, 8);
+    }
+    if g < x.hi {
+        return 1099511627776;
+    }
+    parse_lines::key_at(t, n, u.word, 8)
+}
+
+fn rows_left(count: u32) -> u32
+    ensures { λ r. ⌜ r ≡ 1025 - count ⌝ }
+{
+    if count < 1025 {
+        return 1025 - count;
+    }
+    0
+}
+
+// 14: statements.
+fn room_rule(t: &[u32], n: u32, u: Span, k: u32, count: u32) -> u64
+    ensures { λ r. ⌜ r ≡ roomRule (now (t .entry)) n u k count ⌝ }
+{
+    if rows_left(count) < lang_kinds::rows_of(k) {
+        return parse_lines::key_at(t, n, u.word, 14);
+    }
+    1099511627776
+}
+
+// 14: locals in scope.
+fn locals_rule(t: &[u32], n: u32, u: Span, k: u32, locals: u32) -> u64
+    ensures { λ r. ⌜ r ≡ localsRule (now (t .entry)) n u k locals ⌝ }
+{
+    if k == 5 {
+        if locals < Machine::LOCALS {
+            return 1099511627776;
+        }
+        return parse_lines::key_at(t, n, u.word, 14);
+    }
+    1099511627776
+}
+
+// 14: nested blocks.
+fn depth_rule(t: &[u32], n: u32, u: Span, k: u32, depth: u32) -> u64
+    ensures { λ r. ⌜ r ≡ depthRule (now (t .entry)) n u k depth ⌝ }
+{
+    if k == 3 {
+        if depth < Machine::BLOCK_DEPTH {
+            return 1099511627776;
+        }
+        return parse_lines::key_at(t, n, u.word, 14);
+    }
+    1099511627776
+}
+
+fn line_faults(w: Width, t: &[u32], n: u32, u: Span, k: u32, g: u32, s: State) -> u64
+    requires { ⌜ (length (now t) ≡ 32768) × (u .word ≤ 4097) × (s .labels ≤ 4097) ⌝ }
+    ensures { λ r. ⌜ r ≡ leastOf (lineFaults w (now (t .entry)) n u k g s) ⌝ }
+{
+    let x = parse_rules::labels_rule(t, n, u, s.labels);
+    let a = base_prelude::least(parse_rules::left_rule(t, n, u, k), 1099511627776);
+    let b = base_prelude::least(place_rule(t, n, u, k, g), a);
+    let c = base_prelude::least(parse_rules::shape_rule(w, t, n, u, k), b);
+    let d = base_prelude::least(x.fault, c);
+    base_prelude::least(label_rule(t, n, u, g), d)
+}
+
+fn limit_faults(t: &[u32], n: u32, u: Span, k: u32, s: State) -> u64
+    requires { ⌜ u .word ≤ 4097 ⌝ }
+    ensures { λ r. ⌜ r ≡ leastOf (limitFaults (now (t .entry)) n u k s) ⌝ }
+{
+    let a = base_prelude::least(parse_rules::list_rule(t, n, u, k), 1099511627776);
+    let b = base_prelude::least(parse_rules::tokens_rule(t, n, u, k), a);
+    let c = base_prelude::least(depth_rule(t, n, u, k, s.depth), b);
+    let d = base_prelude::least(locals_rule(t, n, u, k, s.locals), c);
+    base_prelude::least(room_rule(t, n, u, k, s.count), d)
+}
+
+// The least fault of a unit.
+fn unit_fault(w: Width, t: &[u32], n: u32, u: Span, k: u32, g: u32, s: State) -> u64
+    requires { ⌜ (length (now t) ≡ 32768) × (u .word ≤ 4097) × (s .labels ≤ 4097) ⌝ }
+    ensures { λ r. ⌜ r ≡ unitFault w (now (t .entry)) n u k g s ⌝ }
+{
+    base_prelude::least(
+        line_faults(w, t, n, u, k, g, s),
+        limit_faults(t, n, u, k, s),
+    )
+}
+
+fn put_state(s: State, n: u32, r: Row) -> State
+    requires { ⌜ n < 4294967295 ⌝ }
+    ensures { λ x. ⌜ x ≡ putState s n r ⌝ }
+{
+    State {
+        at: s.at,
+        count: n + 1,
+        top: open_behind(n, r),
+        section: s.section,
+        locals: s.locals,
+        depth: s.depth,
+        labels: s.labels,
+    }
+}
+
+// One row more.
+fn put_kind(rows: &mut [u32], k: u32, token: u32, next: u32, operands: u32, s: State) -> State
+    requires { ⌜ (length (now rows) ≡ 8200) × (s .count ≤ 1024) ⌝ }
+    ensures { λ r. ⌜ world r (now (rows .exit)) ≡ putKind k token next operands (world s (now (rows .entry))) ⌝ }
+{
+    let o = row_at(rows, s.top);
+    let r = row_in(k, s.count, s.top, o, token, next, s.locals, operands);
+    put_row(rows, s.count, r);
+    put_state(s, s.count, r)
+}
+
+// The two rows of an else-if line.
+fn grow_two(t: &[u32], rows: &mut [u32], u: Span, k: u32, s: State) -> State
+    requires { ⌜ (length (now rows) ≡ 8200) × (s .count ≤ 1023) × (u .word ≤ 4097) ⌝ }
+    ensures { λ r. ⌜ world r (now (rows .exit)) ≡ growTwo (now (t .entry)) u k (world s (now (rows .entry))) ⌝ }
+{
+    let x = put_kind(rows, k, u.word, u.word + 1, 0, s);
+    let j = lang_kinds::kind_of_word(parse_lines::word_at(t, u.word + 1));
+    put_kind(rows, j, u.word + 1, u.next, 2, x)
+}
+
+fn grow(m: u32, t: &[u32], rows: &mut [u32], u: Span, k: u32, s: State) -> State
+    requires { ⌜ (length (now rows) ≡ 8200) × (s .count + m ≤ 1025) × (u .word ≤ 4097) ⌝ }
+    ensures { λ r. ⌜ world r (now (rows .exit)) ≡ growBy m (now (t .entry)) u k (world s (now (rows .entry))) ⌝ }
+{
+    if m == 0 {
+        return s;
+    }
+    if m == 1 {
+        return put_kind(rows, k, u.word, u.next, parse_shapes::operand_count(u), s);
+    }
+    grow_two(t, rows, u, k, s)
+}
+
+fn locals_behind(k: u32, operands: u32, before: u32, locals: u32) -> u32
+    requires { ⌜ (k ≡ 5 → locals < 64) ⌝ }
+    ensures { λ r. ⌜ r ≡ localsBehind k operands before locals ⌝ }
+{
+    if k == 1 {
+        return operands;
+    }
+    if k == 5 {
+        return locals + 1;
+    }
+    if k == 4 {
+        return before;
+    }
+    locals
+}
+
+fn less_one(depth: u32) -> u32
+    ensures { λ r. ⌜ r ≡ depth - 1 ⌝ }
+{
+    if depth < 1 {
+        return 0;
+    }
+    depth - 1
+}
+
+fn depth_behind(k: u32, depth: u32) -> u32
+    requires { ⌜ (k ≡ 3 → depth < 16) ⌝ }
+    ensures { λ r. ⌜ r ≡ depthBehind k depth ⌝ }
+{
+    if k == 1 {
+        return 0;
+    }
+    if k == 3 {
+        return depth + 1;
+    }
+    if k == 4 {
+        return less_one(depth);
+    }
+    depth
+}
+
+// The section behind a line.
+pub fn section_behind(k: u32, section: u32) -> u32
+    ensures { λ r. ⌜ r ≡ sectionBehind k section ⌝ }
+{
+    if k == 25 {
+        return 2;
+    }
+    if k == 26 {
+        return 1;
+    }
+    if k == 32 {
+        return 3;
+    }
+    if k == 33 {
+        return 2;
+    }
+    section
+}
+
+fn state_behind(t: &[u32], n: u32, u: Span, k: u32, o: Row, s: State) -> State
+    requires { ⌜ (u .word ≤ 4097) × (s .labels ≤ 4097) × (k ≡ 5 → s .locals < 64) × (k ≡ 3 → s .depth < 16) ⌝ }
+    ensures { λ r. ⌜ r ≡ stateBehind (now (t .entry)) n u k o s ⌝ }
+{
+    let x = parse_rules::labels_rule(t, n, u, s.labels);
+    State {
+        at: u.next,
+        count: s.count,
+        top: s.top,
+        section: section_behind(k, s.section),
+        locals: locals_behind(k, parse_shapes::operand_count(u), o.before, s.locals),
+        depth: depth_behind(k, s.depth),
+        labels: x.count,
+    }
+}
+
+fn join_state(s: State, r: State) -> State
+    ensures { λ x. ⌜ x ≡ joinState s r ⌝ }
+{
+    State {
+        at: s.at,
+        count: r.count,
+        top: r.top,
+        section: s.section,
+        locals: s.locals,
+        depth: s.depth,
+        labels: s.labels,
+    }
+}
+
+// The state behind a unit without a fault, its rows written.
+fn step_on(t: &[u32], n: u32, rows: &mut [u32], u: Span, k: u32, s: State) -> State
+    requires { ⌜ StepFits (now rows) u k s ⌝ }
+    ensures { λ r. ⌜ world r (now (rows .exit)) ≡ advance (now (t .entry)) n u k (world s (now (rows .entry))) ⌝ }
+{
+    let o = row_at(rows, s.top);
+    let b = state_behind(t, n, u, k, o, s);
+    let g = grow(lang_kinds::rows_of(k), t, rows, u, k, s);
+    join_state(b, g)
+}
+
+fn take_turn(w: Width, t: &[u32], n: u32, rows: &mut [u32], s: State) -> Turn
+    requires { ⌜ TurnFits (now t) (now rows) s ⌝ }
+    ensures { λ r. ⌜ stepped r (now (rows .exit)) ≡ turnOf w (now (t .entry)) n (world s (now (rows .entry))) ⌝ }
+{
+    let u = parse_lines::unit_at(t, s.at);
+    let k = parse_lines::line_kind(t, u.word);
+    let o = row_at(rows, s.top);
+    let f = unit_fault(w, t, n, u, k, ground_in(s, o), s);
+    if f < 1099511627776 {
+        return Turn::Done(Verdict::Refused(f));
+    }
+    if k == 0 {
+        return Turn::Done(Verdict::Accepted {
+            count: s.count,
+            labels: s.labels,
+        });
+    }
+    Turn::More(step_on(t, n, rows, u, k, s))
+}
+
+fn parse_from(w: Width, t: &[u32], n: u32, rows: &mut [u32], start: State) -> Verdict
+    requires { ⌜ TurnFits (now t) (now rows) start × (start .labels ≤ start .at) ⌝ }
+    ensures { λ r. ⌜ result r (now (rows .exit)) ≡ parseFrom w (now (t .entry)) n (world start (now (rows .entry))) ⌝ }
+{
+    let mut s = start;
+    loop {
+        match take_turn(w, t, n, rows, s) {
+            Turn::More(x) => {
+                s = x;
+            }
+            Turn::Done(v) => {
+                return v;
+            }
+        }
+    }
+}
+
+fn start_state() -> State
+    ensures { λ r. ⌜ r ≡ begin ⌝ }
+{
+    State {
+        at: 0,
+        count: 1,
+        top: 0,
+        section: 0,
+        locals: 0,
+        depth: 0,
+        labels: 0,
+    }
+}
+
+// The outline of the tokens t of a source of n bytes; the rows' words are cleared first.
+pub fn parse_rows(w: Width, t: &[u32], n: u32, rows: &mut [u32]) -> Verdict
+    requires { ⌜ (length (now t) ≡ 32768) × (length (now rows) ≡ 8200) ⌝ }
+    ensures { λ r. ⌜ result r (now (rows .exit)) ≡ parseOf w (now (t .entry)) n ⌝ }
+{
+    base_prelude::clear_from(rows, 0);
+    parse_from(w, t, n, rows, start_state())
+}

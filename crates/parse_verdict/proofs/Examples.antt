@@ -1,0 +1,47 @@
+-- Small sources and tables: what the definitions find in them, good and spoilt.
+-- Assumes nothing.
+use mathlib.Core.Path.{_≡_, refl}
+use mathlib.Core.List.{List, [], _∷_}
+use Prim.Native.Nat.{ℕ, zero, suc, _<_, _≤_}
+use native.Mathlib.Omega.{arith}
+use lib.ListN.{replicate}
+use Rattle.base_prelude.specs.Fault.{none, key}
+use Rattle.base_limits.specs.Limits.{tokens}
+use Rattle.base_limits.specs.declared.Width.the-variants.{Bits32}
+use Rattle.lex_source.specs.Token.{Token}
+use Rattle.lex_source.specs.Lex.{state, lexOf, tableOf}
+use Rattle.parse_verdict.specs.Verdict.{allFaults, Rising}
+use Rattle.parse_verdict.specs.Lexing.{tokenFaults, lexFaults}
+use Rattle.parse_verdict.proofs.Opened.{opened}
+
+-- `5x 6y`: two integers, each with a letter behind it
+every-token : lexFaults Bits32 (53 ∷ 120 ∷ 32 ∷ 54 ∷ 121 ∷ []) ≡ key 1 2 ∷ none ∷ key 4 2 ∷ none ∷ none ∷ []
+unfolding opened
+every-token = refl
+
+-- some token
+one : Token
+one = record { kind = 3; first = 0; next = 1; value = 0; text = 97 ∷ []; name = 0; word = 0 }
+
+-- `a` behind as many tokens as there may be
+one-token-more : tokenFaults 1 Bits32 (97 ∷ []) (state 0 (replicate tokens one)) ≡ key 0 14 ∷ []
+unfolding opened
+one-token-more = refl
+
+-- `section functions`, `foo`, `bar`, a line each: two words that are unknown, then the source's end
+two-unknown : List ℕ
+two-unknown =
+    115 ∷ 101 ∷ 99 ∷ 116 ∷ 105 ∷ 111 ∷ 110 ∷ 32 ∷ 102 ∷ 117 ∷ 110 ∷ 99 ∷ 116 ∷ 105 ∷ 111 ∷ 110 ∷ 115 ∷ 10
+    ∷ 102 ∷ 111 ∷ 111 ∷ 10 ∷ 98 ∷ 97 ∷ 114 ∷ []
+
+every-unit : allFaults Bits32 (tableOf (lexOf Bits32 two-unknown)) 25 ≡ none ∷ key 18 7 ∷ key 22 7 ∷ none ∷ []
+unfolding opened two-unknown
+every-unit = refl
+
+-- two tokens at one place do not rise
+twice-at-five : List ℕ
+twice-at-five = 3 ∷ 5 ∷ 0 ∷ 0 ∷ 0 ∷ 0 ∷ 0 ∷ 0 ∷ 3 ∷ 5 ∷ []
+
+not-rising : Rising twice-at-five 9 → ⊥
+unfolding opened twice-at-five
+not-rising h = omega (arith, (let z : 5 < 5 = h .rises 0 (omega arith) in z))

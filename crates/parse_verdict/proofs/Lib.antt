@@ -1,0 +1,7 @@
+pub mod Found
+pub mod Decided
+pub mod Lexed
+pub mod Counts
+pub mod Lexing
+pub mod Opened
+pub mod Examples

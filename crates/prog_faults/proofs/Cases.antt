@@ -1,0 +1,274 @@
+-- The ways through the functions on broken rows.
+-- Assumes nothing.
+use mathlib.Core.Path.{_≡_, refl, sym, _∙_, ap}
+use mathlib.Core.Bool.{Bool, true, false}
+use mathlib.Core.List.{List, [], _∷_}
+use Prim.Native.Nat.{ℕ, zero, suc, _+_, _-_, _*_, _<_, _≤_, min}
+use native.Mathlib.Nat.{not-suc-le-zero, le-of-suc-le-suc, zero-lt-suc}
+use native.Mathlib.Decide.{ℕ-discrete}
+use native.Mathlib.Omega.{arith}
+use lib.ListN.{length, getD, take}
+use borrow.Author.Tests.{eq-eqb, ne-eqb, lt-ltb, le-ltb, le-leb, lt-leb}
+use lib.Dec.{eqb, ltb, leb}
+use Rattle.base_prelude.specs.Choice.{ifTrue, ifEq}
+use Rattle.prog_tables.specs.Tests.{oneOf, some, someOf}
+use Rattle.prog_tables.specs.Statement.{Row, hasExpression, isTest, isOperator, isCall, usedBy, operandAt, slots, rowFrom, rowAt}
+use Rattle.prog_tables.specs.Nesting.{isListed, hasTarget}
+use Rattle.prog_tables.specs.Faults.{expressionListed, inFunction, sizeAt, operandFault, addressListed, kindFault, targetFault, calleeFault, sizeFault, ownWord, hasWord, wordFault, operandsFault, addressFault, rowFault}
+use Rattle.prog_tables.specs.declared.Operand.{Operand}
+use Rattle.prog_tables.specs.declared.Operand.the-variants.{Unlisted}
+use Rattle.prog_tables.proofs.Each.{one-true}
+
+module _ (k : ℕ) (b : Bool) (d : b ≡ isTest k) where
+  pub has-test : b ≡ true → true ≡ hasTarget k
+  unfolding hasTarget ifTrue
+  has-test h = rw (← d, h)
+
+  pub has-else : b ≡ false → k ≡ 20 → true ≡ hasTarget k
+  unfolding hasTarget ifTrue ifEq
+  has-else h p = rw (← d, h, eq-eqb _ _ p)
+
+  pub has-jump : b ≡ false → (k ≡ 20 → ⊥) → eqb k 21 ≡ hasTarget k
+  unfolding hasTarget ifTrue ifEq
+  has-jump h p = rw (← d, h, ne-eqb _ _ p)
+
+pub has-operator : (k e : ℕ) (b : Bool) → (e ≡ 0 → ⊥) → (e ≡ 1 → ⊥) → (e ≡ 2 → ⊥) → b ≡ isOperator e → b ≡ expressionListed k e
+unfolding expressionListed ifEq
+has-operator k e b p q r d = rw (ne-eqb _ _ p, ne-eqb _ _ q, ne-eqb _ _ r) d
+
+pub ruleset has = (has-test, has-else, has-jump, has-operator)
+
+-- ---- the function of a row
+
+module _ (f : ℕ → Row) (c n g : ℕ) (e : g ≡ f n .func) where
+  pub within-kind : (k : ℕ) → g < c → k ≡ f g .kind → eqb k 1 ≡ inFunction f c n
+  unfolding inFunction
+  within-kind k h d = rw (← e, lt-ltb _ _ h, ← d)
+
+  pub within-not : c ≤ g → false ≡ inFunction f c n
+  unfolding inFunction
+  within-not h = rw (← e, le-ltb _ _ h)
+
+module _ (f : ℕ → Row) (c n : ℕ) (b : Bool) (d : b ≡ inFunction f c n) where
+  pub size-in : (g a : ℕ) → b ≡ true → g ≡ f n .func → a ≡ f g .a → a ≡ sizeAt f c n
+  unfolding sizeAt ifTrue
+  size-in g a h e q = rw (← d, h, ← e) q
+
+  pub size-out : b ≡ false → 0 ≡ sizeAt f c n
+  unfolding sizeAt ifTrue
+  size-out h = rw (← d, h)
+
+pub ruleset sizes = (within-kind, within-not, size-in, size-out)
+
+-- ---- causes
+
+module _ (f : ℕ → Row) (n k : ℕ) (b : Bool) (e : k ≡ f n .kind) (d : b ≡ isListed k) where
+  pub kind-unlisted : b ≡ false → true ≡ kindFault f n
+  unfolding kindFault ifTrue
+  kind-unlisted h = rw (← e, ← d, h)
+
+  module _ (h : b ≡ true) (v : Bool) (r : v ≡ hasExpression k) where
+    pub kind-plain : v ≡ false → false ≡ kindFault f n
+    unfolding kindFault ifTrue
+    kind-plain q = rw (← e, ← d, h, ← r, q)
+
+    pub kind-good : (x : ℕ) (w : Bool) → v ≡ true → x ≡ f n .expr → w ≡ expressionListed k x → w ≡ true → false ≡ kindFault f n
+    unfolding kindFault ifTrue
+    kind-good x w q g s l = rw (← e, ← d, h, ← r, q, ← g, ← s, l)
+
+    pub kind-bad : (x : ℕ) (w : Bool) → v ≡ true → x ≡ f n .expr → w ≡ expressionListed k x → w ≡ false → true ≡ kindFault f n
+    unfolding kindFault ifTrue
+    kind-bad x w q g s l = rw (← e, ← d, h, ← r, q, ← g, ← s, l)
+
+pub ruleset kind-ways = (kind-unlisted, kind-plain, kind-good, kind-bad)
+
+module _ (k : ℕ) (b : Bool) (d : b ≡ hasTarget k) where
+  pub jump-yes : b ≡ true → true ≡ oneOf (hasTarget k) (eqb k 10)
+  jump-yes h = rw (← d, h)
+
+  pub jump-goto : b ≡ false → eqb k 10 ≡ oneOf (hasTarget k) (eqb k 10)
+  jump-goto h = rw (← d, h)
+
+pub ruleset jump-ways = (jump-yes, jump-goto)
+
+module _ (f : ℕ → Row) (c n k : ℕ) (b : Bool) (e : k ≡ f n .kind) (d : b ≡ oneOf (hasTarget k) (eqb k 10)) where
+  pub target-none : b ≡ false → false ≡ targetFault f c n
+  unfolding targetFault
+  target-none h = rw (← e, ← d, h)
+
+  module _ (h : b ≡ true) (v : Bool) (r : v ≡ inFunction f c n) where
+    pub target-outside : v ≡ false → true ≡ targetFault f c n
+    unfolding targetFault
+    target-outside q = rw (← e, ← d, h, ← r, q)
+
+    module _ (a : ℕ) (q : v ≡ true) (g : a ≡ f n .a) where
+      pub target-far : c ≤ a → true ≡ targetFault f c n
+      unfolding targetFault
+      target-far l = rw (← e, ← d, h, ← r, q, ← g, le-ltb _ _ l)
+
+      pub target-same : (x y : ℕ) → a < c → x ≡ f a .func → y ≡ f n .func → x ≡ y → false ≡ targetFault f c n
+      unfolding targetFault
+      target-same x y l s u m = rw (← e, ← d, h, ← r, q, ← g, lt-ltb _ _ l, ← s, ← u, eq-eqb _ _ m)
+
+      pub target-other : (x y : ℕ) → a < c → x ≡ f a .func → y ≡ f n .func → (x ≡ y → ⊥) → true ≡ targetFault f c n
+      unfolding targetFault
+      target-other x y l s u m = rw (← e, ← d, h, ← r, q, ← g, lt-ltb _ _ l, ← s, ← u, ne-eqb _ _ m)
+
+pub ruleset target-ways = (target-none, target-outside, target-far, target-same, target-other)
+
+module _ (f : ℕ → Row) (c n k x : ℕ) (b : Bool) (e : k ≡ f n .kind) (w : x ≡ f n .expr) (d : b ≡ isCall k x) where
+  pub callee-none : b ≡ false → false ≡ calleeFault f c n
+  unfolding calleeFault
+  callee-none h = rw (← e, ← w, ← d, h)
+
+  module _ (g : ℕ) (h : b ≡ true) (r : g ≡ f n .callee) where
+    pub callee-far : c ≤ g → true ≡ calleeFault f c n
+    unfolding calleeFault
+    callee-far l = rw (← e, ← w, ← d, h, ← r, le-ltb _ _ l)
+
+    module _ (j : ℕ) (l : g < c) (s : j ≡ f g .kind) where
+      pub callee-kind : (j ≡ 1 → ⊥) → true ≡ calleeFault f c n
+      unfolding calleeFault
+      callee-kind q = rw (← e, ← w, ← d, h, ← r, lt-ltb _ _ l, ← s, ne-eqb _ _ q)
+
+      module _ (p m : ℕ) (q : j ≡ 1) (u : p ≡ f g .b) (v : m ≡ f n .count) where
+        pub callee-count : (p ≡ m → ⊥) → true ≡ calleeFault f c n
+        unfolding calleeFault
+        callee-count o = rw (← e, ← w, ← d, h, ← r, lt-ltb _ _ l, ← s, eq-eqb _ _ q, ← u, ← v, ne-eqb _ _ o)
+
+        pub callee-good : p ≡ m → m ≤ 8 → false ≡ calleeFault f c n
+        unfolding calleeFault
+        callee-good o i = rw (← e, ← w, ← d, h, ← r, lt-ltb _ _ l, ← s, eq-eqb _ _ q, ← u, ← v, eq-eqb _ _ o, le-leb _ _ i)
+
+        pub callee-many : p ≡ m → 8 < m → true ≡ calleeFault f c n
+        unfolding calleeFault
+        callee-many o i = rw (← e, ← w, ← d, h, ← r, lt-ltb _ _ l, ← s, eq-eqb _ _ q, ← u, ← v, eq-eqb _ _ o, lt-leb _ _ i)
+
+pub ruleset callee-ways = (callee-none, callee-far, callee-kind, callee-count, callee-good, callee-many)
+
+module _ (r : Row) (k a : ℕ) (e : k ≡ r .kind) (q : a ≡ r .a) where
+  pub word-block : (b : ℕ) → k ≡ 3 → b ≡ r .b → a + b ≡ ownWord r
+  unfolding ownWord ifEq
+  word-block b h d = rw (← e, eq-eqb _ _ h, ← q, ← d)
+
+  pub word-other : (k ≡ 3 → ⊥) → a ≡ ownWord r
+  unfolding ownWord ifEq
+  word-other h = rw (← e, ne-eqb _ _ h) q
+
+module _ (f : ℕ → Row) (n k : ℕ) (e : k ≡ f n .kind) where
+  pub size-function : (a p : ℕ) → k ≡ 1 → a ≡ f n .a → p ≡ f n .b → ltb a (3 + p) ≡ sizeFault f n
+  unfolding sizeFault
+  size-function a p h q r = rw (← e, eq-eqb _ _ h, ← q, ← r)
+
+  pub size-other : (k ≡ 1 → ⊥) → false ≡ sizeFault f n
+  unfolding sizeFault
+  size-other h = rw (← e, ne-eqb _ _ h)
+
+  module _ (c : ℕ) (b : Bool) (d : b ≡ hasWord k) where
+    pub word-past : (s w : ℕ) → b ≡ true → s ≡ sizeAt f c n → w ≡ ownWord (f n) → leb s w ≡ wordFault f c n
+    unfolding wordFault
+    word-past s w h q r = rw (← r, ← e, ← d, h, ← q)
+
+    pub word-none : b ≡ false → false ≡ wordFault f c n
+    unfolding wordFault
+    word-none h = rw (← e, ← d, h)
+
+  module _ (c d : ℕ) where
+    pub address-operand : (o : Operand) (v x : Bool) (s : ℕ) → k ≡ 7 → o ≡ f n .address → v ≡ addressListed o → v ≡ true → s ≡ sizeAt f c n
+        → x ≡ operandFault s d o → x ≡ addressFault f c d n
+    unfolding addressFault
+    address-operand o v x s h q r l m w = rw (← e, eq-eqb _ _ h, ← q, ← r, l, ← m) w
+
+    pub address-unlisted : (o : Operand) (v : Bool) → k ≡ 7 → o ≡ f n .address → v ≡ addressListed o → v ≡ false → true ≡ addressFault f c d n
+    unfolding addressFault
+    address-unlisted o v h q r l = rw (← e, eq-eqb _ _ h, ← q, ← r, l)
+
+    pub address-other : (k ≡ 7 → ⊥) → false ≡ addressFault f c d n
+    unfolding addressFault
+    address-other h = rw (← e, ne-eqb _ _ h)
+
+pub ruleset word-ways = (size-function, size-other, word-block, word-other, word-past, word-none)
+
+pub ruleset address-ways = (address-operand, address-unlisted, address-other)
+
+-- ---- the operands of a row, by a loop over its slots
+
+pub slot-at : (t : List ℕ) (at i : ℕ) → i < 8 → getD (slots t at) i Unlisted ≡ operandAt t (at + 11 + i * 2)
+unfolding slots
+slot-at t at zero h = let e : at + 11 ≡ at + 11 + 0 = omega arith in ap (operandAt t) e
+slot-at t at (suc zero) h = let e : at + 13 ≡ at + 11 + 2 = omega arith in ap (operandAt t) e
+slot-at t at (suc (suc zero)) h = let e : at + 15 ≡ at + 11 + 4 = omega arith in ap (operandAt t) e
+slot-at t at (suc (suc (suc zero))) h = let e : at + 17 ≡ at + 11 + 6 = omega arith in ap (operandAt t) e
+slot-at t at (suc (suc (suc (suc zero)))) h = let e : at + 19 ≡ at + 11 + 8 = omega arith in ap (operandAt t) e
+slot-at t at (suc (suc (suc (suc (suc zero))))) h = let e : at + 21 ≡ at + 11 + 10 = omega arith in ap (operandAt t) e
+slot-at t at (suc (suc (suc (suc (suc (suc zero)))))) h = let e : at + 23 ≡ at + 11 + 12 = omega arith in ap (operandAt t) e
+slot-at t at (suc (suc (suc (suc (suc (suc (suc zero))))))) h = let e : at + 25 ≡ at + 11 + 14 = omega arith in ap (operandAt t) e
+slot-at t at (suc (suc (suc (suc (suc (suc (suc (suc i)))))))) h = absurd (omega arith)
+
+pub slots-long : (t : List ℕ) (at : ℕ) → length (slots t at) ≡ 8
+unfolding slots
+slots-long t at = refl
+
+-- some of the first m elements
+some-of : (p : Operand → Bool) (xs : List Operand) (m i : ℕ) → i < m → i < length xs → p (getD xs i Unlisted) ≡ true → someOf p (take m xs) ≡ true
+unfolding someOf
+some-of p [] m i h l e = absurd (not-suc-le-zero l)
+some-of p (x ∷ xs) zero i h l e = absurd (not-suc-le-zero h)
+some-of p (x ∷ xs) (suc m) zero h l e = ap (λ (b : Bool). oneOf b (someOf p (take m xs))) e
+some-of p (x ∷ xs) (suc m) (suc i) h l e =
+    ap (λ (b : Bool). oneOf (p x) b) (some-of p xs m i (le-of-suc-le-suc h) (le-of-suc-le-suc l) e) ∙ one-true (p x)
+
+-- none of the first m elements
+none-of : (p : Operand → Bool) (xs : List Operand) (m : ℕ) → ((i : ℕ) → i < m → i < length xs → p (getD xs i Unlisted) ≡ false) → someOf p (take m xs) ≡ false
+unfolding someOf
+none-of p [] zero h = refl
+none-of p [] (suc m) h = refl
+none-of p (x ∷ xs) zero h = refl
+none-of p (x ∷ xs) (suc m) h =
+    ap (λ (b : Bool). oneOf b (someOf p (take m xs))) (h 0 (zero-lt-suc _) (zero-lt-suc _))
+    ∙ none-of p xs m (λ i g l. h (suc i) (omega arith) (omega arith))
+
+abbrev operandAtRow : List ℕ → ℕ → ℕ → Operand
+operandAtRow t n i = operandAt t (n * 27 + 11 + i * 2)
+
+abbrev usedAt : List ℕ → ℕ → ℕ
+usedAt t n = usedBy (rowAt t n .kind) (rowAt t n .expr) (rowAt t n .count)
+
+pub record Passing (t : List ℕ) (s d n m i : ℕ) : Type 0 where
+  pub below : i ≤ m
+  pub few : m ≤ 8
+  pub none : (j : ℕ) → j < i → operandFault s d (operandAtRow t n j) ≡ false
+
+pub passing-start : (t : List ℕ) (s d n m : ℕ) → m ≡ min (usedAt t n) 8 → Passing t s d n m 0
+passing-start t s d n m e = record { below = omega arith; few = omega arith; none = λ j h. absurd (not-suc-le-zero h) }
+
+pub passing-more : (t : List ℕ) (s d n m i : ℕ) (b : Bool) → Passing t s d n m i → i < m → b ≡ operandFault s d (operandAtRow t n i) → b ≡ false
+    → Passing t s d n m (i + 1)
+passing-more t s d n m i b h l e q =
+    record {
+      below = omega arith;
+      few = h .few;
+      none = λ j g. elim (ℕ-discrete j i) [
+        | yes o ↦ ap (λ (x : ℕ). operandFault s d (operandAtRow t n x)) o ∙ (sym e ∙ q)
+        | no o ↦ h .none j (omega arith)
+      ];
+    }
+
+module _ (t : List ℕ) (c s d n m i : ℕ) (e : m ≡ min (usedAt t n) 8) (r : s ≡ sizeAt (rowAt t) c n) (h : Passing t s d n m i) where
+  pub passing-found : (b : Bool) → i < m → b ≡ operandFault s d (operandAtRow t n i) → b ≡ true → true ≡ operandsFault (rowAt t) c d n
+  unfolding operandsFault rowAt rowFrom
+  passing-found b l q w =
+      rw (← r)
+      (sym
+      (some-of (operandFault s d) (slots t (n * 27)) (usedAt t n) i (omega (arith, e, l)) (omega (arith, h .few, l, slots-long t (n * 27)))
+      (ap (operandFault s d) (slot-at t (n * 27) i (omega (arith, h .few, l))) ∙ (sym q ∙ w))))
+
+  pub passing-done : m ≤ i → false ≡ operandsFault (rowAt t) c d n
+  unfolding operandsFault rowAt rowFrom
+  passing-done l =
+      rw (← r)
+      (sym
+      (none-of (operandFault s d) (slots t (n * 27)) (usedAt t n)
+      (λ j g k. ap (operandFault s d) (slot-at t (n * 27) j (omega (arith, k, slots-long t (n * 27)))) ∙ h .none j (omega (arith, e, g, k, slots-long t (n * 27), h .below, l)))))
+
+pub ruleset passing = (passing-start, passing-more, passing-found, passing-done)

@@ -1,0 +1,382 @@
+// Broken rows: refusal 35 for a statement row.
+use prog_tables::Operand;
+ghost use mathlib.Core.Path.{_≡_};
+ghost use mathlib.Core.List.{[], _∷_};
+ghost use Prim.Native.Nat.{_+_, _*_, _≤_, _<_, min};
+ghost use lib.Dec.{eqb};
+ghost use Rattle.prog_tables.specs.Tests.{oneOf, some};
+ghost use Rattle.prog_tables.specs.Statement.{usedBy, operandAt, rowAt};
+ghost use Rattle.prog_tables.specs.Nesting.{isListed, hasTarget};
+ghost use Rattle.prog_tables.specs.Faults.{expressionListed, inFunction, sizeAt, operandFault, addressListed, kindFault, targetFault, calleeFault, sizeFault, ownWord, hasWord, wordFault, operandsFault, addressFault, rowFault};
+
+// Whether a kind is listed.
+pub fn is_listed(k: u32) -> bool
+    ensures { λ r. ⌜ r ≡ isListed k ⌝ }
+{
+    if k == 0 {
+        return false;
+    }
+    k < 23
+}
+
+// Whether nesting gives a row of this kind its target.
+pub fn has_target(k: u32) -> bool
+    ensures { λ r. ⌜ r ≡ hasTarget k ⌝ }
+{
+    if prog_tables::is_test(k) {
+        return true;
+    }
+    if k == 20 {
+        return true;
+    }
+    k == 21
+}
+
+// Whether a row of this kind may have an expression of kind e.
+pub fn is_expression(k: u32, e: u32) -> bool
+    ensures { λ r. ⌜ r ≡ expressionListed k e ⌝ }
+{
+    if e == 0 {
+        return k == 13;
+    }
+    if e == 1 {
+        return true;
+    }
+    if e == 2 {
+        return true;
+    }
+    prog_tables::is_operator(e)
+}
+
+// Whether a row is in a function.
+pub fn is_in_function(t: &[u32], c: u32, n: u32) -> bool
+    ensures { λ r. ⌜ r ≡ inFunction (rowAt (now (t .entry))) c n ⌝ }
+{
+    let g = prog_tables::func_at(t, n);
+    if g < c {
+        return prog_tables::kind_at(t, g) == 1;
+    }
+    false
+}
+
+// The frame size of a row's function, 0 in none.
+pub fn size_at(t: &[u32], c: u32, n: u32) -> u32
+    ensures { λ r. ⌜ r ≡ sizeAt (rowAt (now (t .entry))) c n ⌝ }
+{
+    if is_in_function(t, c, n) {
+        return prog_tables::a_at(t, prog_tables::func_at(t, n));
+    }
+    0
+}
+
+// Whether an operand is broken.
+pub fn operand_fault(size: u32, d: u32, o: Operand) -> bool
+    ensures { λ r. ⌜ r ≡ operandFault size d o ⌝ }
+{
+    match o {
+        Operand::Constant(_) => false,
+        Operand::Local(w) => size <= w,
+        Operand::Address(v) => d < v,
+        Operand::AtConstant(_) => false,
+        Operand::AtLocal(w) => size <= w,
+        Operand::AtAddress(v) => d < v,
+        Operand::Unlisted => true,
+    }
+}
+
+// Whether an operand may stand behind the `@` of `set @`.
+pub fn is_address(o: Operand) -> bool
+    ensures { λ r. ⌜ r ≡ addressListed o ⌝ }
+{
+    match o {
+        Operand::Constant(_) => true,
+        Operand::Local(_) => true,
+        Operand::Address(_) => true,
+        Operand::AtConstant(_) => false,
+        Operand::AtLocal(_) => false,
+        Operand::AtAddress(_) => false,
+        Operand::Unlisted => false,
+    }
+}
+
+// An unlisted kind of a row or its expression.
+fn kind_fault(t: &[u32], n: u32) -> bool
+    ensures { λ r. ⌜ r ≡ kindFault (rowAt (now (t .entry))) n ⌝ }
+{
+    let k = prog_tables::kind_at(t, n);
+    if is_listed(k) {
+        if prog_tables::has_expression(k) {
+            let e = prog_tables::expression_at(t, n);
+            if is_expression(k, e) {
+                return false;
+            }
+            return true;
+        }
+        return false;
+    }
+    true
+}
+
+// Whether a row of this kind has a target.
+fn is_jump(k: u32) -> bool
+    ensures { λ r. ⌜ r ≡ oneOf (hasTarget k) (eqb k 10) ⌝ }
+{
+    if has_target(k) {
+        return true;
+    }
+    k == 10
+}
+
+// A target that is no statement of the same function.
+fn target_fault(t: &[u32], c: u32, n: u32) -> bool
+    ensures { λ r. ⌜ r ≡ targetFault (rowAt (now (t .entry))) c n ⌝ }
+{
+    let k = prog_tables::kind_at(t, n);
+    if is_jump(k) {
+        if is_in_function(t, c, n) {
+            let a = prog_tables::a_at(t, n);
+            if a < c {
+                let g = prog_tables::func_at(t, a);
+                let h = prog_tables::func_at(t, n);
+                if g == h {
+                    return false;
+                }
+                return true;
+            }
+            return true;
+        }
+        return true;
+    }
+    false
+}
+
+// A callee that is no function, or has another parameter count; too many arguments.
+fn callee_fault(t: &[u32], c: u32, n: u32) -> bool
+    ensures { λ r. ⌜ r ≡ calleeFault (rowAt (now (t .entry))) c n ⌝ }
+{
+    let k = prog_tables::kind_at(t, n);
+    let e = prog_tables::expression_at(t, n);
+    if prog_tables::is_call(k, e) {
+        let g = prog_tables::callee_at(t, n);
+        if g < c {
+            let j = prog_tables::kind_at(t, g);
+            if j == 1 {
+                let p = prog_tables::parameters_at(t, g);
+                let m = prog_tables::count_at(t, n);
+                if p == m {
+                    if m <= 8 {
+                        return false;
+                    }
+                    return true;
+                }
+                return true;
+            }
+            return true;
+        }
+        return true;
+    }
+    false
+}
+
+// A frame size below 3 + parameters.
+fn size_fault(t: &[u32], n: u32) -> bool
+    ensures { λ r. ⌜ r ≡ sizeFault (rowAt (now (t .entry))) n ⌝ }
+{
+    let k = prog_tables::kind_at(t, n);
+    if k == 1 {
+        let a = prog_tables::a_at(t, n);
+        let p = prog_tables::parameters_at(t, n);
+        let least = 3 + p as u64;
+        let size = a as u64;
+        return size < least;
+    }
+    false
+}
+
+// Whether a row of this kind names a frame word of its own.
+fn has_word(k: u32) -> bool
+    ensures { λ r. ⌜ r ≡ hasWord k ⌝ }
+{
+    if k < 3 {
+        return false;
+    }
+    k < 7
+}
+
+// The last frame word that a row itself names.
+fn own_word(t: &[u32], n: u32) -> u64
+    ensures { λ r. ⌜ r ≡ ownWord (rowAt (now (t .entry)) n) ⌝ }
+{
+    let k = prog_tables::kind_at(t, n);
+    let a = prog_tables::a_at(t, n);
+    if k == 3 {
+        let b = prog_tables::parameters_at(t, n);
+        return a as u64 + b as u64;
+    }
+    a as u64
+}
+
+// A destination or block word at or past the frame size.
+fn word_fault(t: &[u32], c: u32, n: u32) -> bool
+    ensures { λ r. ⌜ r ≡ wordFault (rowAt (now (t .entry))) c n ⌝ }
+{
+    let k = prog_tables::kind_at(t, n);
+    if has_word(k) {
+        let size = size_at(t, c, n);
+        let w = own_word(t, n);
+        return size as u64 <= w;
+    }
+    false
+}
+
+// The lesser of two numbers.
+fn fewer(a: u32, b: u32) -> u32
+    ensures { λ r. ⌜ r ≡ min a b ⌝ }
+{
+    if a < b { a } else { b }
+}
+
+// The operands that a row has, at most as many as its slots.
+fn operands_at(t: &[u32], n: u32) -> u32
+    ensures { λ r. ⌜ r ≡ min (usedBy (rowAt (now (t .entry)) n .kind) (rowAt (now (t .entry)) n .expr) (rowAt (now (t .entry)) n .count)) 8 ⌝ }
+{
+    fewer(
+        prog_tables::used_by(
+            prog_tables::kind_at(t, n),
+            prog_tables::expression_at(t, n),
+            prog_tables::count_at(t, n),
+        ),
+        8,
+    )
+}
+
+// Whether the operand in slot i of a row is broken.
+fn slot_fault(t: &[u32], size: u32, d: u32, n: u32, i: u32) -> bool
+    requires { ⌜ i < 8 ⌝ }
+    ensures { λ r. ⌜ r ≡ operandFault size d (operandAt (now (t .entry)) (n * 27 + 11 + i * 2)) ⌝ }
+{
+    let o = prog_tables::operand_at(t, n as usize * 27 + 11 + i as usize * 2);
+    operand_fault(size, d, o)
+}
+
+// A broken operand.
+fn operands_fault(t: &[u32], c: u32, d: u32, n: u32) -> bool
+    ensures { λ r. ⌜ r ≡ operandsFault (rowAt (now (t .entry))) c d n ⌝ }
+{
+    let m = operands_at(t, n);
+    let size = size_at(t, c, n);
+    let mut i: u32 = 0;
+    while i < m {
+        if slot_fault(t, size, d, n, i) {
+            return true;
+        }
+        i += 1;
+    }
+    false
+}
+
+// A broken address operand.
+fn address_fault(t: &[u32], c: u32, d: u32, n: u32) -> bool
+    ensures { λ r. ⌜ r ≡ addressFault (rowAt (now (t .entry))) c d n ⌝ }
+{
+    let k = prog_tables::kind_at(t, n);
+    if k == 7 {
+        let o = prog_tables::address_at(t, n);
+        if is_address(o) {
+            return operand_fault(size_at(t, c, n), d, o);
+        }
+        return true;
+    }
+    false
+}
+
+// A broken test: its target, its operands.
+fn test_fault(t: &[u32], c: u32, d: u32, n: u32) -> bool
+    ensures { λ r. ⌜ r ≡ some (targetFault (rowAt (now (t .entry))) c n ∷ operandsFault (rowAt (now (t .entry))) c d n ∷ []) ⌝ }
+{
+    if target_fault(t, c, n) {
+        return true;
+    }
+    operands_fault(t, c, d, n)
+}
+
+// A broken call: its callee, its arguments.
+fn call_fault(t: &[u32], c: u32, d: u32, n: u32) -> bool
+    ensures { λ r. ⌜ r ≡ some (calleeFault (rowAt (now (t .entry))) c n ∷ operandsFault (rowAt (now (t .entry))) c d n ∷ []) ⌝ }
+{
+    if callee_fault(t, c, n) {
+        return true;
+    }
+    operands_fault(t, c, d, n)
+}
+
+// A broken `return`: its expression.
+fn return_fault(t: &[u32], c: u32, d: u32, n: u32) -> bool
+    ensures { λ r. ⌜ r ≡ some (kindFault (rowAt (now (t .entry))) n ∷ calleeFault (rowAt (now (t .entry))) c n ∷ operandsFault (rowAt (now (t .entry))) c d n ∷ []) ⌝ }
+{
+    if kind_fault(t, n) {
+        return true;
+    }
+    call_fault(t, c, d, n)
+}
+
+// A broken `let` or `set` of a local: its expression, its destination.
+fn local_fault(t: &[u32], c: u32, d: u32, n: u32) -> bool
+    ensures { λ r. ⌜ r ≡ some (kindFault (rowAt (now (t .entry))) n ∷ calleeFault (rowAt (now (t .entry))) c n ∷ wordFault (rowAt (now (t .entry))) c n ∷ operandsFault (rowAt (now (t .entry))) c d n ∷ []) ⌝ }
+{
+    if kind_fault(t, n) {
+        return true;
+    }
+    if callee_fault(t, c, n) {
+        return true;
+    }
+    if word_fault(t, c, n) {
+        return true;
+    }
+    operands_fault(t, c, d, n)
+}
+
+// A broken `set @`: its expression, its address.
+fn set_at_fault(t: &[u32], c: u32, d: u32, n: u32) -> bool
+    ensures { λ r. ⌜ r ≡ some (kindFault (rowAt (now (t .entry))) n ∷ calleeFault (rowAt (now (t .entry))) c n ∷ operandsFault (rowAt (now (t .entry))) c d n ∷ addressFault (rowAt (now (t .entry))) c d n ∷ []) ⌝ }
+{
+    if kind_fault(t, n) {
+        return true;
+    }
+    if callee_fault(t, c, n) {
+        return true;
+    }
+    if operands_fault(t, c, d, n) {
+        return true;
+    }
+    address_fault(t, c, d, n)
+}
+
+// Whether a row of c rows is broken, d being the data's length: by its kind, since a row of one kind has not what another has.
+pub fn row_fault(t: &[u32], c: u32, d: u32, n: u32) -> bool
+    ensures { λ r. ⌜ r ≡ rowFault (rowAt (now (t .entry))) c d n ⌝ }
+{
+    let k = prog_tables::kind_at(t, n);
+    if prog_tables::is_test(k) {
+        return test_fault(t, c, d, n);
+    }
+    match k {
+        1 => size_fault(t, n),
+        2 => false,
+        3 => word_fault(t, c, n),
+        4 => word_fault(t, c, n),
+        5 => local_fault(t, c, d, n),
+        6 => local_fault(t, c, d, n),
+        7 => set_at_fault(t, c, d, n),
+        8 => operands_fault(t, c, d, n),
+        9 => operands_fault(t, c, d, n),
+        10 => target_fault(t, c, n),
+        11 => call_fault(t, c, d, n),
+        12 => call_fault(t, c, d, n),
+        13 => return_fault(t, c, d, n),
+        20 => target_fault(t, c, n),
+        21 => target_fault(t, c, n),
+        22 => false,
+        _ => true,
+    }
+}

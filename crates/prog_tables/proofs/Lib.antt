@@ -1,0 +1,12 @@
+pub mod Each
+pub mod Ranges
+pub mod Cases
+pub mod Rows
+pub mod Nested
+pub mod Targets
+pub mod Sound
+pub mod Words
+pub mod Whole
+pub mod Unbroken
+pub mod Strong
+pub mod Values

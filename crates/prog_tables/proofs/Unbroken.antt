@@ -1,0 +1,112 @@
+-- Well-formed tables are not broken: 35 is given for none of their rows, labels and counts.
+-- Assumes nothing.
+use mathlib.Core.Path.{_≡_, refl, sym, _∙_, ap}
+use mathlib.Core.Bool.{Bool, true, false, not}
+use mathlib.Core.List.{List, [], _∷_}
+use Prim.Native.Nat.{ℕ, zero, suc, _*_, _<_}
+use native.Mathlib.Omega.{arith}
+use borrow.Author.Tests.{eqb-true, leb-true, ltb-true, le-ltb, lt-leb}
+use lib.Dec.{eqb, ltb, leb}
+use lib.ListN.{length}
+use Rattle.base_prelude.specs.Choice.{ifEq, ifTrue}
+use Rattle.base_prelude.proofs.Choice.{ifEq-yes, ifTrue-yes, ifTrue-no}
+use Rattle.base_limits.specs.Limits as limits
+use Rattle.base_limits.specs.Limits.{nameBytes, dataBytes}
+use Rattle.lang_words.specs.Words.{numberOf}
+use Rattle.prog_tables.specs.Layout.{statementRow, labelRow}
+use Rattle.prog_tables.specs.Tests.{both, oneOf, all, some, someBelow}
+use Rattle.prog_tables.specs.Statement.{Row}
+use Rattle.prog_tables.specs.Label.{Label, Tables, rows, labelsOf, isData, isFunctionLabel}
+use Rattle.prog_tables.specs.Nesting.{followsJump}
+use Rattle.prog_tables.specs.Faults.{rowFault, labelFault, countFault, tablesFault}
+use Rattle.prog_tables.specs.WellFormed.{names, nameGood, countsGood, WellFormed}
+use Rattle.prog_tables.proofs.Each.{both-left, both-right, all-at, counts-good, names-at, name-good-at}
+use Rattle.prog_tables.proofs.Whole.{row-sound}
+
+none-below : (p : ℕ → Bool) (n : ℕ) → ((i : ℕ) → i < n → p i ≡ false) → someBelow p n ≡ false
+unfolding someBelow
+none-below p zero h = refl
+none-below p (suc n) h = ap (λ (b : Bool). oneOf b (someBelow p n)) (h n (omega arith)) ∙ none-below p n (λ i l. h i (omega arith))
+
+not-both : (p : Bool) → p ≡ true → not p ≡ false
+not-both true e = refl
+not-both false e = sym e
+
+-- ---- labels
+
+abbrev places : (ℕ → Row) → Label → List Bool
+places f l = eqb (l .kind) 5 ∷ not (eqb (f (l .number) .kind) 1) ∷ not (followsJump f (l .number)) ∷ []
+
+abbrev kinds : (ℕ → Row) → Label → Bool
+kinds f l = ifTrue (isFunctionLabel (l .kind)) (eqb (f (l .number) .kind) 1) (all (places f l))
+
+abbrev sizes : Label → List Bool
+sizes l = leb 1 (l .size) ∷ leb (l .size) nameBytes ∷ eqb (numberOf (l .name)) 0 ∷ []
+
+module _ (f : ℕ → Row) (c d : ℕ) (l : Label) where
+  what : names f c d l ≡ true → ifTrue (isData (l .kind)) (ltb d (l .number)) (ifTrue (isFunctionLabel (l .kind)) (not (both (ltb (l .number) c) (eqb (f (l .number) .kind) 1))) (ifEq (l .kind) 5 (leb c (l .number)) true)) ≡ false
+  unfolding names
+  what e = split (isData (l .kind)) refl
+    where
+      far : ifTrue (isData (l .kind)) (leb (l .number) d) (both (ltb (l .number) c) (kinds f l)) ≡ true → isData (l .kind) ≡ false → both (ltb (l .number) c) (kinds f l) ≡ true
+      far e q = sym (ifTrue-no (leb (l .number) d) (both (ltb (l .number) c) (kinds f l)) q) ∙ e
+
+      other : both (ltb (l .number) c) (kinds f l) ≡ true → (b : Bool) → isFunctionLabel (l .kind) ≡ b
+          → ifTrue (isFunctionLabel (l .kind)) (not (both (ltb (l .number) c) (eqb (f (l .number) .kind) 1))) (ifEq (l .kind) 5 (leb c (l .number)) true) ≡ false
+      other g true q =
+          ifTrue-yes (not (both (ltb (l .number) c) (eqb (f (l .number) .kind) 1))) (ifEq (l .kind) 5 (leb c (l .number)) true) q
+          ∙ not-both (both (ltb (l .number) c) (eqb (f (l .number) .kind) 1))
+          (ap (both (ltb (l .number) c)) (sym (ifTrue-yes (eqb (f (l .number) .kind) 1) (all (places f l)) q)) ∙ g)
+      other g false q =
+          ifTrue-no (not (both (ltb (l .number) c) (eqb (f (l .number) .kind) 1))) (ifEq (l .kind) 5 (leb c (l .number)) true) q
+          ∙ ifEq-yes (leb c (l .number)) true
+          (eqb-true (l .kind) 5 (all-at (places f l) 0 (sym (ifTrue-no (eqb (f (l .number) .kind) 1) (all (places f l)) q) ∙ both-right (ltb (l .number) c) (kinds f l) g) (omega arith)))
+          ∙ lt-leb c (l .number) (ltb-true (l .number) c (both-left (ltb (l .number) c) (kinds f l) g))
+
+      split : (b : Bool) → isData (l .kind) ≡ b → ifTrue (isData (l .kind)) (ltb d (l .number)) (ifTrue (isFunctionLabel (l .kind)) (not (both (ltb (l .number) c) (eqb (f (l .number) .kind) 1))) (ifEq (l .kind) 5 (leb c (l .number)) true)) ≡ false
+      split true q =
+          ifTrue-yes (ltb d (l .number)) (ifTrue (isFunctionLabel (l .kind)) (not (both (ltb (l .number) c) (eqb (f (l .number) .kind) 1))) (ifEq (l .kind) 5 (leb c (l .number)) true)) q
+          ∙ le-ltb d (l .number) (leb-true (l .number) d (sym (ifTrue-yes (leb (l .number) d) (both (ltb (l .number) c) (kinds f l)) q) ∙ e))
+      split false q =
+          ifTrue-no (ltb d (l .number)) (ifTrue (isFunctionLabel (l .kind)) (not (both (ltb (l .number) c) (eqb (f (l .number) .kind) 1))) (ifEq (l .kind) 5 (leb c (l .number)) true)) q
+          ∙ other (far e q) (isFunctionLabel (l .kind)) refl
+
+  label-sound : names f c d l ≡ true → nameGood l ≡ true → labelFault f c d l ≡ false
+  unfolding labelFault nameGood
+  label-sound e g =
+      ap (λ (b : Bool). oneOf b (ifTrue (isData (l .kind)) (ltb d (l .number)) (ifTrue (isFunctionLabel (l .kind)) (not (both (ltb (l .number) c) (eqb (f (l .number) .kind) 1))) (ifEq (l .kind) 5 (leb c (l .number)) true))))
+      (le-ltb nameBytes (l .size) (leb-true (l .size) nameBytes (all-at (sizes l) 1 g (omega arith))))
+      ∙ what e
+
+-- ---- tables
+
+abbrev counts : Tables → List Bool
+counts t =
+    leb (t .count) limits.statements
+    ∷ leb (t .labelCount) limits.labels
+    ∷ leb (t .dataLength) dataBytes
+    ∷ leb (t .count * statementRow) (length (t .statements))
+    ∷ leb (t .labelCount * labelRow) (length (t .labels))
+    ∷ leb (t .labelCount * nameBytes) (length (t .names))
+    ∷ []
+
+module _ (t : Tables) (w : WellFormed t) where
+  count-sound : countFault t ≡ false
+  unfolding countFault countsGood some
+  count-sound =
+      rw (
+        le-ltb (length (t .statements)) (t .count * statementRow) (leb-true (t .count * statementRow) (length (t .statements)) (all-at (counts t) 3 (counts-good t w) (omega arith))),
+        le-ltb (length (t .labels)) (t .labelCount * labelRow) (leb-true (t .labelCount * labelRow) (length (t .labels)) (all-at (counts t) 4 (counts-good t w) (omega arith))),
+        le-ltb (length (t .names)) (t .labelCount * nameBytes) (leb-true (t .labelCount * nameBytes) (length (t .names)) (all-at (counts t) 5 (counts-good t w) (omega arith))),
+      )
+
+  -- well-formed tables give no 35
+  pub tables-sound : tablesFault t ≡ false
+  unfolding tablesFault some
+  tables-sound =
+      rw (
+        count-sound,
+        none-below (rowFault (rows t) (t .count) (t .dataLength)) (t .count) (row-sound t w),
+        none-below (λ n. labelFault (rows t) (t .count) (t .dataLength) (labelsOf t n)) (t .labelCount)
+            (λ i l. label-sound (rows t) (t .count) (t .dataLength) (labelsOf t i) (names-at t w i l) (name-good-at t w i l)),
+      )

@@ -1,0 +1,54 @@
+-- Canonical tables: every word that a row's kind does not use is 0, and what lies beyond the rows is 0.
+-- Assumes nothing.
+use mathlib.Core.Path.{_≡_}
+use Prim.Native.Nat.{ℕ, _+_, _*_}
+use mathlib.Core.Bool.{Bool, true}
+use mathlib.Core.List.{List, [], _∷_}
+use lib.Dec.{ltb, eqb}
+use lib.ListN.{getD, drop}
+use Rattle.base_prelude.specs.Choice.{ifLt, ifEq}
+use Rattle.base_limits.specs.Limits.{nameBytes}
+use Rattle.prog_tables.specs.Layout.{statementRow, labelRow}
+use Rattle.prog_tables.specs.Tests.{both, oneOf, all, allOf, allBelow}
+use Rattle.prog_tables.specs.Statement.{Row, hasExpression, isCall, usedBy, rowAt}
+use Rattle.prog_tables.specs.Label.{Tables, labelAt}
+use Rattle.prog_tables.specs.Nesting.{hasTarget}
+use Rattle.prog_tables.specs.Faults.{hasWord}
+use Rattle.prog_tables.specs.WellFormed.{hasOperands}
+
+-- a row uses its word j
+unfoldable pub usesWord : Row → ℕ → Bool
+usesWord r j =
+    ifLt j 4 true
+    (ifEq j 4 (oneOf (eqb (r .kind) 1) (oneOf (hasWord (r .kind)) (oneOf (hasTarget (r .kind)) (eqb (r .kind) 10))))
+    (ifEq j 5 (oneOf (eqb (r .kind) 1) (eqb (r .kind) 3))
+    (ifEq j 6 (hasExpression (r .kind))
+    (ifEq j 7 (oneOf (eqb (r .kind) 3) (isCall (r .kind) (r .expr)))
+    (ifEq j 8 (hasOperands (r .kind))
+    (ifLt j 11 (eqb (r .kind) 7)
+    (ltb j (11 + 2 * usedBy (r .kind) (r .expr) (r .count)))))))))
+
+unfoldable pub unusedZero : List ℕ → ℕ → Bool
+unusedZero t n = allBelow (λ j. oneOf (usesWord (rowAt t n) j) (eqb (getD t (n * statementRow + j) 0) 0)) statementRow
+
+-- word 2 of a label row, and the bytes behind its name
+unfoldable pub labelUnusedZero : List ℕ → List ℕ → ℕ → Bool
+labelUnusedZero t names n =
+    both (eqb (getD t (n * labelRow + 2) 0) 0)
+    (allBelow (λ j. oneOf (ltb j (labelAt t names n .size)) (eqb (getD names (n * nameBytes + j) 0) 0)) nameBytes)
+
+unfoldable pub zeroFrom : ℕ → List ℕ → Bool
+zeroFrom n t = allOf (λ x. eqb x 0) (drop n t)
+
+unfoldable pub canonical : Tables → Bool
+canonical t =
+    all
+    (allBelow (unusedZero (t .statements)) (t .count)
+    ∷ allBelow (labelUnusedZero (t .labels) (t .names)) (t .labelCount)
+    ∷ zeroFrom (t .count * statementRow) (t .statements)
+    ∷ zeroFrom (t .labelCount * labelRow) (t .labels)
+    ∷ zeroFrom (t .labelCount * nameBytes) (t .names)
+    ∷ [])
+
+abbrev pub Canonical : Tables → Type 0
+Canonical t = canonical t ≡ true

@@ -1,0 +1,88 @@
+-- The tables of a program: sizes, and the numbers that stand in rows. docs/TABLES.md says each word. The kinds of statement rows
+-- are those of crate lang_kinds, 1 to 22.
+-- Assumes nothing.
+use mathlib.Core.Path.{_≡_, refl}
+use Prim.Native.Nat.{ℕ, _*_}
+use Rattle.base_limits.specs.Limits.{statements, labels, nameBytes}
+use Rattle.prog_tables.specs.declared.Sizes.{Sizes}
+
+-- words of a statement row
+abbrev pub statementRow : ℕ
+statementRow = 27
+
+-- words of the statement table: a row for each statement
+abbrev pub statementWords : ℕ
+statementWords = 27648
+
+-- operands of a row, its address operand aside
+abbrev pub operandSlots : ℕ
+operandSlots = 8
+
+-- words of a label row
+abbrev pub labelRow : ℕ
+labelRow = 4
+
+-- words of the label table: a row for each label
+abbrev pub labelWords : ℕ
+labelWords = 1024
+
+-- bytes of the name table, which stands beside the label table: as many for each label as a name may have
+abbrev pub nameTable : ℕ
+nameTable = 16384
+
+pub statement-size : statementWords ≡ statements * statementRow
+statement-size = refl
+
+pub label-size : labelWords ≡ labels * labelRow
+label-size = refl
+
+pub name-size : nameTable ≡ labels * nameBytes
+name-size = refl
+
+-- all of them, as `all_sizes` gives them
+unfoldable pub sizesOf : Sizes
+sizesOf =
+    record {
+      «statement_row» = statementRow;
+      «statement_words» = statementWords;
+      «operand_slots» = operandSlots;
+      «label_row» = labelRow;
+      «label_words» = labelWords;
+      «name_table» = nameTable;
+    }
+
+-- frame words before the parameters: "place to return to, start of the caller's frame [..], auto top at entry"
+abbrev pub frameHead : ℕ
+frameHead = 3
+
+-- expression kinds: none, one operand alone, a call; an operator has its number in the vocabulary
+abbrev pub noExpression : ℕ
+noExpression = 0
+
+abbrev pub plain : ℕ
+plain = 1
+
+abbrev pub callExpression : ℕ
+callExpression = 2
+
+abbrev pub firstOperator : ℕ
+firstOperator = 33
+
+abbrev pub lastOperator : ℕ
+lastOperator = 51
+
+-- label kinds
+abbrev pub dataLabel : ℕ
+dataLabel = 1
+
+abbrev pub exportedData : ℕ
+exportedData = 2
+
+abbrev pub functionLabel : ℕ
+functionLabel = 3
+
+abbrev pub exportedFunction : ℕ
+exportedFunction = 4
+
+abbrev pub placeLabel : ℕ
+placeLabel = 5

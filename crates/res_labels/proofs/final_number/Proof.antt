@@ -1,0 +1,27 @@
+use Rattle.res_labels.proofs.Cases.{numbering}
+use native.Mathlib.Omega.{arith}
+use mathlib.Core.Path.{_≡_, refl, sym, _∙_, ap, subst}
+use borrow.Author.Needs.{needs}
+use Rattle.res_labels.proofs.final_number.Statement.{statement}
+use Rattle.res_labels.proofs.final_number.Tie as tie
+use Rattle.res_labels.proofs.final_number.Reads as reads
+use Rattle.res_labels.proofs.final_number.Lts as lts
+use Rattle.res_data.proofs.address_of.Reads as address-of-reads
+
+address-of-requires : tie.Need-address-of-requires
+address-of-requires c κs = search needs
+
+returns : tie.Need-returns
+returns c =
+    search numbering
+
+returns-2 : tie.Need-returns-2
+returns-2 c =
+    search numbering
+
+returns-3 : tie.Need-returns-3
+returns-3 c =
+    search numbering
+
+pub final-number-spec : {M : Type 1} → statement M
+final-number-spec = tie.close (tie.spec address-of-requires returns returns-2 returns-3)

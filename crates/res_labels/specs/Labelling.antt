@@ -1,0 +1,70 @@
+-- The label table and the name table, made of the outline's label rows.
+-- Assumes nothing.
+use Prim.Native.Nat.{ℕ, zero, suc, _+_, _-_, _*_}
+use mathlib.Core.List.{List, [], _∷_, _++_}
+use lib.ListN.{take, drop, getD}
+use Rattle.base_prelude.specs.Choice.{ifEq}
+use Rattle.base_prelude.specs.Lists.{overlay}
+use Rattle.base_limits.specs.declared.Width.{Width}
+use Rattle.lex_spelling.specs.Text.{nameAt}
+use Rattle.parse_lines.specs.Tokens.{tokenWord, valueAt}
+use Rattle.res_data.specs.Sizes.{addressOf}
+
+-- word f of label row j of the outline: 0 its token, 1 its kind, 2 what it names
+unfoldable pub outlineWord : List ℕ → ℕ → ℕ → ℕ
+outlineWord y j f = getD y (j * 4 + f) 0
+
+-- 1 where label j is exported
+unfoldable pub flagAt : List ℕ → ℕ → ℕ
+flagAt flags j = getD flags j 0
+
+-- 1 data, 3 function, 5 place; exported data is 2, an exported function 4
+unfoldable pub exportedKind : ℕ → ℕ
+exportedKind kind = ifEq kind 1 2 (ifEq kind 3 4 kind)
+
+unfoldable pub finalKind : ℕ → ℕ → ℕ
+finalKind kind flag = ifEq flag 1 (exportedKind kind) kind
+
+-- "address or statement number from 0": row n + 1 of the outline is statement n
+unfoldable pub finalNumber : Width → List ℕ → ℕ → ℕ → ℕ
+finalNumber w t kind number = ifEq kind 1 (addressOf w t number) (number - 1)
+
+-- the row of label j: kind, number, 0, bytes of the name
+unfoldable pub labelWords : Width → List ℕ → List ℕ → List ℕ → ℕ → List ℕ
+labelWords w t y flags j =
+    finalKind (outlineWord y j 1) (flagAt flags j)
+    ∷ finalNumber w t (outlineWord y j 1) (outlineWord y j 2)
+    ∷ 0
+    ∷ valueAt t (outlineWord y j 0)
+    ∷ []
+
+-- words as row j of the label table
+unfoldable pub putWords : List ℕ → ℕ → List ℕ → List ℕ
+putWords out j words = take (j * 4) out ++ words ++ drop (j * 4 + 4) out
+
+-- rows from j on, so many of them
+unfoldable pub labelsFrom : ℕ → Width → List ℕ → List ℕ → List ℕ → ℕ → List ℕ → List ℕ
+labelsFrom zero w t y flags j out = out
+labelsFrom (suc left) w t y flags j out = labelsFrom left w t y flags (j + 1) (putWords out j (labelWords w t y flags j))
+
+-- the label table: the rows of the labels before l, over a buffer
+unfoldable pub labelTable : Width → List ℕ → List ℕ → List ℕ → ℕ → List ℕ → List ℕ
+labelTable w t y flags l out = labelsFrom l w t y flags 0 out
+
+-- the decoded name of label j
+unfoldable pub labelName : List ℕ → List ℕ → List ℕ → ℕ → List ℕ
+labelName s t y j = nameAt s (tokenWord t (outlineWord y j 0) 1)
+
+-- bytes over the front of the 64 bytes of row j
+unfoldable pub putName : List ℕ → ℕ → List ℕ → List ℕ
+putName names j bytes =
+    take (j * 64) names ++ (overlay bytes (take 64 (drop (j * 64) names)) ++ drop 64 (drop (j * 64) names))
+
+-- names from j on, so many of them
+unfoldable pub namesFrom : ℕ → List ℕ → List ℕ → List ℕ → ℕ → List ℕ → List ℕ
+namesFrom zero s t y j names = names
+namesFrom (suc left) s t y j names = namesFrom left s t y (j + 1) (putName names j (labelName s t y j))
+
+-- the name table: the names of the labels before l, over a buffer
+unfoldable pub nameTable : List ℕ → List ℕ → List ℕ → ℕ → List ℕ → List ℕ
+nameTable s t y l names = namesFrom l s t y 0 names

@@ -1,0 +1,110 @@
+// The skeleton of the statement table: what nesting alone gives each row, and the tokens of its line.
+ghost use mathlib.Core.Path.{_≡_};
+ghost use Prim.Native.Nat.{_+_, _*_, _-_, _≤_, _<_};
+ghost use lib.ListN.{length};
+ghost use Rattle.parse_units.specs.Outline.{rowAt};
+ghost use Rattle.res_skeleton.specs.Skeleton.{parametersOf, bare, statementOf, putRow, rowsIn, skeletonOf, tokenOf, nextOf};
+
+// What a row has; all its other words are 0.
+pub struct SkeletonRow {
+    pub kind: u32,
+    pub func: u32,
+    pub scope: u32,
+    pub up: u32,
+    pub b: u32,
+    pub token: u32,
+    pub next: u32,
+}
+
+fn less_one(n: u32) -> u32
+    ensures { λ r. ⌜ r ≡ n - 1 ⌝ }
+{
+    if n < 1 {
+        return 0;
+    }
+    n - 1
+}
+
+fn parameters_of(kind: u32, operands: u32) -> u32
+    ensures { λ r. ⌜ r ≡ parametersOf kind operands ⌝ }
+{
+    if kind == 1 {
+        return operands;
+    }
+    0
+}
+
+fn bare_row(x: &[u32], n: u32) -> SkeletonRow
+    ensures { λ r. ⌜ r ≡ bare (rowAt (now (x .entry)) n) ⌝ }
+{
+    let kind = parse_lines::token_word(x, n, 0);
+    SkeletonRow {
+        kind: kind,
+        func: less_one(parse_lines::token_word(x, n, 1)),
+        scope: less_one(parse_lines::token_word(x, n, 2)),
+        up: parse_lines::token_word(x, n, 3),
+        b: parameters_of(kind, parse_lines::token_word(x, n, 7)),
+        token: parse_lines::token_word(x, n, 4),
+        next: parse_lines::token_word(x, n, 5),
+    }
+}
+
+fn put_row(k: &mut [u32], n: u32, r: SkeletonRow)
+    requires { ⌜ (n < 1024) × (length (now k) ≡ 27648) ⌝ }
+    ensures { λ _. ⌜ now (k .exit) ≡ putRow (now (k .entry)) n r ⌝ }
+{
+    let w = n as usize * 27;
+    k[w] = r.kind;
+    k[w + 1] = r.func;
+    k[w + 2] = r.scope;
+    k[w + 3] = r.up;
+    k[w + 4] = 0;
+    k[w + 5] = r.b;
+    k[w + 6] = 0;
+    k[w + 7] = 0;
+    k[w + 8] = 0;
+    k[w + 9] = r.token;
+    k[w + 10] = r.next;
+}
+
+fn put_statement(x: &[u32], n: u32, k: &mut [u32])
+    requires { ⌜ (n < 1024) × (length (now k) ≡ 27648) ⌝ }
+    ensures { λ _. ⌜ now (k .exit) ≡ putRow (now (k .entry)) n (statementOf (now (x .entry)) n) ⌝ }
+{
+    let r = bare_row(x, n + 1);
+    put_row(k, n, r);
+}
+
+fn put_rows(x: &[u32], c: u32, k: &mut [u32])
+    requires { ⌜ (c ≤ 1024) × (length (now k) ≡ 27648) ⌝ }
+    ensures { λ _. ⌜ now (k .exit) ≡ rowsIn (now (k .entry)) (now (x .entry)) c ⌝ }
+{
+    let mut n: u32 = 0;
+    while n < c {
+        put_statement(x, n, k);
+        n += 1;
+    }
+}
+
+// The rows of c statements of the outline x; the words are cleared first.
+pub fn make_skeleton(x: &[u32], c: u32, k: &mut [u32])
+    requires { ⌜ (c ≤ 1024) × (length (now k) ≡ 27648) ⌝ }
+    ensures { λ _. ⌜ now (k .exit) ≡ skeletonOf (now (x .entry)) c ⌝ }
+{
+    base_prelude::clear_from(k, 0);
+    put_rows(x, c, k);
+}
+
+// The first token of statement n.
+pub fn token_of(k: &[u32], n: u32) -> u32
+    ensures { λ r. ⌜ r ≡ tokenOf (now (k .entry)) n ⌝ }
+{
+    prog_tables::word_at(k, n as usize * 27 + 9)
+}
+
+// The token behind its line.
+pub fn next_of(k: &[u32], n: u32) -> u32
+    ensures { λ r. ⌜ r ≡ nextOf (now (k .entry)) n ⌝ }
+{
+    prog_tables::word_at(k, n as usize * 27 + 10)
+}

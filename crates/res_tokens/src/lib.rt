@@ -1,0 +1,46 @@
+// The lent token table: the tokens' rows, and which statement each token begins.
+ghost use mathlib.Core.Path.{_≡_};
+ghost use Prim.Native.Nat.{_*_, _≤_, _<_};
+ghost use lib.ListN.{length};
+ghost use Rattle.res_tokens.specs.Begins.{copied, beginPut, beginsBelow, tokenTable};
+
+fn copy_words(t: &[u32], m: usize, out: &mut [u32])
+    requires { ⌜ (m ≤ length (now t)) × (m ≤ length (now out)) ⌝ }
+    ensures { λ _. ⌜ now (out .exit) ≡ copied (now (t .entry)) m (now (out .entry)) ⌝ }
+{
+    let mut i: usize = 0;
+    while i < m {
+        out[i] = t[i];
+        i += 1;
+    }
+}
+
+fn put_begin(k: &[u32], n: u32, r: u32, out: &mut [u32])
+    requires { ⌜ (n * 8 ≤ length (now out)) × (r < 4294967295) ⌝ }
+    ensures { λ _. ⌜ now (out .exit) ≡ beginPut (now (k .entry)) n r (now (out .entry)) ⌝ }
+{
+    let i = res_scope::first_token(k, r);
+    if i < n {
+        out[i as usize * 8 + 7] = r + 1;
+    }
+}
+
+fn put_begins(k: &[u32], c: u32, n: u32, out: &mut [u32])
+    requires { ⌜ n * 8 ≤ length (now out) ⌝ }
+    ensures { λ _. ⌜ now (out .exit) ≡ beginsBelow c (now (k .entry)) n (now (out .entry)) ⌝ }
+{
+    let mut r: u32 = 0;
+    while r < c {
+        put_begin(k, n, r, out);
+        r += 1;
+    }
+}
+
+// The rows of n tokens, and the c statements that they begin.
+pub fn write_tokens(t: &[u32], k: &[u32], c: u32, n: u32, out: &mut [u32])
+    requires { ⌜ (n * 8 ≤ length (now out)) × (n ≤ 4096) × (length (now t) ≡ 32768) ⌝ }
+    ensures { λ _. ⌜ now (out .exit) ≡ tokenTable (now (t .entry)) (now (k .entry)) c n (now (out .entry)) ⌝ }
+{
+    copy_words(t, n as usize * 8, out);
+    put_begins(k, c, n, out);
+}

@@ -1,0 +1,46 @@
+-- `caserun::is_call` meets its contract.
+-- Assumes nothing.
+use Rattle.test_cases.proofs.Cases.{is-call-ways}
+use borrow.Author.Needs.{needs}
+use Rattle.test_cases.proofs.is_call.Statement.{statement}
+use Rattle.test_cases.proofs.is_call.Tie as tie
+
+is-start-requires : tie.Need-is-start-requires
+is-start-requires c κs = search needs
+
+returns : tie.Need-returns
+returns c =
+    search is-call-ways
+
+slice-aggregate-starts-with : tie.Need-slice-aggregate-starts-with
+slice-aggregate-starts-with c = search needs
+
+starts-with-requires : tie.Need-starts-with-requires
+starts-with-requires c κs = search needs
+
+returns-2 : tie.Need-returns-2
+returns-2 c =
+    search is-call-ways
+
+slice-aggregate-same : tie.Need-slice-aggregate-same
+slice-aggregate-same c = search needs
+
+same-requires : tie.Need-same-requires
+same-requires c κs = search needs
+
+returns-3 : tie.Need-returns-3
+returns-3 c =
+    search is-call-ways
+
+pub is-call-spec : {M : Type 1} → statement M
+is-call-spec =
+    tie.close
+    (tie.spec
+    is-start-requires
+    returns
+    slice-aggregate-starts-with
+    starts-with-requires
+    returns-2
+    slice-aggregate-same
+    same-requires
+    returns-3)

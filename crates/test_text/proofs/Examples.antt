@@ -1,0 +1,64 @@
+-- Numbers and answers as they stand in a case file, computed from their definitions.
+-- Assumes nothing.
+use mathlib.Core.Path.{_≡_, refl}
+use mathlib.Core.List.{List, [], _∷_}
+use Prim.Native.Nat.{ℕ}
+use Rattle.base_prelude.specs.Choice.{ifLt, ifEq}
+use Rattle.base_prelude.specs.Bytes.{byteAt}
+use Rattle.base_prelude.specs.Walk.{walk}
+use Rattle.base_limits.specs.declared.State.{State}
+use Rattle.base_limits.specs.declared.State.the-variants.{Running, Finished, Stopped}
+use Rattle.vm_definitions.specs.declared.Broken.{Broken}
+use Rattle.vm_definitions.specs.declared.Broken.the-variants.{No, At, Somewhere}
+use Rattle.vm_definitions.specs.declared.Started.the-variants.{Refused}
+use Rattle.vm_definitions.specs.declared.Outcome.{Outcome}
+use Rattle.app_page.specs.Bytes.{digitsWithin, decimal, field}
+use Rattle.test_lines.specs.Lines.{oneMore}
+use Rattle.test_lines.specs.Fields.{fieldStep, fieldStart, withDigit, digitStep, numberFrom, numberAt, fieldOf}
+use Rattle.test_text.specs.Fields.{countStep, countFields, wordStep, wordEnd, rawAt}
+use Rattle.test_text.specs.Numbers.{negatedOf, valueOf}
+use Rattle.test_text.specs.Answers.{fieldBytes, fieldsFrom, plainBytes, brokenBytes, startedBytes, countedBytes, stoppedBytes, finishedBytes, stateBytes, unsoundBytes, outcomeBytes}
+
+outcome : State → ℕ → Broken → Outcome
+outcome state count broken =
+    record { machine = record { state = state; next = 1; frame = 0; used = 6; top = 4 }; count = count; broken = broken }
+
+-- `refused 23`
+refused-23 : startedBytes (Refused 23) ≡ 114 ∷ 101 ∷ 102 ∷ 117 ∷ 115 ∷ 101 ∷ 100 ∷ 32 ∷ 50 ∷ 51 ∷ []
+unfolding ifLt digitsWithin decimal field startedBytes
+refused-23 = refl
+
+-- `going 7`
+going-7 : outcomeBytes (outcome Running 7 No) ≡ 103 ∷ 111 ∷ 105 ∷ 110 ∷ 103 ∷ 32 ∷ 55 ∷ []
+unfolding ifLt digitsWithin decimal field brokenBytes countedBytes stoppedBytes finishedBytes stateBytes unsoundBytes outcomeBytes outcome
+going-7 = refl
+
+-- `finished 3 42`
+finished-42 : outcomeBytes (outcome (Finished 42) 3 No) ≡ 102 ∷ 105 ∷ 110 ∷ 105 ∷ 115 ∷ 104 ∷ 101 ∷ 100 ∷ 32 ∷ 51 ∷ 32 ∷ 52 ∷ 50 ∷ []
+unfolding ifLt digitsWithin decimal field brokenBytes countedBytes stoppedBytes finishedBytes stateBytes unsoundBytes outcomeBytes outcome
+finished-42 = refl
+
+-- `stopped 0 32 1`
+stopped-32 : outcomeBytes (outcome (Stopped 32 1) 0 No) ≡ 115 ∷ 116 ∷ 111 ∷ 112 ∷ 112 ∷ 101 ∷ 100 ∷ 32 ∷ 48 ∷ 32 ∷ 51 ∷ 50 ∷ 32 ∷ 49 ∷ []
+unfolding ifLt digitsWithin decimal field brokenBytes countedBytes stoppedBytes finishedBytes stateBytes unsoundBytes outcomeBytes outcome
+stopped-32 = refl
+
+-- `broken 5 12`
+broken-row : outcomeBytes (outcome Running 5 (At 12)) ≡ 98 ∷ 114 ∷ 111 ∷ 107 ∷ 101 ∷ 110 ∷ 32 ∷ 53 ∷ 32 ∷ 49 ∷ 50 ∷ []
+unfolding ifLt digitsWithin decimal field brokenBytes countedBytes stoppedBytes finishedBytes stateBytes unsoundBytes outcomeBytes outcome
+broken-row = refl
+
+-- `broken 0 none`
+broken-nowhere : outcomeBytes (outcome Running 0 Somewhere) ≡ 98 ∷ 114 ∷ 111 ∷ 107 ∷ 101 ∷ 110 ∷ 32 ∷ 48 ∷ 32 ∷ 110 ∷ 111 ∷ 110 ∷ 101 ∷ []
+unfolding ifLt digitsWithin decimal field brokenBytes countedBytes stoppedBytes finishedBytes stateBytes unsoundBytes outcomeBytes outcome
+broken-nowhere = refl
+
+-- `run -1`, its field 1
+minus-one : valueOf (114 ∷ 117 ∷ 110 ∷ 32 ∷ 45 ∷ 49 ∷ []) 1 ≡ 4294967295
+unfolding ifLt ifEq byteAt walk oneMore fieldStep fieldStart withDigit digitStep numberFrom numberAt fieldOf negatedOf valueOf
+minus-one = refl
+
+-- `finished 3 -2` is `finished 3 4294967294`
+plain-minus : plainBytes (102 ∷ 105 ∷ 110 ∷ 105 ∷ 115 ∷ 104 ∷ 101 ∷ 100 ∷ 32 ∷ 51 ∷ 32 ∷ 45 ∷ 50 ∷ []) ≡ 102 ∷ 105 ∷ 110 ∷ 105 ∷ 115 ∷ 104 ∷ 101 ∷ 100 ∷ 32 ∷ 51 ∷ 32 ∷ 52 ∷ 50 ∷ 57 ∷ 52 ∷ 57 ∷ 54 ∷ 55 ∷ 50 ∷ 57 ∷ 52 ∷ []
+unfolding ifLt ifEq byteAt walk oneMore fieldStep fieldStart withDigit digitStep numberFrom numberAt fieldOf negatedOf valueOf digitsWithin decimal countStep countFields wordStep wordEnd rawAt fieldBytes fieldsFrom plainBytes
+plain-minus = refl

@@ -1,0 +1,14 @@
+-- `casetext::with_state` meets its contract.
+-- Assumes nothing.
+use Rattle.test_text.specs.Records.{withState}
+use mathlib.Core.Path.{refl}
+use Rattle.test_text.proofs.with_state.Statement.{statement}
+use Rattle.test_text.proofs.with_state.Tie as tie
+
+returns : tie.Need-returns
+unfolding withState
+returns c =
+    refl
+
+pub with-state-spec : {M : Type 1} → statement M
+with-state-spec = tie.close (tie.spec returns)

@@ -1,0 +1,254 @@
+-- The check's answer is the least fault of the first group that has one; a source is accepted exactly when no group has one.
+-- Assumes nothing.
+use mathlib.Core.Path.{_≡_, refl, sym, _∙_, ap, subst}
+use mathlib.Core.Bool.{Bool, true, false}
+use mathlib.Core.List.{List, [], _∷_, _++_}
+use mathlib.Core.Logic.{_↔_}
+use Prim.Native.Nat.{ℕ, zero, suc, _+_, _*_, _/_, _%_, _-_, _≤_, _<_, min}
+use native.Mathlib.Nat.{min-eq-left}
+use native.Mathlib.Decide.{decLt}
+use native.Mathlib.Omega.{arith}
+use lib.ListN.{length}
+use Rattle.base_prelude.specs.Choice.{ifLt, ifTrue}
+use Rattle.base_prelude.specs.Fault.{none, key, keyNumber, keyPlace, leastOf}
+use Rattle.base_prelude.proofs.Choice.{either, either-true, ifLt-yes, ifLt-no, ifTrue-yes, ifTrue-no, true-false}
+use Rattle.base_prelude.proofs.Keys.{key-is, key-fault, key-place, key-number}
+use Rattle.base_limits.specs.declared.Width.{Width}
+use Rattle.parse_lines.specs.Tokens.{placeAt, keyAt}
+use Rattle.lex_source.specs.Token.{Token}
+use Rattle.lex_source.specs.Lex.{Outcome, accepted, refused, lexOf}
+use Rattle.lex_source.specs.Rows.{tokenTable}
+use Rattle.parse_units.specs.Parse.{Result, parseOf}
+use Rattle.parse_units.specs.declared.Verdict.{Verdict}
+use Rattle.parse_units.specs.declared.Verdict.the-variants as verdict
+use Rattle.parse_outline.specs.Labels.{labelRows}
+use Rattle.parse_outline.specs.Outline.{Outlined, answerOf, outlineOf}
+use Rattle.parse_outline.specs.Outline as outline
+use Rattle.parse_outline.specs.declared.Parsed.{Parsed}
+use Rattle.parse_outline.specs.declared.Parsed.the-variants as parsed
+use Rattle.res_skeleton.specs.Skeleton.{skeletonOf}
+use Rattle.res_names.specs.Naming.{Naming, namesOf}
+use Rattle.res_exports.specs.Exports.{Exported, exportsOf}
+use Rattle.res_data.specs.Sizes.{lengthOf, lengthIn, bigIn, bigRule}
+use Rattle.res_data.specs.declared.Measured.{Measured}
+use Rattle.res_data.specs.declared.Measured.the-variants.{Length, Big}
+use Rattle.res_text.specs.Same.{sameText}
+use Rattle.parse_verdict.specs.Verdict.{Clean, allFaults, verdictOf, keyOf, Rising}
+use Rattle.parse_verdict.specs.Lexing.{lexFaults, lexKey}
+use Rattle.parse_verdict.proofs.Decided.{least-none, all-none, none-all, decided, RealV, parse-real}
+use Rattle.parse_verdict.proofs.Lexed.{lexed-rising, lexed-long}
+use Rattle.parse_verdict.proofs.Lexing.{lexed-fine, fine-lexed, long-refused, lex-least, lex-real}
+use Rattle.check_source.specs.Check.{Lent, Left, refuse, holds, Known, known, accept, roomStage, sizeStage, dataStage, judgeWith, judgeOf, nameStage, rowStage, outlineStage, tokenStage, lexStage, checkOf}
+use Rattle.check_source.specs.declared.Checked.{Checked}
+use Rattle.check_source.specs.declared.Checked.the-variants.{Accepted, Refused}
+use Rattle.thm_acceptance.specs.Faults.{allNameFaults, exportFaults}
+use Rattle.thm_acceptance.specs.Accepts.{tokensIn, tokensOf, statementsIn, labelsIn, longRule, namesIn, nameFaults, roomRule, laterGroups, groupsOf, judge, countsIn, countsOf, Unbroken, Holds, AllClean, isAccepted}
+use Rattle.thm_acceptance.proofs.Least.{append-least, names-least, exports-least}
+
+-- ---- one group after the other
+
+judge-fault : (ks : List ℕ) (gs : List (List ℕ)) (a : Checked) (k : ℕ) → leastOf ks ≡ k → k < none → judge (ks ∷ gs) a ≡ Refused (keyNumber k) (keyPlace k)
+unfolding judge
+judge-fault ks gs a k e h =
+    ifLt-yes _ _ (let z : leastOf ks < none = omega arith in z) ∙ ap (λ (v : ℕ). Refused (keyNumber v) (keyPlace v)) e
+
+judge-clean : (ks : List ℕ) (gs : List (List ℕ)) (a : Checked) → none ≤ leastOf ks → judge (ks ∷ gs) a ≡ judge gs a
+unfolding judge
+judge-clean ks gs a h = ifLt-no _ _ h
+
+judge-end : (a : Checked) → judge [] a ≡ a
+unfolding judge
+judge-end a = refl
+
+one-least : (k : ℕ) → k ≤ none → leastOf (k ∷ []) ≡ k
+unfolding leastOf
+one-least k h = min-eq-left h
+
+-- a group of one rule
+one-fault : (k p m : ℕ) (gs : List (List ℕ)) (a : Checked) → k ≡ key p m → p < 4294967296 → m < 64 → judge ((k ∷ []) ∷ gs) a ≡ Refused m p
+one-fault k p m gs a e hp hm =
+    let f : key p m < none = key-fault p m hm in
+    judge-fault (k ∷ []) gs a (key p m) (one-least k (omega arith) ∙ e) f
+    ∙ ap (λ (v : ℕ). Refused v (keyPlace (key p m))) (key-number p m hp hm) ∙ ap (λ (v : ℕ). Refused m v) (key-place p m hp hm)
+
+one-clean : (k : ℕ) (gs : List (List ℕ)) (a : Checked) → k ≡ none → judge ((k ∷ []) ∷ gs) a ≡ judge gs a
+one-clean k gs a e = judge-clean (k ∷ []) gs a (omega (arith, one-least k (omega arith)))
+
+module _ (w : Width) (s : List ℕ) (b : Lent) (same : ℕ → ℕ → Bool) where
+  -- 16
+  room-is : (p : Known) (size : ℕ)
+      → roomStage w s same p size b .answer ≡ judge ((roomRule b (p .n) (p .c) (p .l) size ∷ []) ∷ []) (Accepted (p .n) (p .c) (p .l) size)
+  unfolding roomStage accept refuse roomRule
+  room-is p size = by (holds b (p .n) (p .c) (p .l) size) refl
+    where
+      by : (h : Bool) → holds b (p .n) (p .c) (p .l) size ≡ h
+          → ifTrue (holds b (p .n) (p .c) (p .l) size) (accept w s same p size b) (refuse 16 0 b) .answer
+          ≡ judge ((ifTrue (holds b (p .n) (p .c) (p .l) size) none (key 0 16) ∷ []) ∷ []) (Accepted (p .n) (p .c) (p .l) size)
+      by true e =
+          ap (λ (x : Left). x .answer) (ifTrue-yes (accept w s same p size b) (refuse 16 0 b) e)
+          ∙ sym (one-clean _ [] (Accepted (p .n) (p .c) (p .l) size) (ifTrue-yes none (key 0 16) e) ∙ judge-end (Accepted (p .n) (p .c) (p .l) size))
+      by false e =
+          ap (λ (x : Left). x .answer) (ifTrue-no (accept w s same p size b) (refuse 16 0 b) e)
+          ∙ sym (one-fault _ 0 16 [] (Accepted (p .n) (p .c) (p .l) size) (ifTrue-no none (key 0 16) e) (omega arith) (omega arith))
+
+  -- 15
+  size-is : (p : Known) (m : Measured) → ((i : ℕ) → placeAt (p .t) (length s) i < 4294967296)
+      → sizeStage w s same p m b .answer
+      ≡ judge ((bigIn (p .t) (length s) m ∷ []) ∷ (roomRule b (p .n) (p .c) (p .l) (lengthIn m) ∷ []) ∷ []) (Accepted (p .n) (p .c) (p .l) (lengthIn m))
+  unfolding sizeStage bigIn lengthIn refuse keyAt
+  size-is p (Length size) low = room-is p size ∙ sym (one-clean none _ (Accepted (p .n) (p .c) (p .l) size) refl)
+  size-is p (Big i) low = sym (one-fault (key (placeAt (p .t) (length s) i) 15) (placeAt (p .t) (length s) i) 15 _ _ refl (low i) (omega arith))
+
+  module _ (n : ℕ) (t : List ℕ) (r : Rising t (length s)) where
+    abbrev lastGroups : ℕ → ℕ → List (List ℕ)
+    lastGroups c l = (bigRule w t (length s) ∷ []) ∷ (roomRule b n c l (lengthIn (lengthOf w t)) ∷ []) ∷ []
+
+    data-is : (c : ℕ) (k : List ℕ) (l : ℕ) (y flags : List ℕ)
+        → dataStage w s same (known n t c k l y flags) b .answer ≡ judge (lastGroups c l) (Accepted n c l (lengthIn (lengthOf w t)))
+    unfolding dataStage bigRule
+    data-is c k l y flags = size-is (known n t c k l y flags) (lengthOf w t) (r .low)
+
+    -- 10 to 13 and 17
+    row-is : (c : ℕ) (k : List ℕ) (l : ℕ) (y : List ℕ)
+        → rowStage w s same n t c k l y b .answer ≡ judge (namesIn same t (length s) k y l c ∷ lastGroups c l) (Accepted n c l (lengthIn (lengthOf w t)))
+    unfolding rowStage nameStage judgeOf judgeWith namesIn refuse
+    row-is c k l y =
+        let a = namesOf same t (length s) k y l c in
+        let e = judgeOf same t (length s) k y l c in
+        let g : leastOf (allNameFaults same t (length s) k y l c ++ exportFaults same t (length s) y l (a .uses)) ≡ e .fault =
+        append-least (allNameFaults same t (length s) k y l c) (exportFaults same t (length s) y l (a .uses))
+        ∙ ap (λ (v : ℕ). min v (leastOf (exportFaults same t (length s) y l (a .uses)))) (sym (names-least same t (length s) y l k c))
+        ∙ ap (min (a .fault)) (sym (exports-least same t (length s) y l (a .uses))) in
+        elim (decLt (e .fault) none) [
+          | yes h ↦ ap (λ (x : Left). x .answer) (ifLt-yes _ _ h) ∙ sym (judge-fault _ (lastGroups c l) _ (e .fault) g h)
+          | no h ↦ ap (λ (x : Left). x .answer) (ifLt-no _ _ (let z : none ≤ e .fault = omega arith in z)) ∙ data-is c k l y (e .flags)
+              ∙ sym (judge-clean _ (lastGroups c l) _ (omega (arith, g)))
+        ]
+
+-- 7, 8, 9 and other 14
+module _ (w : Width) (s : List ℕ) (b : Lent) (n : ℕ) (t : List ℕ) (long : length t ≡ 32768) (r : Rising t (length s)) where
+  outline-is : (v : Verdict) (x y : List ℕ) → keyOf v ≡ leastOf (allFaults w t (length s)) → RealV v
+      → outlineStage w s (sameText s t) n t (answerOf v) x y b .answer
+      ≡ judge (laterGroups w s b n t (outline.parsed (answerOf v) x y)) (countsIn w n t (answerOf v))
+  unfolding outlineStage answerOf laterGroups nameFaults countsIn statementsIn labelsIn refuse
+  outline-is (verdict.Accepted count labels) x y e h =
+      row-is w s b (sameText s t) n t r (count - 1) (skeletonOf x (count - 1)) labels y ∙ sym (judge-clean (allFaults w t (length s)) _ _ (omega arith))
+  outline-is (verdict.Refused k) x y e h = sym (judge-fault (allFaults w t (length s)) _ _ k (sym e) h)
+
+  token-is : tokenStage w s (sameText s t) n t b .answer
+      ≡ judge (laterGroups w s b n t (outlineOf w t (length s))) (countsIn w n t (outlineOf w t (length s) .answer))
+  unfolding tokenStage outlineOf verdictOf
+  token-is = outline-is (parseOf w t (length s) .verdict) (parseOf w t (length s) .outline) (labelRows t) (decided t (length s) r w) (parse-real w t (length s) long)
+
+-- 1; 2 to 6 with 14 for tokens
+module _ (w : Width) (s : List ℕ) (b : Lent) where
+  abbrev laterOf : List Token → List (List ℕ)
+  laterOf ts = laterGroups w s b (length ts) (tokenTable ts) (outlineOf w (tokenTable ts) (length s))
+
+  abbrev countsFor : List Token → Checked
+  countsFor ts = countsIn w (length ts) (tokenTable ts) (outlineOf w (tokenTable ts) (length s) .answer)
+
+  long-clean : length s ≤ 16384 → (gs : List (List ℕ)) (a : Checked) → judge ((longRule s ∷ []) ∷ gs) a ≡ judge gs a
+  unfolding longRule
+  long-clean h gs a = one-clean _ gs a (ifLt-no (key 16384 1) none h)
+
+  long-is : 16384 < length s → lexStage w s (lexOf w s) b .answer ≡ judge ((longRule s ∷ []) ∷ lexFaults w s ∷ laterOf (tokensIn (lexOf w s))) (countsFor (tokensIn (lexOf w s)))
+  unfolding lexStage refuse longRule
+  long-is h =
+      ap (λ (o : Outcome). lexStage w s o b .answer) (long-refused w s h)
+      ∙ ap (λ (v : ℕ). Refused v (keyPlace (key 16384 1))) (key-number 16384 1 (omega arith) (omega arith))
+      ∙ ap (λ (v : ℕ). Refused 1 v) (key-place 16384 1 (omega arith) (omega arith))
+      ∙ sym (one-fault _ 16384 1 _ (countsFor (tokensIn (lexOf w s))) (ifLt-yes (key 16384 1) none h) (omega arith) (omega arith))
+
+  lex-is : length s ≤ 16384 → (o : Outcome) → lexOf w s ≡ o → lexStage w s o b .answer ≡ judge (lexFaults w s ∷ laterOf (tokensIn o)) (countsFor (tokensIn o))
+  unfolding lexStage tokensIn refuse
+  lex-is h (accepted ts) e =
+      token-is w s b (length ts) (tokenTable ts) (lexed-long w s ts e) (lexed-rising w s ts e)
+      ∙ sym (judge-clean (lexFaults w s) (laterOf ts) (countsFor ts) (all-none (lexFaults w s) (lexed-fine w s ts e .1)))
+  lex-is h (refused k) e =
+      sym (judge-fault (lexFaults w s) (laterOf []) (countsFor []) k (sym (lex-least w s h) ∙ ap lexKey e) (lex-real w s h k e))
+
+  -- the check's answer: the least fault of the first group that has one, or the counts
+  pub check-is : checkOf w s b .answer ≡ judge (groupsOf w s b) (countsOf w s)
+  unfolding checkOf groupsOf countsOf tokensOf
+  check-is =
+      elim (decLt 16384 (length s)) [
+        | yes h ↦ long-is h
+        | no h ↦ let l : length s ≤ 16384 = omega arith in lex-is l (lexOf w s) refl ∙ sym (long-clean l _ _)
+      ]
+
+-- ---- accepted exactly when no group has a fault
+
+judge-passed : (gs : List (List ℕ)) (a : Checked) → isAccepted (judge gs a) ≡ true → AllClean gs
+judge-passed [] a h = tt
+judge-passed (ks ∷ gs) a h =
+    elim (decLt (leastOf ks) none) [
+      | yes l ↦ true-false (sym h ∙ ap isAccepted (judge-fault ks gs a (leastOf ks) refl l))
+      | no l ↦ let c : leastOf ks ≡ none = omega (arith, least-none ks) in
+          (none-all ks c, judge-passed gs a (ap isAccepted (sym (judge-clean ks gs a (omega arith))) ∙ h))
+    ]
+
+passed-judge : (gs : List (List ℕ)) (a : Checked) → AllClean gs → judge gs a ≡ a
+passed-judge [] a h = judge-end a
+passed-judge (ks ∷ gs) a h = judge-clean ks gs a (all-none ks (h .0)) ∙ passed-judge gs a (h .1)
+
+judge-first : (before : List (List ℕ)) (ks : List ℕ) (behind : List (List ℕ)) (a : Checked) → AllClean before → leastOf ks < none
+    → judge (before ++ (ks ∷ behind)) a ≡ Refused (keyNumber (leastOf ks)) (keyPlace (leastOf ks))
+judge-first [] ks behind a h l = judge-fault ks behind a (leastOf ks) refl l
+judge-first (js ∷ before) ks behind a h l =
+    judge-clean js (before ++ (ks ∷ behind)) a (all-none js (h .0)) ∙ judge-first before ks behind a (h .1) l
+
+long-short : (s : List ℕ) → none ≤ longRule s → length s ≤ 16384
+unfolding longRule
+long-short s =
+    either (λ (k : ℕ). none ≤ k → length s ≤ 16384) 16384 (length s) _ _ (λ _ h. let z : ⊥ = omega (arith, key-fault 16384 1 (omega arith)) in absurd z) (λ h _. h)
+
+short-long : (s : List ℕ) → length s ≤ 16384 → none ≤ longRule s
+unfolding longRule
+short-long s h = subst (λ (k : ℕ). none ≤ k) (sym (ifLt-no (key 16384 1) none h)) (omega arith)
+
+room-holds : (b : Lent) (n c l size : ℕ) → none ≤ roomRule b n c l size → holds b n c l size ≡ true
+unfolding roomRule
+room-holds b n c l size =
+    either-true (λ (k : ℕ). none ≤ k → holds b n c l size ≡ true) (holds b n c l size) _ _ (λ e _. e) (λ _ h. let z : ⊥ = omega (arith, key-fault 0 16 (omega arith)) in absurd z)
+
+holds-room : (b : Lent) (n c l size : ℕ) → holds b n c l size ≡ true → none ≤ roomRule b n c l size
+unfolding roomRule
+holds-room b n c l size h = subst (λ (k : ℕ). none ≤ k) (sym (ifTrue-yes none (key 0 16) h)) (omega arith)
+
+module _ (w : Width) (s : List ℕ) (b : Lent) where
+  groups-unbroken : AllClean (groupsOf w s b) → Unbroken w s × Holds w s b
+  unfolding groupsOf laterGroups
+  groups-unbroken h = (
+    record {
+      short = long-short s (h .0 .0);
+      tokens = h .1 .0;
+      lines = h .1 .1 .0;
+      names = h .1 .1 .1 .0;
+      size = h .1 .1 .1 .1 .0;
+    },
+    room-holds b _ _ _ _ (h .1 .1 .1 .1 .1 .0 .0),
+  )
+
+  unbroken-groups : Unbroken w s → Holds w s b → AllClean (groupsOf w s b)
+  unfolding groupsOf laterGroups
+  unbroken-groups u h =
+      ((short-long s (u .short), tt), (u .tokens, (u .lines, (u .names, (u .size, ((holds-room b _ _ _ _ h, tt), tt))))))
+
+  -- "You accept a source exactly when it breaks none of the listed rules and the tables lent can hold it."
+  pub accepts-exactly : (isAccepted (checkOf w s b .answer) ≡ true) ↔ (Unbroken w s × Holds w s b)
+  unfolding countsOf countsIn
+  accepts-exactly = (
+    λ h. groups-unbroken (judge-passed (groupsOf w s b) (countsOf w s) (ap isAccepted (sym (check-is w s b)) ∙ h)),
+    λ h. ap isAccepted (check-is w s b ∙ passed-judge (groupsOf w s b) (countsOf w s) (unbroken-groups (h .0) (h .1))),
+  )
+
+  -- and then the answer is its counts
+  pub accepted-counts : Unbroken w s → Holds w s b → checkOf w s b .answer ≡ countsOf w s
+  accepted-counts u h = check-is w s b ∙ passed-judge (groupsOf w s b) (countsOf w s) (unbroken-groups u h)
+
+  -- a refusal is the least fault of the first group that has one
+  pub refuses-first : (before : List (List ℕ)) (ks : List ℕ) (behind : List (List ℕ)) → groupsOf w s b ≡ before ++ (ks ∷ behind) → AllClean before → leastOf ks < none
+      → checkOf w s b .answer ≡ Refused (keyNumber (leastOf ks)) (keyPlace (leastOf ks))
+  refuses-first before ks behind e h l =
+      check-is w s b ∙ ap (λ (gs : List (List ℕ)). judge gs (countsOf w s)) e ∙ judge-first before ks behind (countsOf w s) h l

@@ -1,0 +1,4 @@
+pub mod Least
+pub mod Accepts
+pub mod Opened
+pub mod Examples

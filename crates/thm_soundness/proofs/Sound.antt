@@ -1,0 +1,121 @@
+-- Accepted tables are well formed: what demand 3 stands on, and what a reader of ready checked files decides. "Take any source you accepted and
+-- any list of starts, steps and runs on its tables and data [..] It never meets a jump, name, call or frame it cannot make sense of".
+-- Assumes nothing.
+use mathlib.Core.Path.{_≡_, refl, sym, _∙_, ap, ap₂, subst}
+use mathlib.Core.Bool.{Bool, true, false}
+use mathlib.Core.List.{List, [], _∷_}
+use Prim.Native.Nat.{ℕ, _+_, _*_, _≤_, _<_}
+use native.Mathlib.Omega.{arith}
+use lib.ListN.{length}
+use Rattle.base_prelude.specs.Lists.{zeros}
+use Rattle.base_limits.specs.Width.{dataLimit}
+use Rattle.base_limits.specs.declared.Width.{Width}
+use Rattle.base_limits.specs.declared.Width.the-variants.{Bits32, Bits16}
+use Rattle.lex_source.specs.Rows.{tokenTable}
+use Rattle.prog_tables.specs.Statement.{rowAt}
+use Rattle.prog_tables.specs.Label.{Tables, labelAt}
+use Rattle.prog_tables.specs.WellFormed.{WellFormed}
+use Rattle.prog_tables.specs.Canonical.{Canonical}
+use Rattle.parse_outline.specs.Outline.{Outlined, outlineOf}
+use Rattle.parse_outline.specs.Outline as outline
+use Rattle.parse_outline.specs.declared.Parsed.{Parsed}
+use Rattle.parse_outline.specs.declared.Parsed.the-variants as answer
+use Rattle.res_skeleton.specs.Skeleton.{skeletonOf}
+use Rattle.res_frame_words.specs.Framing.{wordsOf}
+use Rattle.res_rows.specs.Rows.{statementTable}
+use Rattle.res_labels.specs.Labelling.{labelTable, nameTable}
+use Rattle.res_data.specs.Sizes.{lengthOf}
+use Rattle.res_data.specs.declared.Measured.the-variants.{Length}
+use Rattle.res_data.proofs.Laws.{measure-low}
+use Rattle.res_text.specs.Same.{sameText}
+use Rattle.parse_verdict.proofs.Lexed.{lexed-long}
+use Rattle.thm_acceptance.specs.Accepts.{isAccepted}
+use Rattle.check_source.specs.Check.{Lent, lent, Left, holds, Known, known, labelsIn, accept, judgeOf, checkOf}
+use Rattle.check_source.proofs.Cases.{room-statements, room-labels, room-names}
+use Rattle.thm_canonical.proofs.Whole.{outline-canonical}
+use Rattle.thm_soundness.specs.Program.{programBy, programOf}
+use Rattle.thm_soundness.proofs.Accepted.{Checks, checks, names-clean}
+use Rattle.thm_soundness.proofs.Rows.{alike}
+use Rattle.thm_soundness.proofs.Labels.{labels-are}
+use Rattle.thm_soundness.proofs.NewNames.{names-new}
+use Rattle.thm_soundness.proofs.LabelTests.{size-of, name-bytes, label-passes, label-tokens}
+use Rattle.thm_soundness.proofs.Whole.{left, outline-wellformed}
+
+limit-low : (w : Width) → dataLimit w ≤ 32768
+limit-low Bits32 = omega arith
+limit-low Bits16 = omega arith
+
+module _ (w : Width) (s : List ℕ) (b : Lent) (q : Checks w s b) where
+  abbrev t : List ℕ
+  t = tokenTable (q .tokens)
+
+  abbrev x : List ℕ
+  x = outlineOf w (tokenTable (q .tokens)) (length s) .rows
+
+  abbrev y : List ℕ
+  y = outlineOf w (tokenTable (q .tokens)) (length s) .labels
+
+  abbrev same : ℕ → ℕ → Bool
+  same = sameText s (tokenTable (q .tokens))
+
+  abbrev flags : List ℕ
+  flags = judgeOf same t (length s) (skeletonOf x (q .c)) y (q .l) (q .c) .flags
+
+  long : length t ≡ 32768
+  long = lexed-long w s (q .tokens) (q .lexes)
+
+  oh : outlineOf w t (length s) ≡ outline.parsed (answer.Accepted (q .c) (q .l)) x y
+  oh = ap (λ (a : Parsed). outline.parsed a x y) (q .outlines)
+
+  rows-room : q .c * 27 ≤ b .statements
+  rows-room = room-statements (b .tokens) (b .statements) (b .labels) (b .names) (b .bytes) (length (q .tokens)) (q .c) (q .l) (q .size) (q .held)
+
+  labels-room : q .l * 4 ≤ b .labels
+  labels-room = room-labels (b .tokens) (b .statements) (b .labels) (b .names) (b .bytes) (length (q .tokens)) (q .c) (q .l) (q .size) (q .held)
+
+  names-room : q .l * 64 ≤ b .names
+  names-room = room-names (b .tokens) (b .statements) (b .labels) (b .names) (b .bytes) (length (q .tokens)) (q .c) (q .l) (q .size) (q .held)
+
+  abbrev program : Tables
+  program =
+      record {
+        statements = statementTable same t (skeletonOf x (q .c)) y (q .l) (wordsOf (rowAt (skeletonOf x (q .c))) (q .c)) (labelTable w t y flags (q .l) (zeros (b .labels))) (q .c) (zeros (b .statements));
+        count = q .c;
+        labels = labelTable w t y flags (q .l) (zeros (b .labels));
+        labelCount = q .l;
+        names = nameTable s t y (q .l) (zeros (b .names));
+        dataLength = q .size;
+      }
+
+  program-formed : WellFormed program
+  program-formed =
+      let like = alike w t (length s) (q .c) (q .l) x y long oh same (labelTable w t y flags (q .l) (zeros (b .labels))) (b .statements) rows-room in
+      let clean = names-clean same t (length s) (skeletonOf x (q .c)) y (q .l) (q .c) (q .names) in
+      let tokens = label-tokens w s (q .tokens) (q .lexes) (length s) (q .c) (q .l) x y flags long oh (b .labels) (b .names) (q .size) labels-room names-room (q .sized) _ like in
+      let bytes = name-bytes w s (q .tokens) (q .lexes) (length s) (q .c) (q .l) x y flags long oh (b .labels) (b .names) (q .size) labels-room names-room (q .sized) _ like in
+      let new = names-new s t (length s) y (q .l) (labelAt (labelTable w t y flags (q .l) (zeros (b .labels))) (nameTable s t y (q .l) (zeros (b .names)))) tokens bytes (skeletonOf x (q .c)) (q .c) clean in
+      let low : q .size ≤ 32768 = let a = measure-low w t 4098 (q .size) (q .sized) in let c = limit-low w in omega (arith, a, c) in
+      outline-wellformed w t (length s) (q .c) (q .l) x y long oh same s flags (b .statements) (b .labels) (b .names) (q .size) rows-room labels-room names-room
+      (labels-are w s t y flags (q .l) (b .labels) (b .names) labels-room (length s) (q .c) x long oh) clean low
+      (label-passes w s (q .tokens) (q .lexes) (length s) (q .c) (q .l) x y flags long oh (b .labels) (b .names) (q .size) labels-room names-room (q .sized) _ like new)
+
+  program-canonical : Canonical program
+  program-canonical =
+      let like = alike w t (length s) (q .c) (q .l) x y long oh same (labelTable w t y flags (q .l) (zeros (b .labels))) (b .statements) rows-room in
+      outline-canonical w t (length s) (q .c) (q .l) x y long oh same s flags (labelTable w t y flags (q .l) (zeros (b .labels))) (b .statements) (b .labels) (b .names) (q .size) rows-room labels-room names-room
+      (size-of w s (q .tokens) (q .lexes) (length s) (q .c) (q .l) x y flags long oh (b .labels) (b .names) (q .size) labels-room names-room (q .sized) _ like)
+
+  accept-is : programOf (accept w s same (known (length (q .tokens)) t (q .c) (skeletonOf x (q .c)) (q .l) y flags) (q .size) b) ≡ program
+  unfolding accept labelsIn programBy
+  accept-is = refl
+
+  program-is : programOf (checkOf w s b) ≡ program
+  program-is = ap programOf (q .leaves) ∙ accept-is
+
+-- "Take any source you accepted": the tables, names, counts and data that an accepted check leaves in the lent buffers, of any lengths
+pub accepted-sound : (w : Width) (s : List ℕ) (b : Lent) → isAccepted (checkOf w s b .answer) ≡ true → WellFormed (programOf (checkOf w s b)) × Canonical (programOf (checkOf w s b))
+accepted-sound w s b h =
+    let q = checks w s b h in (
+      subst WellFormed (sym (program-is w s b q)) (program-formed w s b q),
+      subst Canonical (sym (program-is w s b q)) (program-canonical w s b q),
+    )

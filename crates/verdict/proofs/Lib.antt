@@ -1,5 +1,0 @@
-pub mod Found
-pub mod Decided
-pub mod Lexed
-pub mod Counts
-pub mod Lexing

@@ -1,0 +1,20 @@
+// Counts of rows against the lengths of the lent tables.
+ghost use mathlib.Core.Path.{_≡_};
+ghost use Rattle.prog_tables.specs.Faults.{countFault};
+ghost use Rattle.vm_definitions.specs.Lent.{tablesOf};
+
+// Whether a count is past its table. The data's length does not matter.
+pub fn count_fault(t: &[u32], c: u32, l: &[u32], k: u32, names: &[u8]) -> bool
+    ensures { λ r. ⌜ r ≡ countFault (tablesOf (now (t .entry)) c (now (l .entry)) k (now (names .entry)) 0) ⌝ }
+{
+    let rows = c as usize * 27;
+    if t.len() < rows {
+        return true;
+    }
+    let labels = k as usize * 4;
+    if l.len() < labels {
+        return true;
+    }
+    let bytes = k as usize * 64;
+    names.len() < bytes
+}

@@ -1,0 +1,276 @@
+-- Calls and tail calls: the invariant holds for the function called.
+-- Assumes nothing.
+use mathlib.Core.Path.{_≡_, refl, sym, _∙_, ap, subst}
+use Prim.Native.Nat.{ℕ, zero, suc, _+_, _<_, _≤_}
+use mathlib.Core.Bool.{Bool, true, false}
+use mathlib.Core.Option.{Option, none, some}
+use mathlib.Core.List.{List, [], _∷_}
+use native.Mathlib.Decide.{ℕ-discrete}
+use native.Mathlib.Omega.{arith}
+use borrow.Author.Tests.{ne-eqb}
+use lib.Dec.{eqb}
+use lib.ListN.{getD, length}
+use Rattle.base_prelude.specs.Choice.{ifLt, ifEq, ifTrue}
+use Rattle.base_prelude.proofs.Choice.{true-false, either, either-eq, either-true, ifEq-yes, ifEq-no, ifTrue-yes}
+use Rattle.base_limits.specs.declared.Width.{Width}
+use Rattle.prog_tables.specs.Layout.{callExpression}
+use Rattle.prog_tables.specs.Tests.{both, oneOf}
+use Rattle.prog_tables.specs.Statement.{Row, hasExpression, isCall}
+use Rattle.prog_tables.specs.Label.{Tables, rows}
+use Rattle.prog_tables.specs.WellFormed.{WellFormed}
+use Rattle.prog_tables.proofs.Each.{both-left, both-right}
+use Rattle.prog_laws.proofs.Rows.{Callee, callee-facts, marks, size-at, address-words}
+use Rattle.vm_definitions.specs.Access.{wordGood, storeFrom}
+use Rattle.vm_definitions.specs.Operands.{Words, words, bad, numberIn}
+use Rattle.vm_definitions.specs.Frames.{frameWords, returnsTo, callerFrame, topAtEntry, isCalling}
+use Rattle.vm_definitions.specs.Step.{World, Effect, stops, leaves, movedTo, callBy, callOf, tailCallBy, argumentsOf, addressOf}
+use Rattle.vm_definitions.specs.Ledger.{Entry, Ledger}
+use Rattle.vm_definitions.proofs.Invariant.{FrameAt, Head, Under, Invariant}
+use Rattle.vm_definitions.proofs.Stores.{store-length, store-before, store-at}
+use Rattle.vm_definitions.proofs.Carried.{Agree, number-same, frame-same, under-same}
+use Rattle.vm_definitions.proofs.Kept.{Kept}
+use Rattle.vm_definitions.proofs.Begun.{first-frame}
+
+or-right : (a b : Bool) → a ≡ false → oneOf a b ≡ true → b ≡ true
+or-right true b e d = true-false e
+or-right false b e d = d
+
+-- a call in any form goes to a function
+pub calling-call : (r : Row) → isCalling r ≡ true → isCall (r .kind) (r .expr) ≡ true
+unfolding isCalling isCall
+calling-call r h =
+    either-eq (λ (b : Bool). b ≡ true) (r .kind) 11 true (ifEq (r .kind) 12 true (ifTrue (hasExpression (r .kind)) (eqb (r .expr) callExpression) false)) (λ d. refl)
+    (λ q. either-eq (λ (b : Bool). b ≡ true) (r .kind) 12 true (ifTrue (hasExpression (r .kind)) (eqb (r .expr) callExpression) false) (λ d. refl)
+    (λ p.
+    let a : both (hasExpression (r .kind)) (eqb (r .expr) callExpression) ≡ true = or-right (eqb (r .kind) 11) (both (hasExpression (r .kind)) (eqb (r .expr) callExpression)) (ne-eqb (r .kind) 11 q) h in
+    ifTrue-yes (eqb (r .expr) callExpression) false (both-left (hasExpression (r .kind)) (eqb (r .expr) callExpression) a) ∙ both-right (hasExpression (r .kind)) (eqb (r .expr) callExpression) a))
+
+pub tail-call : (r : Row) → r .kind ≡ 12 → isCall (r .kind) (r .expr) ≡ true
+unfolding isCall
+tail-call r k =
+    ifEq-no true (ifEq (r .kind) 12 true (ifTrue (hasExpression (r .kind)) (eqb (r .expr) callExpression) false)) (λ d. omega arith)
+    ∙ ifEq-yes true (ifTrue (hasExpression (r .kind)) (eqb (r .expr) callExpression) false) k
+
+-- the three words of a frame's head, written where they fit
+head-word : (st : List ℕ) (s call frame top : ℕ) (vs : List ℕ) (size j : ℕ) → j < 3 → s + 3 ≤ length st
+    → getD (storeFrom st s (frameWords call frame top vs size)) (s + j) 0 ≡ getD (frameWords call frame top vs size) j 0
+unfolding frameWords
+head-word st s call frame top vs size j l h = store-at st s (frameWords call frame top vs size) j (omega arith) (omega arith)
+
+head-place : (st : List ℕ) (s call frame top : ℕ) (vs : List ℕ) (size : ℕ) → s + 3 ≤ length st → returnsTo (storeFrom st s (frameWords call frame top vs size)) s ≡ call
+unfolding frameWords
+head-place st s call frame top vs size h =
+    let z : s ≡ s + 0 = omega arith in
+    ap (λ (y : ℕ). getD (storeFrom st s (frameWords call frame top vs size)) y 0) z ∙ head-word st s call frame top vs size 0 (omega arith) h
+
+head-caller : (st : List ℕ) (s call frame top : ℕ) (vs : List ℕ) (size : ℕ) → s + 3 ≤ length st → callerFrame (storeFrom st s (frameWords call frame top vs size)) s ≡ frame
+unfolding frameWords
+head-caller st s call frame top vs size h = head-word st s call frame top vs size 1 (omega arith) h
+
+head-top : (st : List ℕ) (s call frame top : ℕ) (vs : List ℕ) (size : ℕ) → s + 3 ≤ length st → topAtEntry (storeFrom st s (frameWords call frame top vs size)) s ≡ top
+unfolding frameWords
+head-top st s call frame top vs size h = head-word st s call frame top vs size 2 (omega arith) h
+
+module _ (w : Width) (t : Tables) (good : WellFormed t) (e : Entry) (es : Ledger) (x : World) (i : Invariant w t e es x) where
+  -- ---- calls
+
+  module _ (c : isCalling (rows t (x .machine .next)) ≡ true)
+      (address : rows t (x .machine .next) .kind ≡ 7 → wordGood w (length (x .memory)) (addressOf w (rows t) (t .count) x) ≡ true) where
+    callee : Callee t good (x .machine .next) (i .frame .within)
+    callee = callee-facts t good (x .machine .next) (i .frame .within) (calling-call (rows t (x .machine .next)) c)
+
+    size : 3 ≤ rows t (rows t (x .machine .next) .callee) .a
+    size = omega (arith, marks t good (rows t (x .machine .next) .callee) (callee .within) (callee .is-function) .head)
+
+    unfoldable pub calledStack : List ℕ → List ℕ
+    calledStack vs =
+        storeFrom (x .stack) (x .machine .used)
+        (frameWords (x .machine .next) (x .machine .frame) (x .machine .top) vs (rows t (rows t (x .machine .next) .callee) .a))
+
+    module _ (vs : List ℕ) (h : x .machine .used + rows t (rows t (x .machine .next) .callee) .a ≤ length (x .stack)) where
+      long : x .machine .used + 3 ≤ length (x .stack)
+      long = omega (arith, size)
+
+      caller : callerFrame (calledStack vs) (x .machine .used) ≡ x .machine .frame
+      unfolding calledStack
+      caller = head-caller (x .stack) (x .machine .used) (x .machine .next) (x .machine .frame) (x .machine .top) vs (rows t (rows t (x .machine .next) .callee) .a) long
+
+      place : returnsTo (calledStack vs) (x .machine .used) ≡ x .machine .next
+      unfolding calledStack
+      place = head-place (x .stack) (x .machine .used) (x .machine .next) (x .machine .frame) (x .machine .top) vs (rows t (rows t (x .machine .next) .callee) .a) long
+
+      top : topAtEntry (calledStack vs) (x .machine .used) ≡ x .machine .top
+      unfolding calledStack
+      top = head-top (x .stack) (x .machine .used) (x .machine .next) (x .machine .frame) (x .machine .top) vs (rows t (rows t (x .machine .next) .callee) .a) long
+
+      below : Agree (calledStack vs) (x .stack) (x .machine .used)
+      unfolding calledStack
+      below j l =
+          store-before (x .stack) (x .machine .used)
+          (frameWords (x .machine .next) (x .machine .frame) (x .machine .top) vs (rows t (rows t (x .machine .next) .callee) .a)) j l
+
+      same-length : length (calledStack vs) ≡ length (x .stack)
+      unfolding calledStack
+      same-length =
+          store-length (x .stack) (x .machine .used)
+          (frameWords (x .machine .next) (x .machine .frame) (x .machine .top) vs (rows t (rows t (x .machine .next) .callee) .a))
+
+      own : rows t (rows t (x .machine .next) .func) .a ≡ rows t (e .func) .a
+      own = ap (λ (y : ℕ). rows t y .a) (i .frame .func)
+
+      number : rows t (x .machine .next) .kind ≡ 7
+          → numberIn (calledStack vs) (callerFrame (calledStack vs) (x .machine .used)) (rows t (x .machine .next) .address) ≡ numberIn (x .stack) (x .machine .frame) (rows t (x .machine .next) .address)
+      number k =
+          ap (λ (y : ℕ). numberIn (calledStack vs) y (rows t (x .machine .next) .address)) caller
+          ∙ number-same (x .stack) (calledStack vs) (x .machine .frame) (rows t (rows t (x .machine .next) .func) .a) (t .dataLength) (x .machine .used) (rows t (x .machine .next) .address)
+          (address-words t good (x .machine .next) (i .frame .within) k .whole) (omega (arith, own, i .ends)) below
+
+      head : Head w t (length (x .memory)) (calledStack vs) (x .machine .next) (e .func) (x .machine .used)
+      head =
+          record {
+            place = place;
+            ends = ap (λ (y : ℕ). y + rows t (e .func) .a) caller ∙ i .ends;
+            calls = c;
+            address = λ k. ap (wordGood w (length (x .memory))) (number k) ∙ address k;
+            frame =
+                subst (λ (y : ℕ). FrameAt w t (length (x .memory)) (calledStack vs) (e .func) y (x .machine .next)) (sym caller)
+                (frame-same w t good (length (x .memory)) (x .stack) (calledStack vs) (e .func) (x .machine .frame) (x .machine .next) (x .machine .used) below
+                (omega (arith, i .ends)) (i .frame));
+          }
+
+      under : Under w t (length (x .memory)) (calledStack vs) (some (x .machine .next)) (e ∷ es) (x .machine .used)
+      unfolding Under
+      under = (
+        head,
+        subst (Under w t (length (x .memory)) (calledStack vs) (e .call) es) (sym caller)
+            (under-same w t good (length (x .memory)) (x .stack) (calledStack vs) (e .call) es (x .machine .frame)
+            (λ j l. below j (omega (arith, own, i .ends, func-size))) (i .under)),
+      )
+        where
+          func-size : 3 ≤ rows t (e .func) .a
+          func-size = omega (arith, own, size-at t good (x .machine .next) (i .frame .within) .head)
+
+      called : Invariant w t (record { func = rows t (x .machine .next) .callee; call = some (x .machine .next) }) (e ∷ es)
+          (record {
+            machine =
+                movedTo (x .machine) (suc (rows t (x .machine .next) .callee)) (x .machine .used) (x .machine .used + rows t (rows t (x .machine .next) .callee) .a) (x .machine .top);
+            stack = calledStack vs;
+            memory = x .memory;
+          })
+      unfolding movedTo
+      called =
+          record {
+            frame =
+                first-frame w t good (length (x .memory)) (calledStack vs) (rows t (x .machine .next) .callee) (x .machine .used) (callee .within) (callee .is-function)
+                (omega (arith, top, i .top));
+            under = under;
+            ends = refl;
+            lent = omega (arith, same-length);
+            few = omega (arith, same-length, i .few);
+            top = i .top;
+            held = i .held;
+            short = i .short;
+          }
+
+    -- a call with the words of its arguments
+    pub kept-call-by : (vs : Words) → Kept w t (record { func = rows t (x .machine .next) .callee; call = some (x .machine .next) }) (e ∷ es) (callBy w (rows t) (t .count) x vs)
+    unfolding callBy Kept calledStack
+    kept-call-by (words vs) =
+        either (Kept w t (record { func = rows t (x .machine .next) .callee; call = some (x .machine .next) }) (e ∷ es)) (length (x .stack))
+        (x .machine .used + rows t (rows t (x .machine .next) .callee) .a) (stops 33) _ (λ h. tt) (λ h. called vs h)
+    kept-call-by bad = tt
+
+  -- a call in any form: that of `set @` judged its address first
+  pub kept-call : isCalling (rows t (x .machine .next)) ≡ true
+      → Kept w t (record { func = rows t (x .machine .next) .callee; call = some (x .machine .next) }) (e ∷ es) (callOf w (rows t) (t .count) x)
+  unfolding callOf Kept
+  kept-call c =
+      either-eq (Kept w t (record { func = rows t (x .machine .next) .callee; call = some (x .machine .next) }) (e ∷ es)) (rows t (x .machine .next) .kind) 7
+      (ifTrue (wordGood w (length (x .memory)) (addressOf w (rows t) (t .count) x)) (callBy w (rows t) (t .count) x (argumentsOf w (rows t) (t .count) x)) (stops 32))
+      (callBy w (rows t) (t .count) x (argumentsOf w (rows t) (t .count) x))
+      (λ k. either-true (Kept w t (record { func = rows t (x .machine .next) .callee; call = some (x .machine .next) }) (e ∷ es))
+      (wordGood w (length (x .memory)) (addressOf w (rows t) (t .count) x)) (callBy w (rows t) (t .count) x (argumentsOf w (rows t) (t .count) x)) (stops 32)
+      (λ d. kept-call-by c (λ q. d) (argumentsOf w (rows t) (t .count) x)) (λ d. tt))
+      (λ k. kept-call-by c (λ q. absurd (k q)) (argumentsOf w (rows t) (t .count) x))
+
+  -- ---- tail calls
+
+  module _ (k : rows t (x .machine .next) .kind ≡ 12) where
+    tail-callee : Callee t good (x .machine .next) (i .frame .within)
+    tail-callee = callee-facts t good (x .machine .next) (i .frame .within) (tail-call (rows t (x .machine .next)) k)
+
+    tail-size : 3 ≤ rows t (rows t (x .machine .next) .callee) .a
+    tail-size = omega (arith, marks t good (rows t (x .machine .next) .callee) (tail-callee .within) (tail-callee .is-function) .head)
+
+    unfoldable pub tailStack : List ℕ → List ℕ
+    tailStack vs =
+        storeFrom (x .stack) (x .machine .frame)
+        (frameWords (returnsTo (x .stack) (x .machine .frame)) (callerFrame (x .stack) (x .machine .frame)) (topAtEntry (x .stack) (x .machine .frame)) vs
+        (rows t (rows t (x .machine .next) .callee) .a))
+
+    module _ (vs : List ℕ) (h : x .machine .frame + rows t (rows t (x .machine .next) .callee) .a ≤ length (x .stack)) where
+      tail-long : x .machine .frame + 3 ≤ length (x .stack)
+      tail-long = omega (arith, tail-size)
+
+      tail-top : topAtEntry (tailStack vs) (x .machine .frame) ≡ topAtEntry (x .stack) (x .machine .frame)
+      unfolding tailStack
+      tail-top =
+          head-top (x .stack) (x .machine .frame) (returnsTo (x .stack) (x .machine .frame)) (callerFrame (x .stack) (x .machine .frame)) (topAtEntry (x .stack) (x .machine .frame)) vs
+          (rows t (rows t (x .machine .next) .callee) .a) tail-long
+
+      tail-length : length (tailStack vs) ≡ length (x .stack)
+      unfolding tailStack
+      tail-length =
+          store-length (x .stack) (x .machine .frame)
+          (frameWords (returnsTo (x .stack) (x .machine .frame)) (callerFrame (x .stack) (x .machine .frame)) (topAtEntry (x .stack) (x .machine .frame)) vs
+          (rows t (rows t (x .machine .next) .callee) .a))
+
+      -- the place to return to and the caller's frame are those that were there
+      tail-below : Agree (tailStack vs) (x .stack) (x .machine .frame + 2)
+      unfolding tailStack
+      tail-below j l =
+          elim (ℕ-discrete j (x .machine .frame)) [
+            | yes d ↦ ap (λ (y : ℕ). getD (tailStack vs) y 0) d
+                ∙ head-place (x .stack) (x .machine .frame) (returnsTo (x .stack) (x .machine .frame)) (callerFrame (x .stack) (x .machine .frame)) (topAtEntry (x .stack) (x .machine .frame)) vs
+                (rows t (rows t (x .machine .next) .callee) .a) tail-long
+                ∙ ap (λ (y : ℕ). getD (x .stack) y 0) (sym d)
+            | no d ↦ elim (ℕ-discrete j (x .machine .frame + 1)) [
+              | yes q ↦ ap (λ (y : ℕ). getD (tailStack vs) y 0) q
+                  ∙ head-caller (x .stack) (x .machine .frame) (returnsTo (x .stack) (x .machine .frame)) (callerFrame (x .stack) (x .machine .frame)) (topAtEntry (x .stack) (x .machine .frame)) vs
+                  (rows t (rows t (x .machine .next) .callee) .a) tail-long
+                  ∙ ap (λ (y : ℕ). getD (x .stack) y 0) (sym q)
+              | no q ↦ store-before (x .stack) (x .machine .frame)
+                  (frameWords (returnsTo (x .stack) (x .machine .frame)) (callerFrame (x .stack) (x .machine .frame)) (topAtEntry (x .stack) (x .machine .frame)) vs
+                  (rows t (rows t (x .machine .next) .callee) .a)) j (omega arith)
+            ]
+          ]
+
+      tail-called : Invariant w t (record { func = rows t (x .machine .next) .callee; call = e .call }) es
+          (record {
+            machine =
+                movedTo (x .machine) (suc (rows t (x .machine .next) .callee)) (x .machine .frame) (x .machine .frame + rows t (rows t (x .machine .next) .callee) .a)
+                (topAtEntry (x .stack) (x .machine .frame));
+            stack = tailStack vs;
+            memory = x .memory;
+          })
+      unfolding movedTo
+      tail-called =
+          record {
+            frame =
+                first-frame w t good (length (x .memory)) (tailStack vs) (rows t (x .machine .next) .callee) (x .machine .frame) (tail-callee .within) (tail-callee .is-function)
+                (omega (arith, tail-top, i .frame .top));
+            under = under-same w t good (length (x .memory)) (x .stack) (tailStack vs) (e .call) es (x .machine .frame) tail-below (i .under);
+            ends = refl;
+            lent = omega (arith, tail-length);
+            few = omega (arith, tail-length, i .few);
+            top = i .frame .top;
+            held = i .held;
+            short = i .short;
+          }
+
+    pub kept-tail-call : (vs : Words) → Kept w t (record { func = rows t (x .machine .next) .callee; call = e .call }) es (tailCallBy w (rows t) (t .count) x vs)
+    unfolding tailCallBy Kept tailStack
+    kept-tail-call (words vs) =
+        either (Kept w t (record { func = rows t (x .machine .next) .callee; call = e .call }) es) (length (x .stack))
+        (x .machine .frame + rows t (rows t (x .machine .next) .callee) .a) (stops 33) _ (λ h. tt) (λ h. tail-called vs h)
+    kept-tail-call bad = tt

@@ -1,0 +1,160 @@
+-- Demand 3 for well-formed tables: "Take any source you accepted and any list of starts, steps and runs on its tables and data, the first an accepted start;
+-- refused starts and calls on a finished or stopped record belong too. [..] After every such list the machine has finished, exactly when no function is
+-- open in the ledger of 01, or has stopped for one of the five listed causes, or its next step counts one or stops so. A statement stops exactly when such a
+-- cause is there, with the number of the first it meets. It never meets a jump, name, call or frame it cannot make sense of, and no call of the list gives 35. The
+-- stack in use is the sum of the frame sizes of the functions open in the ledger. The stack stop comes exactly when a call's or tail call's arguments are read and
+-- that sum with the new frame, for a tail call less the old one, passes the words lent."
+-- Worlds inside a run are those of a run with a smaller budget, which is another list.
+-- Assumes nothing.
+use mathlib.Core.Path.{_≡_, refl, sym, _∙_, ap, subst}
+use mathlib.Core.Bool.{Bool, true, false}
+use mathlib.Core.Option.{none}
+use mathlib.Core.List.{List, [], _∷_}
+use Prim.Native.Nat.{ℕ, zero, suc, _≤_, _<_}
+use native.Mathlib.Omega.{arith}
+use borrow.Author.Tests.{le-ltb}
+use lib.Dec.{ltb}
+use lib.ListN.{length}
+use Rattle.base_prelude.specs.Choice.{ifTrue}
+use Rattle.base_prelude.proofs.Choice.{true-false, ifTrue-no, either, either-eq, either-true}
+use Rattle.base_limits.specs.Fresh.{freshOf}
+use Rattle.base_limits.specs.declared.Width.{Width}
+use Rattle.base_limits.specs.declared.State.the-variants.{Running}
+use Rattle.prog_tables.specs.Tests.{oneOf, some, someBelow}
+use Rattle.prog_tables.specs.Label.{Tables, rows, labelsOf}
+use Rattle.prog_tables.specs.Faults.{rowFault, labelFault, countFault, tablesFault}
+use Rattle.prog_tables.specs.WellFormed.{WellFormed}
+use Rattle.prog_tables.proofs.Sound.{kind-sound}
+use Rattle.prog_tables.proofs.Whole.{row-sound}
+use Rattle.prog_tables.proofs.Unbroken.{tables-sound}
+use Rattle.vm_definitions.specs.Step.{World, Effect, stops, leaves, stopOf, effectOf}
+use Rattle.vm_definitions.specs.Broken.{lowest, orElse, numbersBelow, startBroken}
+use Rattle.vm_definitions.specs.Start.{startOf, startBy, startAnswer, startLeaves, startWorld, begunBy, startedFunction}
+use Rattle.vm_definitions.specs.Ledger.{Entry, Ledger, sumOf, lastOf, countedIn}
+use Rattle.vm_definitions.specs.Claim.{causeIn, Demand}
+use Rattle.vm_definitions.specs.declared.Broken.{Broken}
+use Rattle.vm_definitions.specs.declared.Broken.the-variants.{No, At, Somewhere}
+use Rattle.vm_definitions.specs.declared.Started.{Started}
+use Rattle.vm_definitions.specs.declared.Started.the-variants.{Begun, Refused, Unsound}
+use Rattle.vm_definitions.proofs.Invariant.{Invariant}
+use Rattle.vm_definitions.proofs.Chain.{invariant-sum, invariant-frame}
+use Rattle.vm_definitions.proofs.Gate.{Low, low-none, low-cons, lowest-none, gate-open, hand-safe, neither}
+use Rattle.vm_definitions.proofs.Stores.{store-length}
+use Rattle.vm_definitions.proofs.Causes.{effect-cause}
+use Rattle.vm_definitions.proofs.Listed.{step-listed, step-full, step-full-only}
+use Rattle.vm_definitions.proofs.Begun as start
+use Rattle.vm_definitions.proofs.Lists.{Good, runs, Parts}
+use Rattle.vm_definitions.proofs.Stepped.{Leads, leads}
+use Rattle.vm_definitions.proofs.Claimed.{demand-holds}
+
+neither-left : (p q : Bool) → oneOf p q ≡ false → p ≡ false
+neither-left true q e = e
+neither-left false q e = refl
+
+neither-right : (p q : Bool) → oneOf p q ≡ false → q ≡ false
+neither-right true q e = absurd (true-false e)
+neither-right false q e = e
+
+low-below : (c n : ℕ) → n ≤ c → Low c (numbersBelow n)
+unfolding numbersBelow
+low-below c zero h = low-none c
+low-below c (suc n) h = low-cons c n (numbersBelow n) h (low-below c n (omega (arith, h)))
+
+module _ (w : Width) (t : Tables) (good : WellFormed t) (bytes : List ℕ) (lent : t .dataLength ≤ length bytes) where
+  abbrev labelBad : ℕ → Bool
+  labelBad n = labelFault (rows t) (t .count) (t .dataLength) (labelsOf t n)
+
+  abbrev rowBad : ℕ → Bool
+  rowBad = rowFault (rows t) (t .count) (t .dataLength)
+
+  counts-whole : countFault t ≡ false
+  unfolding tablesFault some
+  counts-whole = neither-left (countFault t) (oneOf (someBelow rowBad (t .count)) (oneOf (someBelow labelBad (t .labelCount)) false)) (tables-sound t good)
+
+  labels-whole : someBelow labelBad (t .labelCount) ≡ false
+  unfolding tablesFault some
+  labels-whole =
+      neither-left (someBelow labelBad (t .labelCount)) false
+      (neither-right (someBelow rowBad (t .count)) (oneOf (someBelow labelBad (t .labelCount)) false)
+      (neither-right (countFault t) (oneOf (someBelow rowBad (t .count)) (oneOf (someBelow labelBad (t .labelCount)) false)) (tables-sound t good)))
+
+  -- no start gives 35
+  start-whole : startBroken t (length bytes) ≡ No
+  unfolding startBroken orElse
+  start-whole =
+      ifTrue-no _ _ (neither (countFault t) (ltb (length bytes) (t .dataLength)) counts-whole (le-ltb (length bytes) (t .dataLength) lent))
+      ∙ ap (λ (b : Broken). orElse b (ifTrue (someBelow labelBad (t .labelCount)) Somewhere No))
+      (lowest-none rowBad (t .count) (row-sound t good) (numbersBelow (t .count)) (low-below (t .count) (t .count) (omega arith)))
+      ∙ ifTrue-no _ _ labels-whole
+
+  module _ (name args : List ℕ) (x : World) where
+    unfoldable Whole : Started → Type 0
+    Whole Begun = Unit {0}
+    Whole (Refused k) = Unit {0}
+    Whole (Unsound b) = ⊥
+
+    refusals : (n : ℕ) → Whole (Refused n)
+    unfolding Whole
+    refusals n = tt
+
+    answer-whole : Whole (startAnswer w t bytes name args x)
+    unfolding startAnswer Whole
+    answer-whole =
+        either Whole _ _ _ _
+        (λ a. either-eq Whole _ _ _ _
+        (λ b. either-true Whole _ _ _ (λ c. refusals 22) (λ c. either-true Whole _ _ _ (λ d. refusals 23) (λ d. tt)))
+        (λ b. refusals 21))
+        (λ a. refusals 20)
+
+    started-whole : Whole (startOf w t bytes name args x)
+    unfolding startOf startBy
+    started-whole = subst (λ (b : Broken). Whole (startBy w t bytes name args x b)) (sym start-whole) answer-whole
+
+    unsound : (b : Broken) → startOf w t bytes name args x ≡ Unsound b → ⊥
+    unfolding Whole
+    unsound b q = subst Whole q started-whole
+
+    -- an accepted start leaves a good world
+    begins : startOf w t bytes name args x ≡ Begun
+        → Good w t (length (x .memory)) (record { func = startedFunction w t bytes name args x; call = none } ∷ []) (startLeaves w t bytes name args x)
+    unfolding startLeaves begunBy startWorld freshOf
+    begins q =
+        runs _ [] (startLeaves w t bytes name args x)
+        (ap (λ (a : Started). length (begunBy w t bytes name args x a .memory)) q ∙ store-length (x .memory) 0 _)
+        (ap (λ (a : Started). begunBy w t bytes name args x a .machine .state) q)
+        (start.begun w t good bytes name args x q)
+
+  module _ (e : Entry) (es : Ledger) (x : World) (i : Invariant w t e es x) where
+    cause-is : stopOf (effectOf w (rows t) (t .count) x) ≡ causeIn w t (e ∷ es) x
+    unfolding causeIn
+    cause-is =
+        effect-cause w t x (sumOf (rows t) (e ∷ es)) (lastOf (rows t) (e ∷ es)) (kind-sound t good (x .machine .next) (i .frame .within)) (i .frame .inside)
+        (invariant-sum w t e es x i) (invariant-frame w t e es x i) (λ v r. hand-safe w t good e es x i v)
+
+    leads-on : (s : x .machine .state ≡ Running) (y : World) → effectOf w (rows t) (t .count) x ≡ leaves y
+        → Good w t (length (x .memory)) (countedIn (rows t) (x .machine .next) (e ∷ es)) y
+    unfolding Leads
+    leads-on s y q = subst (Leads w t good e es x s i) q (leads w t good e es x s i)
+
+    stop-some : (s : x .machine .state ≡ Running) (k : ℕ) → effectOf w (rows t) (t .count) x ≡ stops k → 0 < k
+    unfolding Leads
+    stop-some s k q = subst (Leads w t good e es x s i) q (leads w t good e es x s i)
+
+  parts : Parts w t bytes
+  parts =
+      record {
+        gate = λ e es x i. gate-open w t good e es x i;
+        cause = cause-is;
+        listed = λ es x. step-listed w t es x;
+        full = λ e es x i. step-full w t (e ∷ es) x;
+        fullOnly = λ e es x i. step-full-only w t (e ∷ es) x;
+        kept = λ e es x y s i q. leads-on e es x i s y q;
+        sums = λ e es x i. invariant-sum w t e es x i;
+        begun = begins;
+        unbroken = unsound;
+        numbered = λ e es x k s i q. stop-some e es x i s k q;
+      }
+
+  -- theorem A: the demand for well-formed tables and data that holds their data's length
+  pub demanded : Demand w t bytes
+  demanded = demand-holds w t bytes parts

@@ -1,0 +1,119 @@
+-- The five causes of a stop, on their own: what a statement meets, in reading order, and which of it is a cause. Nothing here
+-- evaluates a statement.
+-- Assumes nothing.
+use Prim.Native.Nat.{ℕ, _+_, _-_, _*_, _%_, _^_}
+use mathlib.Core.Bool.{Bool, true, false}
+use mathlib.Core.List.{List, [], _∷_, _++_}
+use lib.Dec.{ltb, leb, eqb}
+use lib.ListN.{getD, length}
+use Rattle.base_prelude.specs.Choice.{ifLt, ifEq, ifTrue}
+use Rattle.base_limits.specs.Width.{bitsOf, bytesOf}
+use Rattle.base_limits.specs.declared.Width.{Width}
+use Rattle.prog_tables.specs.Tests.{both, oneOf}
+use Rattle.prog_tables.specs.Statement.{Row, hasExpression, isCall}
+use Rattle.prog_tables.specs.declared.Operand.{Operand}
+use Rattle.vm_definitions.specs.Access.{byteAddress, wordAddress, loadOf}
+use Rattle.vm_definitions.specs.Operands.{isAt, numberIn}
+use Rattle.vm_definitions.specs.Expressions.{roundUp, operandNo}
+use Rattle.vm_definitions.specs.Step.{World}
+
+pub data Meeting : Type 0 where
+  -- a word or a byte of memory is touched at an address
+  wordAt : ℕ → Meeting
+  byteAt : ℕ → Meeting
+  -- `div` or `mod` of two words
+  divides : ℕ → ℕ → Meeting
+  leavesOver : ℕ → Meeting
+  -- a shift or rotate by a count
+  shiftsBy : ℕ → Meeting
+  -- auto memory up to an end, stack words up to an end
+  reservesTo : ℕ → Meeting
+  stacksTo : ℕ → Meeting
+
+-- the number of a cause, 0 where it is none: m bytes of memory, s words of stack
+unfoldable pub causeOf : Width → ℕ → ℕ → Meeting → ℕ
+-- "A word access, `@` included, needs a multiple of 4; every byte touched must be in memory, else stop 32"
+causeOf w m s (wordAt a) = ifTrue (both (eqb (a % bytesOf w) 0) (leb (a + bytesOf w) m)) 0 32
+causeOf w m s (byteAt a) = ifTrue (ltb a m) 0 32
+-- "zero divisor, or `div` of -2147483648 by -1: stop 30"
+causeOf w m s (divides x y) = ifTrue (oneOf (eqb y 0) (both (eqb x (2 ^ (bitsOf w - 1))) (eqb y (2 ^ bitsOf w - 1)))) 30 0
+causeOf w m s (leavesOver y) = ifEq y 0 30 0
+-- "a negative count is stop 31"
+causeOf w m s (shiftsBy n) = ifTrue (leb (2 ^ (bitsOf w - 1)) n) 31 0
+-- "the exact end [..] must not pass the memory's length, else stop 34"
+causeOf w m s (reservesTo e) = ifLt m e 34 0
+-- "a new frame past the lent stack is stop 33"
+causeOf w m s (stacksTo e) = ifLt s e 33 0
+
+-- the number of the first cause, 0 without any
+unfoldable pub firstOf : Width → ℕ → ℕ → List Meeting → ℕ
+firstOf w m s [] = 0
+firstOf w m s (e ∷ es) = ifEq (causeOf w m s e) 0 (firstOf w m s es) (causeOf w m s e)
+
+-- ---- what a statement meets
+
+-- the words that `@` operands touch, left to right
+unfoldable pub touched : List ℕ → ℕ → List Operand → List Meeting
+touched st s [] = []
+touched st s (o ∷ os) = ifTrue (isAt o) (wordAt (numberIn st s o) ∷ touched st s os) (touched st s os)
+
+-- an operand's word, where it can be read
+unfoldable pub wordOf : Width → List ℕ → ℕ → List ℕ → Operand → ℕ
+wordOf w st s m o = ifTrue (isAt o) (loadOf w m (numberIn st s o)) (numberIn st s o)
+
+-- what operator e meets with words x and y
+unfoldable pub operatorMeets : Width → ℕ → ℕ → ℕ → ℕ → List Meeting
+operatorMeets w top e x y =
+    ifEq e 35 (shiftsBy y ∷ [])
+    (ifEq e 36 (reservesTo (roundUp w top + x) ∷ [])
+    (ifEq e 37 (reservesTo (roundUp w top + bytesOf w * x) ∷ [])
+    (ifEq e 38 (shiftsBy y ∷ [])
+    (ifEq e 39 (divides x y ∷ [])
+    (ifEq e 40 (byteAt (byteAddress w x y) ∷ [])
+    (ifEq e 41 (wordAt (wordAddress w x y) ∷ [])
+    (ifEq e 42 (leavesOver y ∷ [])
+    (ifEq e 46 (shiftsBy y ∷ [])
+    (ifEq e 47 (shiftsBy y ∷ [])
+    (ifEq e 48 (shiftsBy y ∷ [])
+    (ifEq e 49 (shiftsBy y ∷ []) [])))))))))))
+
+-- the stack words with the new frame of row r, which calls: "that sum with the new frame, for a tail call less the old one"; `sum`
+-- the words of all open functions, `last` those of the last, g the frame size of the function called
+unfoldable pub withFrame : ℕ → ℕ → ℕ → Row → ℕ
+withFrame sum last g r = ifEq (r .kind) 12 (sum - last + g) (sum + g)
+
+-- behind its operands
+unfoldable pub behindOperands : Width → ℕ → ℕ → ℕ → ℕ → Row → ℕ → ℕ → List Meeting
+behindOperands w top sum last g r x y =
+    ifTrue (isCall (r .kind) (r .expr)) (stacksTo (withFrame sum last g r) ∷ [])
+    (ifTrue (hasExpression (r .kind)) (operatorMeets w top (r .expr) x y)
+    (ifEq (r .kind) 8 (byteAt (byteAddress w x y) ∷ [])
+    (ifEq (r .kind) 9 (wordAt (wordAddress w x y) ∷ []) [])))
+
+-- the words it touches while it reads: the address of `set @`, then the operands
+unfoldable pub readsOf : Row → World → List Meeting
+readsOf r x =
+    ifEq (r .kind) 7 (wordAt (numberIn (x .stack) (x .machine .frame) (r .address)) ∷ []) []
+    ++ touched (x .stack) (x .machine .frame) (r .operands)
+
+-- all, in reading order
+unfoldable pub meetingsOf : Width → (ℕ → Row) → ℕ → ℕ → World → List Meeting
+meetingsOf w f sum last x =
+    readsOf (f (x .machine .next)) x
+    ++ behindOperands w (x .machine .top) sum last (f (f (x .machine .next) .callee) .a) (f (x .machine .next))
+    (wordOf w (x .stack) (x .machine .frame) (x .memory) (operandNo (f (x .machine .next) .operands) 0))
+    (wordOf w (x .stack) (x .machine .frame) (x .memory) (operandNo (f (x .machine .next) .operands) 1))
+
+-- the number of the first cause that the next statement meets
+unfoldable pub firstCause : Width → (ℕ → Row) → ℕ → ℕ → World → ℕ
+firstCause w f sum last x = firstOf w (length (x .memory)) (length (x .stack)) (meetingsOf w f sum last x)
+
+-- "a call's or tail call's arguments are read": the next statement calls, and nothing it reads is a cause
+unfoldable pub argumentsRead : Width → (ℕ → Row) → World → Bool
+argumentsRead w f x =
+    both (isCall (f (x .machine .next) .kind) (f (x .machine .next) .expr))
+    (eqb (firstOf w (length (x .memory)) (length (x .stack)) (readsOf (f (x .machine .next)) x)) 0)
+
+-- "and that sum with the new frame, for a tail call less the old one, passes the words lent"
+unfoldable pub passesStack : (ℕ → Row) → ℕ → ℕ → World → Bool
+passesStack f sum last x = ltb (length (x .stack)) (withFrame sum last (f (f (x .machine .next) .callee) .a) (f (x .machine .next)))

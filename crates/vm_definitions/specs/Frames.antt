@@ -1,0 +1,97 @@
+-- Frames on the stack: the words of a new one, and the way out of those that a return leaves.
+-- Assumes nothing.
+use Prim.Native.Nat.{ℕ, zero, suc, _+_, _-_, _^_}
+use mathlib.Core.Bool.{Bool, true, false}
+use mathlib.Core.List.{List, [], _∷_, _++_}
+use lib.Dec.{ltb, leb, eqb}
+use lib.ListN.{getD, length, replicate}
+use Rattle.base_prelude.specs.Choice.{ifTrue}
+use Rattle.base_limits.specs.Width.{bitsOf}
+use Rattle.base_limits.specs.declared.Width.{Width}
+use Rattle.prog_tables.specs.Layout.{frameHead, callExpression}
+use Rattle.prog_tables.specs.Tests.{both, oneOf}
+use Rattle.prog_tables.specs.Statement.{Row, hasExpression}
+use Rattle.prog_tables.specs.Faults.{inFunction, sizeAt}
+use Rattle.vm_definitions.specs.declared.Landing.{Landing}
+use Rattle.vm_definitions.specs.declared.Landing.the-variants.{Ends, Lands}
+
+-- "both 4294967295 for the first"
+unfoldable pub mark : Width → ℕ
+mark w = 2 ^ bitsOf w - 1
+
+-- "Frame words: place to return to, start of the caller's frame [..], auto top at entry, parameters, [..] Entering a function zeroes the words after
+-- the parameters"
+unfoldable pub frameWords : ℕ → ℕ → ℕ → List ℕ → ℕ → List ℕ
+frameWords call frame top xs size = call ∷ frame ∷ top ∷ xs ++ replicate (size - (frameHead + length xs)) 0
+
+-- ---- the words of a frame that starts at s
+
+abbrev pub returnsTo : List ℕ → ℕ → ℕ
+returnsTo st s = getD st s 0
+
+abbrev pub callerFrame : List ℕ → ℕ → ℕ
+callerFrame st s = getD st (s + 1) 0
+
+abbrev pub topAtEntry : List ℕ → ℕ → ℕ
+topAtEntry st s = getD st (s + 2) 0
+
+-- the first frame: "both 4294967295"
+unfoldable pub isFirst : Width → List ℕ → ℕ → Bool
+isFirst w st s = both (eqb s 0) (both (eqb (returnsTo st s) (mark w)) (eqb (callerFrame st s) (mark w)))
+
+-- ---- rows that call and return
+
+-- "`return call`"
+unfoldable pub isReturnCall : Row → Bool
+isReturnCall r = both (eqb (r .kind) 13) (eqb (r .expr) callExpression)
+
+-- "a `return` without `call`, or `end function`"
+unfoldable pub isReturn : Row → Bool
+isReturn r = oneOf (eqb (r .kind) 2) (both (eqb (r .kind) 13) (ifTrue (eqb (r .expr) callExpression) false true))
+
+-- "A call in any form": not the tail call, to which nothing returns
+unfoldable pub isCalling : Row → Bool
+isCalling r = oneOf (eqb (r .kind) 11) (both (hasExpression (r .kind)) (eqb (r .expr) callExpression))
+
+-- ---- the way out
+
+-- "a place to return to that is no call or a caller's frame that doesn't end where this one starts", turned round: f the view of c
+-- rows
+unfoldable pub calledFrom : (ℕ → Row) → ℕ → List ℕ → ℕ → Bool
+calledFrom f c st s =
+    both (ltb (returnsTo st s) c)
+    (both (inFunction f c (returnsTo st s))
+    (both (isCalling (f (returnsTo st s))) (eqb (callerFrame st s + sizeAt f c (returnsTo st s)) s)))
+
+-- "the first's two marks aside"
+unfoldable pub headGood : Width → (ℕ → Row) → ℕ → List ℕ → ℕ → Bool
+headGood w f c st s = oneOf (isFirst w st s) (calledFrom f c st s)
+
+-- a return goes on to leave the caller's frame too
+unfoldable pub passesOn : Width → (ℕ → Row) → ℕ → List ℕ → ℕ → Bool
+passesOn w f c st s = ifTrue (isFirst w st s) false (both (calledFrom f c st s) (isReturnCall (f (returnsTo st s))))
+
+-- the heads and auto tops of all frames that a return from the frame at s leaves are good; m bytes of memory, at most `fuel` frames
+unfoldable pub leavesGood : Width → (ℕ → Row) → ℕ → ℕ → List ℕ → ℕ → ℕ → Bool
+leavesGood w f c m st zero s = false
+leavesGood w f c m st (suc fuel) s =
+    both (headGood w f c st s)
+    (both (leb (topAtEntry st s) m)
+    (ifTrue (passesOn w f c st s) (leavesGood w f c m st fuel (callerFrame st s)) true))
+
+-- the rows that such a return uses: each place to return to, with its function
+unfoldable pub rowsLeft : Width → (ℕ → Row) → ℕ → List ℕ → ℕ → ℕ → List ℕ
+rowsLeft w f c st zero s = []
+rowsLeft w f c st (suc fuel) s =
+    ifTrue (isFirst w st s) []
+    (ifTrue (calledFrom f c st s)
+    (returnsTo st s ∷ f (returnsTo st s) .func ∷ ifTrue (isReturnCall (f (returnsTo st s))) (rowsLeft w f c st fuel (callerFrame st s)) [])
+    [])
+
+-- where it comes out: "`return call` returns it too"
+unfoldable pub landingOf : Width → (ℕ → Row) → ℕ → List ℕ → ℕ → ℕ → Landing
+landingOf w f c st zero s = Ends (topAtEntry st s)
+landingOf w f c st (suc fuel) s =
+    ifTrue (isFirst w st s) (Ends (topAtEntry st s))
+    (ifTrue (passesOn w f c st s) (landingOf w f c st fuel (callerFrame st s))
+    (Lands (returnsTo st s) (callerFrame st s) s (topAtEntry st s)))

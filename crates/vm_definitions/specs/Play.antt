@@ -1,0 +1,76 @@
+-- Any list of starts, steps and runs: "between calls the memory's bytes may become anything, its length stays".
+-- Assumes nothing.
+use Prim.Native.Nat.{ℕ, zero, suc}
+use mathlib.Core.List.{List, [], _∷_, _++_}
+use Rattle.base_prelude.specs.Choice.{ifEq}
+use Rattle.base_limits.specs.declared.Width.{Width}
+use Rattle.prog_tables.specs.Label.{Tables}
+use Rattle.vm_definitions.specs.Step.{World, After, stepOf, runOf}
+use Rattle.vm_definitions.specs.Start.{startOf, startLeaves, startedFunction}
+use Rattle.vm_definitions.specs.Ledger.{Event, started, counted}
+use Rattle.vm_definitions.specs.declared.Broken.{Broken}
+use Rattle.vm_definitions.specs.declared.Broken.the-variants.{No, At, Somewhere}
+use Rattle.vm_definitions.specs.declared.Started.{Started}
+use Rattle.vm_definitions.specs.declared.Started.the-variants.{Begun, Refused, Unsound}
+
+pub data Call : Type 0 where
+  -- of a name, with arguments
+  start : List ℕ → List ℕ → Call
+  step : Call
+  -- with a budget
+  run : ℕ → Call
+
+-- a call, and the memory it finds
+pub record Turn : Type 0 where
+  pub call : Call
+  pub memory : List ℕ
+
+-- what a call leaves: the world, the events it feeds to the ledger, its 35
+pub record Left : Type 0 where
+  pub world : World
+  pub events : List Event
+  pub broken : Broken
+
+-- the statements that a run counts
+unfoldable pub eventsOf : Width → Tables → ℕ → World → List Event
+eventsOf w t zero x = []
+eventsOf w t (suc b) x =
+    ifEq (stepOf w t x .count) 0 [] (counted (x .machine .next) ∷ eventsOf w t b (stepOf w t x .world))
+
+unfoldable pub startEvents : ℕ → Started → List Event
+startEvents g Begun = started g ∷ []
+startEvents g (Refused k) = []
+startEvents g (Unsound b) = []
+
+unfoldable pub startBroke : Started → Broken
+startBroke Begun = No
+startBroke (Refused k) = No
+startBroke (Unsound b) = b
+
+module _ (w : Width) (t : Tables) (bytes : List ℕ) where
+  unfoldable pub calledOn : Call → World → Left
+  calledOn (start name args) x =
+      record {
+        world = startLeaves w t bytes name args x;
+        events = startEvents (startedFunction w t bytes name args x) (startOf w t bytes name args x);
+        broken = startBroke (startOf w t bytes name args x);
+      }
+  calledOn step x = record { world = stepOf w t x .world; events = eventsOf w t 1 x; broken = stepOf w t x .broken }
+  calledOn (run b) x = record { world = runOf w t b x .world; events = eventsOf w t b x; broken = runOf w t b x .broken }
+
+  -- one turn
+  unfoldable pub turnOn : Turn → World → Left
+  turnOn c x = calledOn (c .call) (record { machine = x .machine; stack = x .stack; memory = c .memory })
+
+  -- after a list of turns: the world, all events, and the 35 of each call
+  unfoldable pub worldAfter : World → List Turn → World
+  worldAfter x [] = x
+  worldAfter x (c ∷ cs) = worldAfter (turnOn c x .world) cs
+
+  unfoldable pub eventsAfter : World → List Turn → List Event
+  eventsAfter x [] = []
+  eventsAfter x (c ∷ cs) = turnOn c x .events ++ eventsAfter (turnOn c x .world) cs
+
+  unfoldable pub refusalsAfter : World → List Turn → List Broken
+  refusalsAfter x [] = []
+  refusalsAfter x (c ∷ cs) = turnOn c x .broken ∷ refusalsAfter (turnOn c x .world) cs

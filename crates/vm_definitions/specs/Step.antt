@@ -1,0 +1,281 @@
+-- One step, and a run: "One statement is one step, operands left to right; a stopped statement changes only the record's state and is
+-- not counted."
+-- Assumes nothing.
+use Prim.Native.Nat.{ℕ, zero, suc, _+_, _*_, _%_}
+use mathlib.Core.Bool.{Bool, true, false}
+use mathlib.Core.List.{List, [], _∷_}
+use lib.Dec.{ltb, eqb}
+use lib.ListN.{getD, length, set, replicate}
+use Rattle.base_prelude.specs.Choice.{ifLt, ifEq, ifTrue}
+use Rattle.base_limits.specs.Width.{bytesOf}
+use Rattle.base_limits.specs.declared.Width.{Width}
+use Rattle.base_limits.specs.declared.State.{State}
+use Rattle.base_limits.specs.declared.State.the-variants.{Running, Finished, Stopped}
+use Rattle.base_limits.specs.declared.Machine.{Machine}
+use Rattle.base_word.specs.Bytes.{wordBytes}
+use Rattle.prog_tables.specs.Layout.{noExpression}
+use Rattle.prog_tables.specs.Tests.{both}
+use Rattle.prog_tables.specs.Statement.{Row, isTest}
+use Rattle.prog_tables.specs.Label.{Tables, rows}
+use Rattle.vm_definitions.specs.Access.{byteAddress, wordAddress, byteGood, wordGood, storeFrom}
+use Rattle.vm_definitions.specs.Operands.{Words, words, bad, numberIn, readOf, readAll, onRead}
+use Rattle.vm_definitions.specs.Expressions.{evalOf, operandNo, holds}
+use Rattle.vm_definitions.specs.Frames.{mark, frameWords, returnsTo, callerFrame, topAtEntry, isReturn, isCalling, landingOf}
+use Rattle.vm_definitions.specs.Broken.{stepBroken}
+use Rattle.vm_definitions.specs.declared.Worked.{Worked}
+use Rattle.vm_definitions.specs.declared.Worked.the-variants.{Value, Stop}
+use Rattle.vm_definitions.specs.declared.Landing.{Landing}
+use Rattle.vm_definitions.specs.declared.Landing.the-variants.{Ends, Lands}
+use Rattle.vm_definitions.specs.declared.Broken.{Broken}
+use Rattle.vm_definitions.specs.declared.Broken.the-variants.{No, At, Somewhere}
+
+-- the run record, the lent stack and the lent memory
+pub record World : Type 0 where
+  pub machine : Machine
+  pub stack : List ℕ
+  pub memory : List ℕ
+
+-- what a statement does: it stops with a number, or leaves a world
+pub data Effect : Type 0 where
+  stops : ℕ → Effect
+  leaves : World → Effect
+
+-- the number of a stop, 0 without one
+unfoldable pub stopOf : Effect → ℕ
+stopOf (stops k) = k
+stopOf (leaves y) = 0
+
+-- ---- the record
+
+-- going on at statement n with an auto top
+unfoldable pub goingOn : Machine → ℕ → ℕ → Machine
+goingOn r n top = record { state = r .state; next = n; frame = r .frame; used = r .used; top = top }
+
+-- in another frame
+unfoldable pub movedTo : Machine → ℕ → ℕ → ℕ → ℕ → Machine
+movedTo r n frame used top = record { state = r .state; next = n; frame = frame; used = used; top = top }
+
+-- finished with a word: no stack words in use, no statement, no frame
+unfoldable pub ended : Width → ℕ → ℕ → Machine
+ended w v top = record { state = Finished v; next = mark w; frame = mark w; used = 0; top = top }
+
+-- stopped at its statement
+unfoldable pub stopped : Machine → ℕ → Machine
+stopped r k = record { state = Stopped k (r .next); next = r .next; frame = r .frame; used = r .used; top = r .top }
+
+-- ---- statements: of a world x with the view f of c rows, the row being f (x .machine .next)
+
+module _ (w : Width) (f : ℕ → Row) (c : ℕ) (x : World) where
+  abbrev pub rowOf : Row
+  rowOf = f (x .machine .next)
+
+  abbrev pub frameOf : ℕ
+  frameOf = x .machine .frame
+
+  -- a statement that goes to n
+  unfoldable pub goesTo : ℕ → Effect
+  goesTo n = leaves (record { machine = goingOn (x .machine) n (x .machine .top); stack = x .stack; memory = x .memory })
+
+  -- one that stores words in its frame
+  unfoldable pub keeps : ℕ → ℕ → List ℕ → Effect
+  keeps top i vs =
+      leaves
+      (record {
+        machine = goingOn (x .machine) (suc (x .machine .next)) top;
+        stack = storeFrom (x .stack) (frameOf + i) vs;
+        memory = x .memory;
+      })
+
+  -- one that stores bytes in memory
+  unfoldable pub stores : ℕ → ℕ → List ℕ → Effect
+  stores top a bs =
+      leaves
+      (record {
+        machine = goingOn (x .machine) (suc (x .machine .next)) top;
+        stack = x .stack;
+        memory = storeFrom (x .memory) a bs;
+      })
+
+  -- "for an open block its saved auto top and its `let`s"; "entering a block zeroes its `let`s"
+  unfoldable pub blockOf : Effect
+  blockOf = keeps (x .machine .top) (rowOf .a) (x .machine .top ∷ replicate (rowOf .b) 0)
+
+  -- "`end block` restores the block's auto top"
+  unfoldable pub endBlockOf : Effect
+  endBlockOf = keeps (getD (x .stack) (frameOf + rowOf .a) 0) 0 []
+
+  -- "A true test goes on, a false one to" its target
+  unfoldable pub testOf : Effect
+  testOf =
+      onRead (readOf w (x .stack) frameOf (x .memory) (operandNo (rowOf .operands) 0)) (stops 32)
+      (λ a. onRead (readOf w (x .stack) frameOf (x .memory) (operandNo (rowOf .operands) 1)) (stops 32)
+      (λ b. goesTo (ifTrue (holds w (rowOf .kind) a b) (suc (x .machine .next)) (rowOf .a))))
+
+  -- the row's expression
+  unfoldable pub workedOf : Worked
+  workedOf = evalOf w (x .stack) frameOf (x .memory) (x .machine .top) (rowOf .expr) (rowOf .operands)
+
+  -- `let` and `set` of a local
+  unfoldable pub assigned : Worked → Effect
+  assigned (Value v top) = keeps top (rowOf .a) (v ∷ [])
+  assigned (Stop k) = stops k
+
+  -- the address of `set @`
+  abbrev pub addressOf : ℕ
+  addressOf = numberIn (x .stack) frameOf (rowOf .address)
+
+  unfoldable pub assignedAt : Worked → Effect
+  assignedAt (Value v top) = stores top addressOf (wordBytes (bytesOf w) v)
+  assignedAt (Stop k) = stops k
+
+  -- `set @`: its address is the leftmost operand
+  unfoldable pub setAtOf : Effect
+  setAtOf = ifTrue (wordGood w (length (x .memory)) addressOf) (assignedAt workedOf) (stops 32)
+
+  unfoldable pub setByteBy : Words → Effect
+  setByteBy (words vs) =
+      ifTrue (byteGood (length (x .memory)) (byteAddress w (getD vs 0 0) (getD vs 1 0)))
+      (stores (x .machine .top) (byteAddress w (getD vs 0 0) (getD vs 1 0)) (getD vs 2 0 % 256 ∷ []))
+      (stops 32)
+  setByteBy bad = stops 32
+
+  unfoldable pub setWordBy : Words → Effect
+  setWordBy (words vs) =
+      ifTrue (wordGood w (length (x .memory)) (wordAddress w (getD vs 0 0) (getD vs 1 0)))
+      (stores (x .machine .top) (wordAddress w (getD vs 0 0) (getD vs 1 0)) (wordBytes (bytesOf w) (getD vs 2 0)))
+      (stops 32)
+  setWordBy bad = stops 32
+
+  -- all operands of the row
+  unfoldable pub argumentsOf : Words
+  argumentsOf = readAll w (x .stack) frameOf (x .memory) (rowOf .operands)
+
+  -- ---- calls
+
+  -- the frame size of the function the row calls
+  abbrev pub calleeSize : ℕ
+  calleeSize = f (rowOf .callee) .a
+
+  -- "Arguments read, a new frame past the lent stack is stop 33"; "The place to return to is the calling statement"
+  unfoldable pub callBy : Words → Effect
+  callBy (words vs) =
+      ifLt (length (x .stack)) (x .machine .used + calleeSize) (stops 33)
+      (leaves
+      (record {
+        machine = movedTo (x .machine) (suc (rowOf .callee)) (x .machine .used) (x .machine .used + calleeSize) (x .machine .top);
+        stack = storeFrom (x .stack) (x .machine .used) (frameWords (x .machine .next) frameOf (x .machine .top) vs calleeSize);
+        memory = x .memory;
+      }))
+  callBy bad = stops 32
+
+  -- a call in any form: that of `set @` judges its address first
+  unfoldable pub callOf : Effect
+  callOf =
+      ifEq (rowOf .kind) 7 (ifTrue (wordGood w (length (x .memory)) addressOf) (callBy argumentsOf) (stops 32))
+      (callBy argumentsOf)
+
+  -- "`tail-call` reads all arguments, restores the auto top of entry and builds the new frame at the same start"
+  unfoldable pub tailCallBy : Words → Effect
+  tailCallBy (words vs) =
+      ifLt (length (x .stack)) (frameOf + calleeSize) (stops 33)
+      (leaves
+      (record {
+        machine = movedTo (x .machine) (suc (rowOf .callee)) frameOf (frameOf + calleeSize) (topAtEntry (x .stack) frameOf);
+        stack =
+            storeFrom (x .stack) frameOf
+            (frameWords (returnsTo (x .stack) frameOf) (callerFrame (x .stack) frameOf) (topAtEntry (x .stack) frameOf) vs calleeSize);
+        memory = x .memory;
+      }))
+  tailCallBy bad = stops 32
+
+  -- ---- returns
+
+  -- a value v handed to the call at row i, whose frame is at s: "a bare `call` drops it, `let` and `set` store it"
+  unfoldable pub handedTo : ℕ → Row → ℕ → Machine → Effect
+  handedTo v r s q =
+      ifEq (r .kind) 7
+      (ifTrue (wordGood w (length (x .memory)) (numberIn (x .stack) s (r .address)))
+      (leaves
+      (record {
+        machine = q;
+        stack = x .stack;
+        memory = storeFrom (x .memory) (numberIn (x .stack) s (r .address)) (wordBytes (bytesOf w) v);
+      }))
+      (stops 32))
+      (ifEq (r .kind) 11 (leaves (record { machine = q; stack = x .stack; memory = x .memory }))
+      (leaves (record { machine = q; stack = set (x .stack) (s + r .a) v; memory = x .memory })))
+
+  unfoldable pub handedBy : ℕ → Landing → Effect
+  handedBy v (Ends top) = leaves (record { machine = ended w v top; stack = x .stack; memory = x .memory })
+  handedBy v (Lands call s used top) = handedTo v (f call) s (movedTo (x .machine) (suc call) s used top)
+
+  -- "A return hands its value there in the same step"
+  unfoldable pub returned : Worked → Effect
+  returned (Value v top) = handedBy v (landingOf w f c (x .stack) (suc frameOf) frameOf)
+  returned (Stop k) = stops k
+
+  -- "Bare `return` and `end function` return 0."
+  unfoldable pub returnOf : Effect
+  returnOf = ifEq (rowOf .kind) 2 (returned (Value 0 0)) (ifEq (rowOf .expr) noExpression (returned (Value 0 0)) (returned workedOf))
+
+  -- ---- the statement
+
+  unfoldable pub effectOf : Effect
+  effectOf =
+      ifTrue (isCalling rowOf) callOf
+      (ifTrue (isReturn rowOf) returnOf
+      (ifTrue (isTest (rowOf .kind)) testOf
+      (ifEq (rowOf .kind) 3 blockOf
+      (ifEq (rowOf .kind) 4 endBlockOf
+      (ifEq (rowOf .kind) 5 (assigned workedOf)
+      (ifEq (rowOf .kind) 6 (assigned workedOf)
+      (ifEq (rowOf .kind) 7 setAtOf
+      (ifEq (rowOf .kind) 8 (setByteBy argumentsOf)
+      (ifEq (rowOf .kind) 9 (setWordBy argumentsOf)
+      (ifEq (rowOf .kind) 12 (tailCallBy argumentsOf)
+      (ifEq (rowOf .kind) 22 (goesTo (suc (x .machine .next)))
+      (goesTo (rowOf .a)))))))))))))
+
+-- ---- a step
+
+-- the world it leaves, the steps it counts, its 35
+pub record After : Type 0 where
+  pub world : World
+  pub count : ℕ
+  pub broken : Broken
+
+-- nothing happened
+unfoldable pub idle : World → Broken → After
+idle x b = record { world = x; count = 0; broken = b }
+
+unfoldable pub effected : World → Effect → After
+effected x (stops k) = record { world = record { machine = stopped (x .machine) k; stack = x .stack; memory = x .memory }; count = 0; broken = No }
+effected x (leaves y) = record { world = y; count = 1; broken = No }
+
+-- "A step refused so changes nothing."
+unfoldable pub gated : World → Effect → Broken → After
+gated x e No = effected x e
+gated x e (At i) = idle x (At i)
+gated x e Somewhere = idle x Somewhere
+
+-- "Stepping a finished or stopped record gives it back with count 0, before any 35."
+unfoldable pub inState : State → After → After → After
+inState Running y z = y
+inState (Finished v) y z = z
+inState (Stopped k i) y z = z
+
+unfoldable pub stepOf : Width → Tables → World → After
+stepOf w t x =
+    inState (x .machine .state)
+    (gated x (effectOf w (rows t) (t .count) x) (stepBroken w t (x .machine) (x .stack) (length (x .memory)))) (idle x No)
+
+-- ---- a run
+
+-- so many steps more
+unfoldable pub counting : ℕ → After → After
+counting n y = record { world = y .world; count = n + y .count; broken = y .broken }
+
+-- "A run steps until its count is the budget, the record has finished or stopped, or a 35 ends it with the count so far."
+unfoldable pub runOf : Width → Tables → ℕ → World → After
+runOf w t zero x = idle x No
+runOf w t (suc b) x = ifEq (stepOf w t x .count) 0 (stepOf w t x) (counting 1 (runOf w t b (stepOf w t x .world)))

@@ -1,0 +1,208 @@
+-- What a step that is not refused knows; and a good way out lands behind a call of the table, below the frame left.
+-- Assumes nothing.
+use mathlib.Core.Path.{_≡_, refl, sym}
+use mathlib.Core.Bool.{Bool, true, false, not}
+use mathlib.Core.List.{List, [], _∷_}
+use Prim.Native.Nat.{ℕ, zero, suc, _+_, _<_, _≤_}
+use native.Mathlib.Omega.{arith}
+use lib.ListN.{length, getD}
+use lib.Dec.{eqb, ltb, leb}
+use borrow.Author.Tests.{eqb-true, ltb-true, leb-true, lt-ltb}
+use Rattle.base_prelude.specs.Choice.{ifLt, ifTrue}
+use Rattle.base_prelude.proofs.Choice.{true-false}
+use Rattle.base_limits.specs.declared.Width.{Width}
+use Rattle.base_limits.specs.declared.Width.the-variants.{Bits32}
+use Rattle.base_limits.specs.declared.Machine.{Machine}
+use Rattle.prog_tables.specs.Tests.{both, oneOf, given, all, some}
+use Rattle.prog_tables.specs.Statement.{Row, hasExpression, isCall}
+use Rattle.prog_tables.specs.Label.{Tables, rows}
+use Rattle.prog_tables.specs.Nesting.{isListed}
+use Rattle.prog_tables.specs.Faults.{expressionListed, inFunction, sizeAt, kindFault, targetFault, calleeFault, rowFault, countFault}
+use Rattle.prog_tables.proofs.Each.{both-left, both-right, given-then, all-at}
+use Rattle.vm_definitions.specs.Frames.{returnsTo, callerFrame, topAtEntry, isFirst, isReturn, isCalling, calledFrom, headGood, passesOn, leavesGood, landingOf}
+use Rattle.vm_definitions.specs.Broken.{lower, lowest, orElse, frameEnds, rowsUsed, recordGood, stepBroken}
+use Rattle.vm_definitions.specs.declared.Landing.the-variants.{Ends, Lands}
+use Rattle.vm_definitions.specs.declared.Broken.{Broken}
+use Rattle.vm_definitions.specs.declared.Broken.the-variants.{No, At, Somewhere}
+use Rattle.vm_guard.specs.Gate.{rowBad, withinBroken}
+use Rattle.vm_guard.specs.Passed.{Passed}
+use Rattle.prog_tables.proofs.Each.{one-no, one-rest}
+
+-- refusal 35 of a step: the counts, then the rest
+pub step-broken : (w : Width) (t : Tables) (r : Machine) (st : List ℕ) (m : ℕ)
+    → stepBroken w t r st m ≡ ifTrue (countFault t) Somewhere (withinBroken w (rows t) (t .count) (t .dataLength) r st m)
+unfolding stepBroken withinBroken rowBad
+step-broken w t r st m = refl
+
+-- ---- tests
+
+one-second : (p q : Bool) → oneOf p q ≡ true → p ≡ false → q ≡ true
+one-second true q e d = true-false d
+one-second false q e d = e
+
+-- a fault with a condition that is met
+not-both : (p q : Bool) → both p (not q) ≡ false → p ≡ true → q ≡ true
+not-both true true e d = refl
+not-both true false e d = true-false e
+not-both false q e d = true-false (sym d)
+
+-- ---- the parts of the refusal
+
+broken-no : (x y : Broken) → orElse x y ≡ No → x ≡ No
+unfolding orElse
+broken-no No y e = refl
+broken-no (At i) y e = e
+broken-no Somewhere y e = e
+
+broken-then : (x y : Broken) → orElse x y ≡ No → y ≡ No
+unfolding orElse
+broken-then No y e = e
+broken-then (At i) y e = cc
+broken-then Somewhere y e = cc
+
+good-then : (b : Bool) → ifTrue b No Somewhere ≡ No → b ≡ true
+unfolding ifTrue
+good-then true e = refl
+good-then false e = cc
+
+lower-some : (i : ℕ) (b : Broken) (P : Type 0) → lower i b ≡ No → P
+unfolding lower
+lower-some i No P e = absurd (let z : _≡_ {A = ℕ} 0 1 = cc in omega arith)
+lower-some i (At j) P e = absurd (let z : _≡_ {A = ℕ} 0 1 = cc in omega arith)
+lower-some i Somewhere P e = absurd (let z : _≡_ {A = ℕ} 0 1 = cc in omega arith)
+
+-- no row is bad: the first is good
+first-good : (p : ℕ → Bool) (i : ℕ) (is : List ℕ) → lowest p (i ∷ is) ≡ No → p i ≡ false
+unfolding lowest ifTrue
+first-good p i is = by (p i)
+  where
+    by : (q : Bool) → ifTrue q (lower i (lowest p is)) (lowest p is) ≡ No → q ≡ false
+    by true e = lower-some i (lowest p is) (true ≡ false) e
+    by false e = refl
+
+module _ (f : ℕ → Row) (c d n : ℕ) (e : rowFault f c d n ≡ false) where
+  kind-good : kindFault f n ≡ false
+  unfolding rowFault some
+  kind-good = one-no (kindFault f n) _ e
+
+  callee-good : calleeFault f c n ≡ false
+  unfolding rowFault some
+  callee-good = one-no (calleeFault f c n) _ (one-rest (targetFault f c n) _ (one-rest (kindFault f n) _ e))
+
+  pub row-listed : hasExpression (f n .kind) ≡ true → expressionListed (f n .kind) (f n .expr) ≡ true
+  unfolding kindFault ifTrue
+  row-listed h = by (isListed (f n .kind)) kind-good
+    where
+      by : (q : Bool) → ifTrue q (both (hasExpression (f n .kind)) (not (expressionListed (f n .kind) (f n .expr)))) true ≡ false
+          → expressionListed (f n .kind) (f n .expr) ≡ true
+      by true g = not-both (hasExpression (f n .kind)) (expressionListed (f n .kind) (f n .expr)) g h
+      by false g = true-false g
+
+  pub row-callee : isCall (f n .kind) (f n .expr) ≡ true → f n .callee < c
+  unfolding calleeFault
+  row-callee h =
+      ltb-true _ _ (both-left (ltb (f n .callee) c) _ (not-both (isCall (f n .kind) (f n .expr)) (both (ltb (f n .callee) c) _) callee-good h))
+
+module _ (f : ℕ → Row) (c d : ℕ) (r : Machine) (st : List ℕ) (m : ℕ) (e : withinBroken Bits32 f c d r st m ≡ No) where
+  record-passed : recordGood Bits32 f c m r st ≡ true
+  unfolding withinBroken
+  record-passed = good-then (recordGood Bits32 f c m r st) (broken-then (lowest (rowBad f c d (r .next)) (rowsUsed Bits32 f c r st)) _ e)
+
+  rows-passed : lowest (rowBad f c d (r .next)) (rowsUsed Bits32 f c r st) ≡ No
+  unfolding withinBroken
+  rows-passed = broken-no _ _ e
+
+  next-within : r .next < c
+  unfolding recordGood all
+  next-within = ltb-true _ _ (both-left (ltb (r .next) c) _ record-passed)
+
+  row-passed : rowFault f c d (r .next) ≡ false
+  unfolding rowsUsed ifLt rowBad
+  row-passed = one-no (rowFault f c d (r .next)) _ (first-good (rowBad f c d (r .next)) (r .next) _ (rw (lt-ltb _ _ next-within) at rows-passed))
+
+  -- test k of the record
+  tested : (k : ℕ) → k < 9 → getD (
+      ltb (r .next) c
+      ∷ frameEnds f c r (length st)
+      ∷ leb (r .top) m
+      ∷ leb m 65536
+      ∷ leb (length st) 16384
+      ∷ headGood Bits32 f c st (r .frame)
+      ∷ given (eqb (f (r .next) .kind) 4) (leb (getD st (r .frame + f (r .next) .a) 0) m)
+      ∷ given (eqb (f (r .next) .kind) 12) (leb (topAtEntry st (r .frame)) m)
+      ∷ given (isReturn (f (r .next))) (leavesGood Bits32 f c m st (suc (r .frame)) (r .frame))
+      ∷ []) k true ≡ true
+  unfolding recordGood
+  tested k h = all-at _ k record-passed h
+
+  pub passed : Passed f c d r st m
+  passed =
+      record {
+        within = next-within;
+        row = row-passed;
+        callee = row-callee f c d (r .next) row-passed;
+        stack = leb-true _ _ (tested 4 (omega arith));
+        memory = leb-true _ _ (tested 3 (omega arith));
+        leaves = given-then (isReturn (f (r .next))) _ (tested 8 (omega arith));
+        listed = row-listed f c d (r .next) row-passed;
+      }
+
+-- ---- a good way out
+
+module _ (w : Width) (f : ℕ → Row) (c m : ℕ) (st : List ℕ) where
+  -- a called frame: the call is a row, the caller's frame does not start behind it
+  called-row : (s : ℕ) → calledFrom f c st s ≡ true → returnsTo st s < c
+  unfolding calledFrom
+  called-row s e = ltb-true _ _ (both-left (ltb (returnsTo st s) c) _ e)
+
+  called-below : (s : ℕ) → calledFrom f c st s ≡ true → callerFrame st s ≤ s
+  unfolding calledFrom
+  called-below s e =
+      let d = eqb-true (callerFrame st s + sizeAt f c (returnsTo st s)) s
+      (both-right (isCalling (f (returnsTo st s))) _ (both-right (inFunction f c (returnsTo st s)) _ (both-right (ltb (returnsTo st s) c) _ e))) in
+      omega arith
+
+  -- a frame with a good head is the first or was called
+  head-called : (s : ℕ) → headGood w f c st s ≡ true → isFirst w st s ≡ false → calledFrom f c st s ≡ true
+  unfolding headGood
+  head-called s e d = one-second (isFirst w st s) (calledFrom f c st s) e d
+
+  record Out (s i u : ℕ) : Type 0 where
+    low : i < c
+    below : u ≤ s
+
+  out : (fuel s i v u top : ℕ) → leavesGood w f c m st fuel s ≡ true → landingOf w f c st fuel s ≡ Lands i v u top → Out s i u
+  unfolding leavesGood landingOf ifTrue
+  out zero s i v u top e d = true-false (sym e)
+  out (suc fuel) s i v u top e d =
+      at (isFirst w st s) (passesOn w f c st s) refl (both-right (leb (topAtEntry st s) m) _ (both-right (headGood w f c st s) _ e)) d
+      (out fuel (callerFrame st s) i v u top)
+    where
+      called : isFirst w st s ≡ false → calledFrom f c st s ≡ true
+      called q = head-called s (both-left (headGood w f c st s) _ e) q
+
+      on : calledFrom f c st s ≡ true → Lands (returnsTo st s) (callerFrame st s) s (topAtEntry st s) ≡ Lands i v u top → Out s i u
+      on q g =
+          let a : returnsTo st s ≡ i = cc in
+          let b : s ≡ u = cc in
+          record { low = rw a at (called-row s q); below = omega arith }
+
+      further : calledFrom f c st s ≡ true → Out (callerFrame st s) i u → Out s i u
+      further q o = let h = called-below s q in record { low = o .low; below = omega (arith, o .below) }
+
+      at : (p q : Bool) → isFirst w st s ≡ p → ifTrue q (leavesGood w f c m st fuel (callerFrame st s)) true ≡ true
+          → ifTrue p (Ends (topAtEntry st s))
+          (ifTrue q (landingOf w f c st fuel (callerFrame st s)) (Lands (returnsTo st s) (callerFrame st s) s (topAtEntry st s))) ≡ Lands i v u top
+          → (leavesGood w f c m st fuel (callerFrame st s) ≡ true → landingOf w f c st fuel (callerFrame st s) ≡ Lands i v u top → Out (callerFrame st s) i u)
+          → Out s i u
+      at true q k a b go = absurd (let z : _≡_ {A = ℕ} 0 1 = cc in omega arith)
+      at false true k a b go = further (called k) (go a b)
+      at false false k a b go = on (called k) b
+
+  -- a good way out lands behind a call of the table
+  pub lands-low : (fuel s i v u top : ℕ) → leavesGood w f c m st fuel s ≡ true → landingOf w f c st fuel s ≡ Lands i v u top → i < c
+  lands-low fuel s i v u top e d = out fuel s i v u top e d .low
+
+  -- and at or below the frame left
+  pub lands-below : (fuel s i v u top : ℕ) → leavesGood w f c m st fuel s ≡ true → landingOf w f c st fuel s ≡ Lands i v u top → u ≤ s
+  lands-below fuel s i v u top e d = out fuel s i v u top e d .below

@@ -1,0 +1,70 @@
+use Rattle.vm_memory.proofs.Cases.{word-put}
+use lib.ListN.{length-set}
+use native.Mathlib.Omega.{arith}
+use mathlib.Core.Path.{_≡_, refl, sym, _∙_, ap, subst}
+use borrow.Author.Needs.{needs}
+use Rattle.vm_memory.proofs.put_word.Statement.{statement}
+use Rattle.vm_memory.proofs.put_word.Tie as tie
+use Rattle.vm_memory.proofs.put_word.Reads as reads
+use Rattle.vm_memory.proofs.put_word.Lts as lts
+
+cast-m : tie.Need-cast-m
+cast-m c = search needs
+
+slice-write-m : tie.Need-slice-write-m
+slice-write-m c = search needs
+
+cast-m-2 : tie.Need-cast-m-2
+cast-m-2 c = search needs
+
+add-m : tie.Need-add-m
+add-m c = search needs
+
+slice-write-m-2 : tie.Need-slice-write-m-2
+slice-write-m-2 c =
+    simp length-set (omega arith)
+
+cast-m-3 : tie.Need-cast-m-3
+cast-m-3 c = search needs
+
+add-m-2 : tie.Need-add-m-2
+add-m-2 c = search needs
+
+slice-write-m-3 : tie.Need-slice-write-m-3
+slice-write-m-3 c =
+    simp length-set (omega arith)
+
+cast-m-4 : tie.Need-cast-m-4
+cast-m-4 c = search needs
+
+add-m-3 : tie.Need-add-m-3
+add-m-3 c = search needs
+
+slice-write-m-4 : tie.Need-slice-write-m-4
+slice-write-m-4 c =
+    simp length-set (omega arith)
+
+same-length : tie.Need-same-length
+same-length c = search needs
+
+returns : tie.Need-returns
+returns c =
+    search word-put
+
+pub put-word-spec : {M : Type 1} → statement M
+put-word-spec =
+    tie.close
+    (tie.spec
+    cast-m
+    slice-write-m
+    cast-m-2
+    add-m
+    slice-write-m-2
+    cast-m-3
+    add-m-2
+    slice-write-m-3
+    cast-m-4
+    add-m-3
+    slice-write-m-4
+    same-length
+    returns)

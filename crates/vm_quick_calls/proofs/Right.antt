@@ -1,0 +1,533 @@
+-- A call or a return that is taken is not refused, and has the effect that the machine's definitions give it.
+-- Assumes nothing.
+use mathlib.Core.Path.{_≡_, refl, sym, _∙_, ap, subst}
+use mathlib.Core.Bool.{Bool, true, false, not}
+use mathlib.Core.List.{List, [], _∷_}
+use Prim.Native.Nat.{ℕ, zero, suc, _+_, _-_, _*_, _^_, _<_, _≤_}
+use native.Mathlib.Omega.{arith}
+use lib.ListN.{length, getD, set, take, drop, length-set}
+use lib.Dec.{eqb, ltb, leb}
+use borrow.Author.Tests.{eq-eqb, ne-eqb, lt-ltb, le-ltb, le-leb, lt-leb, eqb-true, ltb-true}
+use Rattle.base_prelude.specs.Choice.{ifLt, ifEq, ifTrue}
+use Rattle.base_prelude.proofs.Choice.{true-false, either, either-eq, either-true}
+use Rattle.base_limits.specs.declared.Width.the-variants.{Bits32}
+use Rattle.base_limits.specs.declared.Machine.{Machine}
+use Rattle.prog_tables.specs.Tests.{both, oneOf, given, someOf}
+use Rattle.prog_tables.specs.Statement.{Row, hasExpression, isTest, isOperator, isCall, expressionUses, usedBy, operandAt, slots, rowFrom, rowAt}
+use Rattle.prog_tables.specs.Nesting.{isListed, hasTarget}
+use Rattle.prog_tables.specs.Faults.{expressionListed, inFunction, sizeAt, operandFault, kindFault, targetFault, calleeFault, sizeFault, ownWord, hasWord, wordFault, operandsFault, addressFault, rowFault}
+use Rattle.prog_tables.specs.declared.Operand.{Operand}
+use Rattle.vm_definitions.specs.Access.{storeFrom}
+use Rattle.vm_definitions.specs.Operands as machine
+use Rattle.vm_definitions.specs.Operands.{Words, bad, withWord, readAll, onRead}
+use Rattle.vm_definitions.specs.Expressions.{evalOf}
+use Rattle.vm_definitions.specs.Frames.{mark, frameWords, isFirst, isReturnCall, isReturn, isCalling, calledFrom, headGood, passesOn, leavesGood, rowsLeft, landingOf}
+use Rattle.vm_definitions.specs.Step.{Effect, leaves, movedTo, argumentsOf, callBy, callOf, tailCallBy, handedTo, handedBy, returned, returnOf, workedOf, effectOf}
+use Rattle.vm_definitions.specs.Lent.{world}
+use Rattle.vm_definitions.specs.declared.Landing.the-variants.{Lands}
+use Rattle.vm_definitions.specs.declared.Broken.the-variants.{No}
+use Rattle.vm_definitions.specs.declared.Read.{Read}
+use Rattle.vm_definitions.specs.declared.Read.the-variants.{Got, Bad}
+use Rattle.vm_definitions.specs.declared.Worked.{Worked}
+use Rattle.vm_definitions.specs.declared.Worked.the-variants.{Value, Stop}
+use Rattle.vm_definitions.proofs.Stores.{store-length}
+use Rattle.vm_guard.specs.Gate.{withinBroken}
+use Rattle.vm_quick_operands.specs.Fast.{goodRead, readEach, goodWork, sizeOf}
+use Rattle.vm_quick_operands.proofs.Good.{good-read, Valued, good-work, stop-value, no-fault, Function, function-good, row-within, row-size, size-function}
+use Rattle.vm_quick_operands.proofs.Reading.{next-slot, no-slots}
+use Rattle.vm_quick_statements.proofs.Right.{Held}
+use Rattle.vm_quick_statements.proofs.Unbroken.{frame-fine, record-fine, call-fine, return-fine}
+use Rattle.vm_quick_calls.specs.declared.Turn.{Turn}
+use Rattle.vm_quick_calls.specs.declared.Turn.the-variants.{To, Stays}
+use Rattle.vm_quick_calls.specs.Turns.{Turned, turned, goodFrom, calleeSize, callsLocal, callsAny, callGood, goodAll, pushed, enteredBy, entered, callTurn, tailTurn, resultOf, landed, handTo, handTurn, returnBy, returnTurn, turnOf}
+use Rattle.prog_tables.proofs.Each.{both-false}
+
+-- ---- operands
+
+module _ (t : List ℕ) (at size d : ℕ) where
+  from-good : (left i k : ℕ) → i + left ≡ k → k ≤ 8 → goodFrom t at size d left i ≡ true → someOf (operandFault size d) (drop i (take k (slots t at))) ≡ false
+  unfolding goodFrom someOf
+  from-good zero i k e l q = rw (no-slots t at k i (omega (arith, e)) l)
+  from-good (suc left) i k e l q =
+      either-true (λ (b : Bool). b ≡ true → someOf (operandFault size d) (drop i (take k (slots t at))) ≡ false) (operandFault size d (operandAt t (at + 11 + i * 2))) false
+      (goodFrom t at size d left (suc i)) (λ z y. true-false (sym y))
+      (λ z y. rw (next-slot t at k i (omega (arith, e)) l, z) (from-good left (suc i) k (omega (arith, e)) l y)) q
+
+bad-words : {P : Type 0} (vs : List ℕ) → bad ≡ machine.words vs → P
+bad-words vs e = absurd (let z : _≡_ {A = ℕ} 0 1 = cc in omega arith)
+
+module _ (size d : ℕ) (st : List ℕ) (s : ℕ) (m : List ℕ) where
+  -- operands that are all good and read
+  record Each (os : List Operand) (vs : List ℕ) : Type 0 where
+    good : someOf (operandFault size d) os ≡ false
+    all : readAll Bits32 st s m os ≡ machine.words vs
+
+  each-good : (os : List Operand) (vs : List ℕ) → goodAll size d st s m os ≡ machine.words vs → Each os vs
+  unfolding readEach readAll someOf onRead withWord
+  each-good [] vs e = record { good = refl; all = e }
+  each-good (o ∷ os) vs e = by (goodRead size d st s m o) (readEach (goodRead size d st s m) os) (each-good os) refl refl e
+    where
+      by : (x : Read) (w : Words) → ((ws : List ℕ) → goodAll size d st s m os ≡ machine.words ws → Each os ws) → goodRead size d st s m o ≡ x → readEach (goodRead size d st s m) os ≡ w → onRead x bad (λ v. withWord v w) ≡ machine.words vs → Each (o ∷ os) vs
+      by Bad w go a b q = bad-words vs q
+      by (Got v) bad go a b q = bad-words vs q
+      by (Got v) (machine.words ws) go a b q =
+          let x = good-read size d st s m o v a in
+          let i = go ws b in
+          record { good = rw (x .good, i .good); all = rw (x .word, i .all) q }
+
+-- ---- callees
+
+record Callee (f : ℕ → Row) (c p k z : ℕ) : Type 0 where
+  parameters : f p .b ≡ k
+  function : Function f c p z
+
+callee-good : (f : ℕ → Row) (c p k z : ℕ) → (z ≡ 0 → ⊥) → calleeSize f c p k ≡ z → Callee f c p k z
+unfolding calleeSize
+callee-good f c p k z n =
+    either-eq (λ (x : ℕ). x ≡ z → Callee f c p k z) (f p .b) k (sizeOf f c p) 0 (λ q e. record { parameters = q; function = size-function f c p z n e })
+    (λ q e. absurd (n (sym e)))
+
+-- ---- rows that call
+
+module _ (t : List ℕ) (c d n size : ℕ) (sized : sizeAt (rowAt t) c n ≡ size) where
+  abbrev row : Row
+  row = rowAt t n
+
+  record CallRow : Type 0 where
+    kinds : kindFault (rowAt t) n ≡ false
+    targets : targetFault (rowAt t) c n ≡ false
+    sizes : sizeFault (rowAt t) n ≡ false
+    words : wordFault (rowAt t) c n ≡ false
+    address : addressFault (rowAt t) c d n ≡ false
+    calls : isCall (row .kind) (row .expr) ≡ true
+    used : usedBy (row .kind) (row .expr) (row .count) ≡ row .count
+    line : eqb (row .kind) 1 ≡ false
+    block : eqb (row .kind) 4 ≡ false
+    at : eqb (row .kind) 7 ≡ false
+    returns : isReturn row ≡ false
+
+  -- one to which a value is handed back
+  record Calling : Type 0 where
+    call : CallRow
+    calling : isCalling row ≡ true
+    tail : eqb (row .kind) 12 ≡ false
+
+  row-11 : row .kind ≡ 11 → Calling
+  unfolding kindFault targetFault hasTarget sizeFault wordFault addressFault isListed hasExpression isTest isCall isReturn isCalling hasWord usedBy ifLt ifEq ifTrue
+  row-11 q =
+      record {
+        call =
+            record {
+              kinds = rw q;
+              targets = rw q;
+              sizes = rw q;
+              words = rw q;
+              address = rw q;
+              calls = rw q;
+              used = rw q;
+              line = rw q;
+              block = rw q;
+              at = rw q;
+              returns = rw q;
+            };
+        calling = rw q;
+        tail = rw q;
+      }
+
+  row-5 : row .kind ≡ 5 → row .expr ≡ 2 → row .a < size → Calling
+  unfolding kindFault targetFault hasTarget sizeFault wordFault addressFault isListed hasExpression expressionListed expressionUses isTest isCall isReturn isCalling hasWord ownWord usedBy ifLt ifEq ifTrue
+  row-5 q e l =
+      record {
+        call =
+            record {
+              kinds = rw (q, e);
+              targets = rw q;
+              sizes = rw q;
+              words = rw (q, sized) (lt-leb size (row .a) l);
+              address = rw q;
+              calls = rw (q, e);
+              used = rw (q, e);
+              line = rw q;
+              block = rw q;
+              at = rw q;
+              returns = rw q;
+            };
+        calling = rw (q, e);
+        tail = rw q;
+      }
+
+  row-6 : row .kind ≡ 6 → row .expr ≡ 2 → row .a < size → Calling
+  unfolding kindFault targetFault hasTarget sizeFault wordFault addressFault isListed hasExpression expressionListed expressionUses isTest isCall isReturn isCalling hasWord ownWord usedBy ifLt ifEq ifTrue
+  row-6 q e l =
+      record {
+        call =
+            record {
+              kinds = rw (q, e);
+              targets = rw q;
+              sizes = rw q;
+              words = rw (q, sized) (lt-leb size (row .a) l);
+              address = rw q;
+              calls = rw (q, e);
+              used = rw (q, e);
+              line = rw q;
+              block = rw q;
+              at = rw q;
+              returns = rw q;
+            };
+        calling = rw (q, e);
+        tail = rw q;
+      }
+
+  row-13 : row .kind ≡ 13 → row .expr ≡ 2 → Calling
+  unfolding kindFault targetFault hasTarget sizeFault wordFault addressFault isListed hasExpression expressionListed expressionUses isTest isCall isReturn isCalling hasWord ownWord usedBy ifLt ifEq ifTrue
+  row-13 q e =
+      record {
+        call =
+            record {
+              kinds = rw (q, e);
+              targets = rw q;
+              sizes = rw q;
+              words = rw q;
+              address = rw q;
+              calls = rw (q, e);
+              used = rw (q, e);
+              line = rw q;
+              block = rw q;
+              at = rw q;
+              returns = rw (q, e);
+            };
+        calling = rw (q, e);
+        tail = rw q;
+      }
+
+  row-12 : row .kind ≡ 12 → CallRow
+  unfolding kindFault targetFault hasTarget sizeFault wordFault addressFault isListed hasExpression isTest isCall isReturn isCalling hasWord usedBy ifLt ifEq ifTrue
+  row-12 q =
+      record {
+        kinds = rw q;
+        targets = rw q;
+        sizes = rw q;
+        words = rw q;
+        address = rw q;
+        calls = rw q;
+        used = rw q;
+        line = rw q;
+        block = rw q;
+        at = rw q;
+        returns = rw q;
+      }
+
+  -- a row to which a value is handed in its own frame
+  record LocalRow : Type 0 where
+    call : Calling
+    stays : eqb (row .kind) 13 ≡ false
+
+  local-row : callsLocal (rowAt t) size n ≡ true → LocalRow
+  unfolding callsLocal
+  local-row =
+      either-eq (λ (b : Bool). b ≡ true → LocalRow) (row .kind) 11 true _ (λ q e. record { call = row-11 q; stays = rw q })
+      (λ n11. either-eq (λ (b : Bool). b ≡ true → LocalRow) (row .expr) 2 _ false
+      (λ x. either-eq (λ (b : Bool). b ≡ true → LocalRow) (row .kind) 5 (ltb (row .a) size) _
+      (λ q e. record { call = row-5 q x (ltb-true (row .a) size e); stays = rw q })
+      (λ n5. either-eq (λ (b : Bool). b ≡ true → LocalRow) (row .kind) 6 (ltb (row .a) size) false
+      (λ q e. record { call = row-6 q x (ltb-true (row .a) size e); stays = rw q })
+      (λ n6 e. true-false (sym e))))
+      (λ x e. true-false (sym e)))
+
+  any-row : callsAny (rowAt t) size n ≡ true → Calling
+  unfolding callsAny
+  any-row =
+      either-eq (λ (b : Bool). b ≡ true → Calling) (row .kind) 13 (eqb (row .expr) 2) (callsLocal (rowAt t) size n) (λ q e. row-13 q (eqb-true (row .expr) 2 e))
+      (λ q e. local-row e .call)
+
+  operands-are : CallRow → row .operands ≡ take (row .count) (slots t (n * 27))
+  unfolding rowAt rowFrom
+  operands-are x = ap (λ (k : ℕ). take k (slots t (n * 27))) (x .used)
+
+  call-good : (z : ℕ) → CallRow → row .count ≤ 8 → Callee (rowAt t) c (row .callee) (row .count) z → someOf (operandFault size d) (take (row .count) (slots t (n * 27))) ≡ false
+      → rowFault (rowAt t) c d n ≡ false
+  unfolding calleeFault operandsFault
+  call-good z x l e o =
+      no-fault (rowAt t) c d n (x .kinds) (x .targets)
+      (rw (x .calls, lt-ltb _ _ (e .function .below), e .function .kind, eq-eqb _ _ (e .parameters), le-leb _ _ l))
+      (x .sizes) (x .words) (rw (operands-are x, sized) o) (x .address)
+
+-- row p, to which a value is handed, is good
+record Handed (t : List ℕ) (c d size p : ℕ) : Type 0 where
+  good : rowFault (rowAt t) c d p ≡ false
+  calling : isCalling (rowAt t p) ≡ true
+  at : eqb (rowAt t p .kind) 7 ≡ false
+  stays : eqb (rowAt t p .kind) 13 ≡ false
+
+handed : (t : List ℕ) (c d size p : ℕ) → sizeAt (rowAt t) c p ≡ size → callGood t c d size p ≡ true → Handed t c d size p
+unfolding callGood
+handed t c d size p sized =
+    either (λ (b : Bool). b ≡ true → Handed t c d size p) 8 (rowAt t p .count) false _ (λ l e. true-false (sym e))
+    (λ l. either-eq (λ (b : Bool). b ≡ true → Handed t c d size p) (calleeSize (rowAt t) c (rowAt t p .callee) (rowAt t p .count)) 0 false _ (λ q e. true-false (sym e))
+    (λ q. either-true (λ (b : Bool). b ≡ true → Handed t c d size p) (callsLocal (rowAt t) size p) (goodFrom t (p * 27) size d (rowAt t p .count) 0) false
+    (λ y e. made l q (local-row t c d p size sized y) e) (λ y e. true-false (sym e))))
+  where
+    made : rowAt t p .count ≤ 8 → (calleeSize (rowAt t) c (rowAt t p .callee) (rowAt t p .count) ≡ 0 → ⊥) → LocalRow t c d p size sized
+        → goodFrom t (p * 27) size d (rowAt t p .count) 0 ≡ true → Handed t c d size p
+    made l q x e =
+        record {
+          good =
+              call-good t c d p size sized _ (x .call .call) l (callee-good (rowAt t) c (rowAt t p .callee) (rowAt t p .count) _ q refl)
+              (from-good t (p * 27) size d (rowAt t p .count) 0 (rowAt t p .count) (omega arith) l e);
+          calling = x .call .calling;
+          at = x .call .call .at;
+          stays = x .stays;
+        }
+
+-- ---- the turn
+
+module _ (t : List ℕ) (c g d size : ℕ) (r : Machine) (st m : List ℕ) where
+  abbrev n : ℕ
+  n = r .next
+
+  abbrev s : ℕ
+  s = r .frame
+
+  abbrev here : Row
+  here = rowAt t (r .next)
+
+  -- the statement went on at statement i in another frame
+  pub record Moved (i frame used end : ℕ) (st′ : List ℕ) : Type 0 where
+    pub fine : withinBroken Bits32 (rowAt t) c d r st (length m) ≡ No
+    pub effect : effectOf Bits32 (rowAt t) c (world r st m) ≡ leaves (world (movedTo r i frame used end) st′ m)
+    pub stack : length st′ ≡ length st
+
+  unfoldable pub RightBy : Turn → List ℕ → Type 0
+  RightBy (To i frame used end) st′ = Moved i frame used end st′
+  RightBy Stays st′ = st′ ≡ st
+
+  abbrev pub Right : Turned → Type 0
+  Right x = RightBy (x .move) (x .stack)
+
+  same : Right (turned Stays st)
+  unfolding RightBy
+  same = refl
+
+  module _ (h : Held t c g size r st m) (below : r .next < c) (own : rowAt t (r .next) .func ≡ g) where
+    sized : sizeAt (rowAt t) c n ≡ size
+    sized = row-size t c g size (h .function) n own
+
+    -- ---- calls
+
+    went-call : Calling t c d n size sized → here .count ≤ 8 → (z : ℕ) → Callee (rowAt t) c (here .callee) (here .count) z → (vs : List ℕ)
+        → Each size d st s m (take (here .count) (slots t (n * 27))) vs → r .used + z ≤ length st
+        → Moved (suc (here .callee)) (r .used) (r .used + z) (r .top) (storeFrom st (r .used) (frameWords n s (r .top) vs z))
+    unfolding effectOf callOf callBy argumentsOf ifTrue ifEq ifLt
+    went-call w l z e vs o b =
+        let x = w .call in
+        record {
+          fine =
+              call-fine t c g d size r st m h below own (x .line) (call-good t c d n size sized z x l e (o .good)) (x .calls) (e .function .below)
+              (function-good t c (here .callee) z (e .function) d) (x .returns)
+              (record-fine t c g d size r st m h below own (rw (x .block)) (rw (w .tail)) (rw (x .returns)));
+          effect = rw (w .calling, x .at, operands-are t c d n size sized x, o .all, e .function .words, le-ltb _ _ b);
+          stack = store-length st (r .used) _;
+        }
+
+    went-tail : here .kind ≡ 12 → getD st (s + 2) 0 ≤ length m → here .count ≤ 8 → (z : ℕ) → Callee (rowAt t) c (here .callee) (here .count) z → (vs : List ℕ)
+        → Each size d st s m (take (here .count) (slots t (n * 27))) vs → s + z ≤ length st
+        → Moved (suc (here .callee)) s (s + z) (getD st (s + 2) 0) (storeFrom st s (frameWords (getD st s 0) (getD st (s + 1) 0) (getD st (s + 2) 0) vs z))
+    unfolding effectOf tailCallBy argumentsOf isCalling isReturn isTest hasExpression ifTrue ifEq ifLt
+    went-tail q k l z e vs o b =
+        let x = row-12 t c d n size sized q in
+        record {
+          fine =
+              call-fine t c g d size r st m h below own (x .line) (call-good t c d n size sized z x l e (o .good)) (x .calls) (e .function .below)
+              (function-good t c (here .callee) z (e .function) d) (x .returns)
+              (record-fine t c g d size r st m h below own (rw (x .block)) (rw (q, le-leb _ _ k)) (rw (x .returns)));
+          effect = rw (operands-are t c d n size sized x, q, o .all, e .function .words, le-ltb _ _ b);
+          stack = store-length st s _;
+        }
+
+    -- a call whose new frame starts at a place
+    module _ (at call under top : ℕ)
+        (go : here .count ≤ 8 → (z : ℕ) → Callee (rowAt t) c (here .callee) (here .count) z → (vs : List ℕ) → Each size d st s m (take (here .count) (slots t (n * 27))) vs
+        → at + z ≤ length st → Moved (suc (here .callee)) at (at + z) top (storeFrom st at (frameWords call under top vs z))) where
+      right-entered : here .count ≤ 8 → (z : ℕ) → Callee (rowAt t) c (here .callee) (here .count) z
+          → Right (entered t d size st s m n at call under top (here .callee) (here .count) z)
+      unfolding entered enteredBy pushed RightBy
+      right-entered l z e =
+          either Right (length st) (at + z) (turned Stays st) _ (λ b. same) (λ b. by b (goodAll size d st s m (take (here .count) (slots t (n * 27)))) refl)
+        where
+          by : at + z ≤ length st → (w : Words) → goodAll size d st s m (take (here .count) (slots t (n * 27))) ≡ w
+              → Right (enteredBy t d size st s m n at call under top (here .callee) (here .count) z w)
+          by b (machine.words vs) q = go l z e vs (each-good size d st s m (take (here .count) (slots t (n * 27))) vs q) b
+          by b bad q = same
+
+      right-call : Right (callTurn t c d size st s m n at call under top)
+      unfolding callTurn
+      right-call =
+          either Right 8 (here .count) (turned Stays st) _ (λ l. same)
+          (λ l. either Right (here .callee) c _ (turned Stays st)
+          (λ p. either-eq Right (calleeSize (rowAt t) c (here .callee) (here .count)) 0 (turned Stays st) _ (λ q. same)
+          (λ q. right-entered l _ (callee-good (rowAt t) c (here .callee) (here .count) _ q refl)))
+          (λ p. same))
+
+    right-tail : here .kind ≡ 12 → Right (tailTurn t c d size st s m n)
+    unfolding tailTurn
+    right-tail q =
+        either Right (length m) (getD st (s + 2) 0) (turned Stays st) _ (λ l. same)
+        (λ l. right-call s (getD st s 0) (getD st (s + 1) 0) (getD st (s + 2) 0) (went-tail q l))
+
+    -- ---- returns
+
+    -- the statement returns this value
+    record Gives (v : ℕ) : Type 0 where
+      good : rowFault (rowAt t) c d n ≡ false
+      line : eqb (here .kind) 1 ≡ false
+      block : eqb (here .kind) 4 ≡ false
+      tail : eqb (here .kind) 12 ≡ false
+      calls : isCall (here .kind) (here .expr) ≡ false
+      returns : isReturn here ≡ true
+      effect : effectOf Bits32 (rowAt t) c (world r st m) ≡ handedBy Bits32 (rowAt t) c (world r st m) v (landingOf Bits32 (rowAt t) c st (suc s) s)
+
+    used : here .operands ≡ take (usedBy (here .kind) (here .expr) (here .count)) (slots t (n * 27))
+    unfolding rowAt rowFrom
+    used = refl
+
+    gives-end : here .kind ≡ 2 → Gives 0
+    unfolding kindFault targetFault hasTarget calleeFault sizeFault wordFault operandsFault addressFault isListed hasExpression isTest isCall isReturn isCalling hasWord usedBy ifLt ifEq ifTrue someOf
+        effectOf returnOf returned
+    gives-end q =
+        record {
+          good = no-fault (rowAt t) c d n (rw q) (rw q) (rw q) (rw q) (rw q) (rw (used, q)) (rw q);
+          line = rw q;
+          block = rw q;
+          tail = rw q;
+          calls = rw q;
+          returns = rw q;
+          effect = rw q;
+        }
+
+    gives-bare : here .kind ≡ 13 → here .expr ≡ 0 → Gives 0
+    unfolding kindFault targetFault hasTarget calleeFault sizeFault wordFault operandsFault addressFault isListed hasExpression expressionListed expressionUses isOperator isTest isCall isReturn isCalling hasWord
+        usedBy ifLt ifEq ifTrue someOf effectOf returnOf returned
+    gives-bare q e =
+        record {
+          good = no-fault (rowAt t) c d n (rw (q, e)) (rw q) (rw (q, e)) (rw q) (rw q) (rw (used, q, e)) (rw q);
+          line = rw q;
+          block = rw q;
+          tail = rw q;
+          calls = rw (q, e);
+          returns = rw (q, e);
+          effect = rw (q, e);
+        }
+
+    gives-value : (v end : ℕ) → here .kind ≡ 13 → (here .expr ≡ 0 → ⊥) → ((k : ℕ) → expressionListed k (here .expr) ≡ true) → eqb (here .expr) 2 ≡ false
+        → someOf (operandFault size d) (take (expressionUses (here .expr) (here .count)) (slots t (n * 27))) ≡ false
+        → evalOf Bits32 st s m (r .top) (here .expr) (take (expressionUses (here .expr) (here .count)) (slots t (n * 27))) ≡ Value v end → Gives v
+    unfolding kindFault targetFault hasTarget calleeFault sizeFault wordFault operandsFault addressFault isListed hasExpression isTest isCall isReturn isCalling hasWord usedBy ifLt ifEq ifTrue someOf
+        effectOf returnOf returned workedOf
+    gives-value v end q e l b o w =
+        record {
+          good = no-fault (rowAt t) c d n (rw (q, l 13)) (rw q) (rw (q, b)) (rw q) (rw q) (rw (used, q, sized) o) (rw q);
+          line = rw q;
+          block = rw q;
+          tail = rw q;
+          calls = rw (q, b);
+          returns = rw (q, b);
+          effect = rw (used, q, b, ne-eqb _ _ e, w);
+        }
+
+    valued : (v end : ℕ) → here .kind ≡ 13 → (here .expr ≡ 0 → ⊥) → Valued t (n * 27) size d st s m (r .top) v end → Gives v
+    unfolding rowAt rowFrom
+    valued v end q e x = gives-value v end q e (x .listed) (x .bare) (x .operands (here .count)) (x .worked (here .count))
+
+    gives : (v end : ℕ) → resultOf t d size st s m n (r .top) ≡ Value v end → Gives v
+    unfolding resultOf
+    gives v end =
+        either-eq (λ (w : Worked). w ≡ Value v end → Gives v) (here .kind) 2 (Value 0 0) _ (λ q e. zero-value v end e (gives-end q))
+        (λ n2. either-eq (λ (w : Worked). w ≡ Value v end → Gives v) (here .kind) 13 _ (Stop 0)
+        (λ q. either-eq (λ (w : Worked). w ≡ Value v end → Gives v) (here .expr) 0 (Value 0 0) (goodWork t (n * 27) size d st s m (r .top))
+        (λ x e. zero-value v end e (gives-bare q x)) (λ x e. valued v end q x (good-work t (n * 27) size d st s m (r .top) v end e)))
+        (λ q. stop-value 0 v end))
+      where
+        zero-value : (v end : ℕ) → Value 0 0 ≡ Value v end → Gives 0 → Gives v
+        zero-value v end e x = let z : 0 ≡ v = cc in subst Gives z x
+
+    -- the call at row p in the frame behind
+    module _ (small : c < 4294967296) (v p caller back z : ℕ) (low : p < c) (ep : getD st s 0 ≡ p) (ec : getD st (s + 1) 0 ≡ caller) (eb : getD st (s + 2) 0 ≡ back)
+        (function : Function (rowAt t) c (rowAt t p .func) z) (fits : back ≤ length m) (meets : caller + z ≡ s) (x : Handed t c d z p) (y : Gives v) where
+      not-first : isFirst Bits32 st s ≡ false
+      unfolding isFirst mark
+      not-first = rw (ep, ne-eqb p 4294967295 (λ e. omega (arith, low, small, e))) (both-false (eqb s 0))
+
+      called : calledFrom (rowAt t) c st s ≡ true
+      unfolding calledFrom
+      called =
+          rw (ep, ec, lt-ltb p c low, row-within t c (rowAt t p .func) z function p refl, x .calling, row-size t c (rowAt t p .func) z function p refl, eq-eqb (caller + z) s meets)
+
+      not-passed : isReturnCall (rowAt t p) ≡ false
+      unfolding isReturnCall
+      not-passed = rw (x .stays)
+
+      leaves-good : leavesGood Bits32 (rowAt t) c (length m) st (suc s) s ≡ true
+      unfolding leavesGood passesOn ifTrue
+      leaves-good = rw (h .head, eb, le-leb back (length m) fits, not-first, called, ep, not-passed)
+
+      rows-left : rowsLeft Bits32 (rowAt t) c st (suc s) s ≡ p ∷ rowAt t p .func ∷ []
+      unfolding rowsLeft ifTrue
+      rows-left = rw (not-first, called, ep, not-passed)
+
+      lands : landingOf Bits32 (rowAt t) c st (suc s) s ≡ Lands p caller s back
+      unfolding landingOf passesOn ifTrue
+      lands = rw (not-first, called, ep, not-passed, ec, eb)
+
+      back-fine : withinBroken Bits32 (rowAt t) c d r st (length m) ≡ No
+      back-fine =
+          return-fine t c g d size r st m h below own (y .line) (y .good) p (y .calls) (y .returns) (frame-fine t c g d size r st m h below own) rows-left (x .good)
+          (function-good t c (rowAt t p .func) z function d)
+          (record-fine t c g d size r st m h below own (rw (y .block)) (rw (y .tail)) (rw (y .returns) leaves-good))
+
+      right-landed : Right (landed (rowAt t) st s v p caller back)
+      unfolding landed RightBy handedBy handedTo ifEq
+      right-landed =
+          either-eq (λ (w : List ℕ). Moved (suc p) caller s back w) (rowAt t p .kind) 11 st (set st (caller + rowAt t p .a) v)
+          (λ q. record { fine = back-fine; effect = y .effect ∙ rw (lands, x .at, q); stack = refl })
+          (λ q. record { fine = back-fine; effect = y .effect ∙ rw (lands, x .at, ne-eqb _ _ q); stack = length-set st (caller + rowAt t p .a) v })
+
+    right-hand : c < 4294967296 → (v : ℕ) → Gives v → Right (handTurn t c d st s (length m) v)
+    unfolding handTurn handTo
+    right-hand small v y =
+        either Right (getD st s 0) c _ (turned Stays st)
+        (λ l. either-eq Right (sizeOf (rowAt t) c (rowAt t (getD st s 0) .func)) 0 (turned Stays st) _ (λ q. same)
+        (λ q. either Right (length m) (getD st (s + 2) 0) (turned Stays st) _ (λ b. same)
+        (λ b. either-eq Right (getD st (s + 1) 0 + sizeOf (rowAt t) c (rowAt t (getD st s 0) .func)) s _ (turned Stays st)
+        (λ e. either-true Right (callGood t c d (sizeOf (rowAt t) c (rowAt t (getD st s 0) .func)) (getD st s 0)) _ (turned Stays st)
+        (λ w. landing l q b e w) (λ w. same))
+        (λ e. same))))
+        (λ l. same)
+      where
+        landing : getD st s 0 < c → (sizeOf (rowAt t) c (rowAt t (getD st s 0) .func) ≡ 0 → ⊥) → getD st (s + 2) 0 ≤ length m
+            → getD st (s + 1) 0 + sizeOf (rowAt t) c (rowAt t (getD st s 0) .func) ≡ s
+            → callGood t c d (sizeOf (rowAt t) c (rowAt t (getD st s 0) .func)) (getD st s 0) ≡ true
+            → Right (landed (rowAt t) st s v (getD st s 0) (getD st (s + 1) 0) (getD st (s + 2) 0))
+        landing l q b e w =
+            let f = size-function (rowAt t) c (rowAt t (getD st s 0) .func) _ q refl in
+            right-landed small v (getD st s 0) (getD st (s + 1) 0) (getD st (s + 2) 0) _ l refl refl refl f b e
+            (handed t c d _ (getD st s 0) (row-size t c (rowAt t (getD st s 0) .func) _ f (getD st s 0) refl) w) y
+
+    right-return : c < 4294967296 → Right (returnTurn t c d size st s m n (r .top))
+    unfolding returnTurn returnBy
+    right-return small = by (resultOf t d size st s m n (r .top)) refl
+      where
+        by : (w : Worked) → resultOf t d size st s m n (r .top) ≡ w → Right (returnBy t c d size st s m n (r .top) w)
+        by (Value v end) e = right-hand small v (gives v end e)
+        by (Stop k) e = same
+
+  -- what became of a call or a return is right
+  pub right-turn : c < 4294967296 → Held t c g size r st m → Right (turnOf t c g d size st s (r .used) m n (r .top))
+  unfolding turnOf
+  right-turn small h =
+      either Right n c _ (turned Stays st)
+      (λ l. either-eq Right (here .func) g _ (turned Stays st)
+      (λ e. either-true Right (callsAny (rowAt t) size n) _ _
+      (λ q. right-call h l e (r .used) n s (r .top) (went-call h l e (any-row t c d n size (sized h l e) q)))
+      (λ q. either-eq Right (here .kind) 12 _ _ (λ k. right-tail h l e k) (λ k. right-return h l e small)))
+      (λ e. same))
+      (λ l. same)

@@ -1,0 +1,52 @@
+use Rattle.vm_quick_calls.proofs.Cases.{results}
+use native.Mathlib.Omega.{arith}
+use mathlib.Core.Path.{_≡_, refl, sym, _∙_, ap, subst}
+use borrow.Author.Needs.{needs}
+use Rattle.vm_quick_calls.proofs.result.Statement.{statement}
+use Rattle.vm_quick_calls.proofs.result.Tie as tie
+use Rattle.vm_quick_calls.proofs.result.Reads as reads
+use Rattle.vm_quick_calls.proofs.result.Lts as lts
+use Rattle.vm_quick_operands.proofs.work.Reads as work-reads
+use Rattle.prog_tables.proofs.expression_at.Reads as expression-at-reads
+use Rattle.prog_tables.proofs.kind_at.Reads as kind-at-reads
+
+kind-at-requires : tie.Need-kind-at-requires
+kind-at-requires c κs = search needs
+
+returns : tie.Need-returns
+returns c =
+    search results
+
+expression-at-requires : tie.Need-expression-at-requires
+expression-at-requires c κs = search needs
+
+returns-2 : tie.Need-returns-2
+returns-2 c =
+    search results
+
+mul-work : tie.Need-mul-work
+mul-work c = search needs
+
+work-requires : tie.Need-work-requires
+work-requires c κs = search needs
+
+returns-3 : tie.Need-returns-3
+returns-3 c =
+    search results
+
+returns-4 : tie.Need-returns-4
+returns-4 c =
+    search results
+
+pub result-spec : {M : Type 1} → statement M
+result-spec =
+    tie.close
+    (tie.spec
+    kind-at-requires
+    returns
+    expression-at-requires
+    returns-2
+    mul-work
+    work-requires
+    returns-3
+    returns-4)

@@ -1,0 +1,391 @@
+// Calls and returns, each taken with few tests. What is not taken is left to the exact step.
+use vm_definitions::Read;
+use vm_definitions::Worked;
+ghost use mathlib.Core.Path.{_≡_};
+ghost use Prim.Native.Nat.{_+_, _*_, _≤_, _<_};
+ghost use lib.ListN.{length, take};
+ghost use Rattle.prog_tables.specs.Statement.{operandAt, rowAt, slots};
+ghost use Rattle.prog_tables.specs.Faults.{operandFault};
+ghost use Rattle.vm_calls.specs.Outcomes.{wordsIn};
+ghost use Rattle.vm_quick_calls.specs.Turns.{turned, goodFrom, calleeSize, callsLocal, callsAny, callGood, goodAll, pushed, entered, callTurn, tailTurn, resultOf, landed, handTo, handTurn, returnTurn, turnOf};
+
+// What became of a call or a return: the run goes on in another frame, with its words and an auto top; or nothing happened.
+pub enum Turn {
+    To {
+        next: u32,
+        frame: u32,
+        used: u32,
+        top: u32,
+    },
+    Stays,
+}
+
+// Whether the operand at a place is broken.
+fn is_bad(t: &[u32], i: usize, d: u32, size: u32) -> bool
+    requires { ⌜ i + 1 < length (now t) ⌝ }
+    ensures { λ r. ⌜ r ≡ operandFault size d (operandAt (now (t .entry)) i) ⌝ }
+{
+    let k = vm_quick_operands::peek(t, i);
+    let v = vm_quick_operands::peek(t, i + 1);
+    match k {
+        1 => false,
+        2 => size <= v,
+        3 => d < v,
+        4 => false,
+        5 => size <= v,
+        6 => d < v,
+        _ => true,
+    }
+}
+
+// Whether the first k operands of the row at a place are good.
+fn are_good(t: &[u32], at: usize, d: u32, size: u32, k: u32) -> bool
+    requires { ⌜ (at + 27 ≤ length (now t)) × (k ≤ 8) ⌝ }
+    ensures { λ r. ⌜ r ≡ goodFrom (now (t .entry)) at size d k 0 ⌝ }
+{
+    let mut i: u32 = 0;
+    while i < k {
+        if is_bad(t, at + 11 + i as usize * 2, d, size) {
+            return false;
+        }
+        i += 1;
+    }
+    true
+}
+
+// The frame size of function p, where it has k parameters; else 0.
+fn callee_size(t: &[u32], c: u32, p: u32, k: u32) -> u32
+    requires { ⌜ c * 27 ≤ length (now t) ⌝ }
+    ensures { λ r. ⌜ r ≡ calleeSize (rowAt (now (t .entry))) c p k ⌝ }
+{
+    if prog_tables::parameters_at(t, p) == k {
+        return vm_quick_operands::size_of(t, c, p);
+    }
+    0
+}
+
+// Whether row n is a bare call, or a `let` or `set` of a local with a call.
+fn calls_local(t: &[u32], size: u32, n: u32) -> bool
+    ensures { λ r. ⌜ r ≡ callsLocal (rowAt (now (t .entry))) size n ⌝ }
+{
+    let k = prog_tables::kind_at(t, n);
+    if k == 11 {
+        return true;
+    }
+    let e = prog_tables::expression_at(t, n);
+    if e == 2 {
+        let a = prog_tables::a_at(t, n);
+        return match k {
+            5 => a < size,
+            6 => a < size,
+            _ => false,
+        };
+    }
+    false
+}
+
+// Whether row n is one of these or `return call`.
+fn calls_any(t: &[u32], size: u32, n: u32) -> bool
+    ensures { λ r. ⌜ r ≡ callsAny (rowAt (now (t .entry))) size n ⌝ }
+{
+    let k = prog_tables::kind_at(t, n);
+    if k == 13 {
+        return prog_tables::expression_at(t, n) == 2;
+    }
+    calls_local(t, size, n)
+}
+
+// Whether row p is a call to which a value is handed, with a good callee and good arguments; its frame has this size.
+fn is_call_good(t: &[u32], c: u32, d: u32, size: u32, p: u32) -> bool
+    requires { ⌜ (p < c) × (c * 27 ≤ length (now t)) ⌝ }
+    ensures { λ r. ⌜ r ≡ callGood (now (t .entry)) c d size p ⌝ }
+{
+    let k = prog_tables::count_at(t, p);
+    if 8 < k {
+        return false;
+    }
+    if callee_size(t, c, prog_tables::callee_at(t, p), k) == 0 {
+        return false;
+    }
+    if calls_local(t, size, p) {
+        return are_good(t, p as usize * 27, d, size, k);
+    }
+    false
+}
+
+// The first k arguments of the row at a place, left to right, into words; whether all are good and could be read.
+fn read_arguments(
+    t: &[u32],
+    at: usize,
+    k: u32,
+    d: u32,
+    size: u32,
+    st: &[u32],
+    s: u32,
+    m: &[u8],
+    words: &mut [u32],
+) -> bool
+    requires { ⌜ (at + 27 ≤ length (now t)) × (k ≤ 8) × (s + size ≤ length (now st)) ⌝ }
+    requires { ⌜ length (now words) ≡ 8 ⌝ }
+    ensures { λ r. ⌜ wordsIn r (now (words .exit)) k ≡ goodAll size d (now (st .entry)) s (now (m .entry)) (take k (slots (now (t .entry)) at)) ⌝ }
+{
+    let mut i: u32 = 0;
+    while i < k {
+        let x = vm_quick_operands::read(t, at + 11 + i as usize * 2, d, size, st, s, m);
+        let Read::Got(v) = x else {
+            return false;
+        };
+        words[i as usize] = v;
+        i += 1;
+    }
+    true
+}
+
+// A new frame of z words for function p at a place: where it returns to, and the start of the caller's frame.
+fn push_frame(
+    st: &mut [u32],
+    at: u32,
+    call: u32,
+    below: u32,
+    top: u32,
+    p: u32,
+    z: u32,
+    words: &[u32],
+) -> Turn
+    requires { ⌜ (length (now words) ≤ 8) × (at + z < 4294967296) × (p < 4294967295) ⌝ }
+    ensures { λ r. ⌜ turned r (now (st .exit)) ≡ pushed (now (st .entry)) at call below top p z (now (words .entry)) ⌝ }
+{
+    vm_memory::build_frame(st, at, call, below, top, words, z);
+    Turn::To {
+        next: p + 1,
+        frame: at,
+        used: at + z,
+        top: top,
+    }
+}
+
+// Row n calls function p with k arguments; the new frame of z words starts at a place.
+fn enter(
+    t: &[u32],
+    d: u32,
+    size: u32,
+    st: &mut [u32],
+    s: u32,
+    m: &[u8],
+    n: u32,
+    at: u32,
+    call: u32,
+    below: u32,
+    top: u32,
+    p: u32,
+    k: u32,
+    z: u32,
+) -> Turn
+    requires { ⌜ (n * 27 + 27 ≤ length (now t)) × (k ≤ 8) × (s + size ≤ length (now st)) × (length (now st) ≤ 16384) × (p < 4294967295) ⌝ }
+    ensures { λ r. ⌜ turned r (now (st .exit)) ≡ entered (now (t .entry)) d size (now (st .entry)) s (now (m .entry)) n at call below top p k z ⌝ }
+{
+    if st.len() < at as usize + z as usize {
+        return Turn::Stays;
+    }
+    let mut words = [0u32; 8];
+    if read_arguments(t, n as usize * 27, k, d, size, st, s, m, &mut words) {
+        let to = k as usize;
+        return push_frame(st, at, call, below, top, p, z, &words[0..to]);
+    }
+    Turn::Stays
+}
+
+// Row n calls its function, whose frame starts at a place.
+fn call_at(
+    t: &[u32],
+    c: u32,
+    d: u32,
+    size: u32,
+    st: &mut [u32],
+    s: u32,
+    m: &[u8],
+    n: u32,
+    at: u32,
+    call: u32,
+    below: u32,
+    top: u32,
+) -> Turn
+    requires { ⌜ (n < c) × (c * 27 ≤ length (now t)) × (s + size ≤ length (now st)) × (length (now st) ≤ 16384) ⌝ }
+    ensures { λ r. ⌜ turned r (now (st .exit)) ≡ callTurn (now (t .entry)) c d size (now (st .entry)) s (now (m .entry)) n at call below top ⌝ }
+{
+    let k = prog_tables::count_at(t, n);
+    if 8 < k {
+        return Turn::Stays;
+    }
+    let p = prog_tables::callee_at(t, n);
+    if c <= p {
+        return Turn::Stays;
+    }
+    let z = callee_size(t, c, p, k);
+    if z == 0 {
+        return Turn::Stays;
+    }
+    enter(t, d, size, st, s, m, n, at, call, below, top, p, k, z)
+}
+
+// `tail-call` at row n: the new frame has the head of the frame in use.
+fn tail_call(t: &[u32], c: u32, d: u32, size: u32, st: &mut [u32], s: u32, m: &[u8], n: u32) -> Turn
+    requires { ⌜ (n < c) × (c * 27 ≤ length (now t)) × (s + size ≤ length (now st)) × (length (now st) ≤ 16384) ⌝ }
+    ensures { λ r. ⌜ turned r (now (st .exit)) ≡ tailTurn (now (t .entry)) c d size (now (st .entry)) s (now (m .entry)) n ⌝ }
+{
+    let i = s as usize;
+    let call = prog_tables::word_at(st, i);
+    let below = prog_tables::word_at(st, i + 1);
+    let top = prog_tables::word_at(st, i + 2);
+    if m.len() < top as usize {
+        return Turn::Stays;
+    }
+    call_at(t, c, d, size, st, s, m, n, s, call, below, top)
+}
+
+// ---- returns
+
+// The value that row n returns.
+fn result(t: &[u32], d: u32, size: u32, st: &[u32], s: u32, m: &[u8], n: u32, top: u32) -> Worked
+    requires { ⌜ (n * 27 + 27 ≤ length (now t)) × (s + size ≤ length (now st)) × (length (now m) ≤ 65536) ⌝ }
+    ensures { λ r. ⌜ r ≡ resultOf (now (t .entry)) d size (now (st .entry)) s (now (m .entry)) n top ⌝ }
+{
+    let k = prog_tables::kind_at(t, n);
+    if k == 2 {
+        return Worked::Value { word: 0, top: 0 };
+    }
+    if k == 13 {
+        let e = prog_tables::expression_at(t, n);
+        if e == 0 {
+            return Worked::Value { word: 0, top: 0 };
+        }
+        return vm_quick_operands::work(t, n as usize * 27, d, size, st, s, m, top);
+    }
+    Worked::Stop(0)
+}
+
+// A value for the call at row p, whose frame is at a place; back is the auto top restored.
+fn land(t: &[u32], st: &mut [u32], s: u32, v: u32, p: u32, caller: u32, back: u32) -> Turn
+    requires { ⌜ p < 4294967295 ⌝ }
+    ensures { λ r. ⌜ turned r (now (st .exit)) ≡ landed (rowAt (now (t .entry))) (now (st .entry)) s v p caller back ⌝ }
+{
+    let k = prog_tables::kind_at(t, p);
+    if k == 11 {
+        return Turn::To {
+            next: p + 1,
+            frame: caller,
+            used: s,
+            top: back,
+        };
+    }
+    let a = prog_tables::a_at(t, p);
+    vm_memory::put(st, caller as usize + a as usize, v);
+    Turn::To {
+        next: p + 1,
+        frame: caller,
+        used: s,
+        top: back,
+    }
+}
+
+// A value handed back from the frame at s to the call at row p, whose frame has z words; m bytes of memory.
+fn hand_to(
+    t: &[u32],
+    c: u32,
+    d: u32,
+    st: &mut [u32],
+    s: u32,
+    m: usize,
+    v: u32,
+    p: u32,
+    z: u32,
+) -> Turn
+    requires { ⌜ (p < c) × (c < 4294967296) × (c * 27 ≤ length (now t)) ⌝ }
+    ensures { λ r. ⌜ turned r (now (st .exit)) ≡ handTo (now (t .entry)) c d (now (st .entry)) s m v p z ⌝ }
+{
+    let at = s as usize;
+    let caller = prog_tables::word_at(st, at + 1);
+    let back = prog_tables::word_at(st, at + 2);
+    if m < back as usize {
+        return Turn::Stays;
+    }
+    if caller as u64 + z as u64 == s as u64 {
+        if is_call_good(t, c, d, z, p) {
+            return land(t, st, s, v, p, caller, back);
+        }
+        return Turn::Stays;
+    }
+    Turn::Stays
+}
+
+// A value handed back from the frame at s to the call behind it.
+fn hand(t: &[u32], c: u32, d: u32, st: &mut [u32], s: u32, m: usize, v: u32) -> Turn
+    requires { ⌜ c * 27 ≤ length (now t) ⌝ }
+    ensures { λ r. ⌜ turned r (now (st .exit)) ≡ handTurn (now (t .entry)) c d (now (st .entry)) s m v ⌝ }
+{
+    let p = prog_tables::word_at(st, s as usize);
+    if c <= p {
+        return Turn::Stays;
+    }
+    let z = vm_quick_operands::size_of(t, c, prog_tables::func_at(t, p));
+    if z == 0 {
+        return Turn::Stays;
+    }
+    hand_to(t, c, d, st, s, m, v, p, z)
+}
+
+// A return at row n.
+fn give_back(
+    t: &[u32],
+    c: u32,
+    d: u32,
+    size: u32,
+    st: &mut [u32],
+    s: u32,
+    m: &[u8],
+    n: u32,
+    top: u32,
+) -> Turn
+    requires { ⌜ (n < c) × (c * 27 ≤ length (now t)) × (s + size ≤ length (now st)) × (length (now m) ≤ 65536) ⌝ }
+    ensures { λ r. ⌜ turned r (now (st .exit)) ≡ returnTurn (now (t .entry)) c d size (now (st .entry)) s (now (m .entry)) n top ⌝ }
+{
+    let x = result(t, d, size, st, s, m, n, top);
+    match x {
+        Worked::Value { word, top: end } => hand(t, c, d, st, s, m.len(), word),
+        Worked::Stop(_) => Turn::Stays,
+    }
+}
+
+// The call or return at row n, where that is a row of function g with this frame size; s is where the frame starts.
+pub fn take_turn(
+    t: &[u32],
+    c: u32,
+    g: u32,
+    d: u32,
+    size: u32,
+    st: &mut [u32],
+    s: u32,
+    used: u32,
+    m: &[u8],
+    n: u32,
+    top: u32,
+) -> Turn
+    requires { ⌜ (c * 27 ≤ length (now t)) × (s + size ≤ length (now st)) × (length (now st) ≤ 16384) × (length (now m) ≤ 65536) ⌝ }
+    ensures { λ r. ⌜ turned r (now (st .exit)) ≡ turnOf (now (t .entry)) c g d size (now (st .entry)) s used (now (m .entry)) n top ⌝ }
+{
+    if c <= n {
+        return Turn::Stays;
+    }
+    let own = prog_tables::func_at(t, n);
+    if own == g {
+        if calls_any(t, size, n) {
+            return call_at(t, c, d, size, st, s, m, n, used, n, s, top);
+        }
+        let k = prog_tables::kind_at(t, n);
+        if k == 12 {
+            return tail_call(t, c, d, size, st, s, m, n);
+        }
+        return give_back(t, c, d, size, st, s, m, n, top);
+    }
+    Turn::Stays
+}

@@ -1,0 +1,77 @@
+use Rattle.vm_quick_statements.proofs.Cases.{bytes, byte-in}
+use native.Mathlib.Omega.{arith}
+use mathlib.Core.Path.{_≡_, refl, sym, _∙_, ap, subst}
+use borrow.Author.Needs.{needs}
+use Rattle.vm_quick_statements.proofs.set_byte.Statement.{statement}
+use Rattle.vm_quick_statements.proofs.set_byte.Tie as tie
+use Rattle.vm_quick_statements.proofs.set_byte.Reads as reads
+use Rattle.vm_quick_statements.proofs.set_byte.Lts as lts
+use Rattle.vm_operands.proofs.byte_address.Reads as byte-address-reads
+use Rattle.vm_operands.proofs.has_byte.Reads as has-byte-reads
+use Rattle.vm_memory.proofs.put_byte.Reads as put-byte-reads
+use Rattle.vm_quick_statements.proofs.read_three.Reads as read-three-reads
+
+mul-read-three : tie.Need-mul-read-three
+mul-read-three c = search needs
+
+read-three-requires : tie.Need-read-three-requires
+read-three-requires c κs = search needs
+
+enum-known-x : tie.Need-enum-known-x
+enum-known-x c = search needs
+
+enum-told : tie.Need-enum-told
+enum-told c = search needs
+
+same-length : tie.Need-same-length
+same-length c = search needs
+
+returns : tie.Need-returns
+returns c =
+    search bytes
+
+byte-address-requires : tie.Need-byte-address-requires
+byte-address-requires c κs = search needs
+
+has-byte-requires : tie.Need-has-byte-requires
+has-byte-requires c κs = search needs
+
+put-byte-requires : tie.Need-put-byte-requires
+put-byte-requires c κs =
+    search byte-in
+
+add-t22 : tie.Need-add-t22
+add-t22 c = search needs
+
+same-length-2 : tie.Need-same-length-2
+same-length-2 c = search needs
+
+returns-2 : tie.Need-returns-2
+returns-2 c =
+    search bytes
+
+same-length-3 : tie.Need-same-length-3
+same-length-3 c = search needs
+
+returns-3 : tie.Need-returns-3
+returns-3 c =
+    search bytes
+
+pub set-byte-spec : {M : Type 1} → statement M
+set-byte-spec =
+    tie.close
+    (tie.spec
+    mul-read-three
+    read-three-requires
+    enum-known-x
+    enum-told
+    same-length
+    returns
+    byte-address-requires
+    has-byte-requires
+    put-byte-requires
+    add-t22
+    same-length-2
+    returns-2
+    same-length-3
+    returns-3)

@@ -1,0 +1,54 @@
+use Rattle.vm_quick_statements.proofs.Cases.{steps}
+use native.Mathlib.Omega.{arith}
+use mathlib.Core.Path.{_≡_, refl, sym, _∙_, ap, subst}
+use borrow.Author.Needs.{needs}
+use Rattle.vm_quick_statements.proofs.take.Statement.{statement}
+use Rattle.vm_quick_statements.proofs.take.Tie as tie
+use Rattle.vm_quick_statements.proofs.take.Reads as reads
+use Rattle.vm_quick_statements.proofs.take.Lts as lts
+use Rattle.vm_quick_operands.proofs.peek.Reads as peek-reads
+use Rattle.vm_quick_statements.proofs.take_form.Reads as take-form-reads
+
+returns : tie.Need-returns
+returns c =
+    search steps
+
+mul-peek : tie.Need-mul-peek
+mul-peek c = search needs
+
+add-peek : tie.Need-add-peek
+add-peek c = search needs
+
+peek-requires : tie.Need-peek-requires
+peek-requires c κs = search needs
+
+take-form-requires : tie.Need-take-form-requires
+take-form-requires c κs = search needs
+
+same-length : tie.Need-same-length
+same-length c = search needs
+
+same-length-2 : tie.Need-same-length-2
+same-length-2 c = search needs
+
+returns-2 : tie.Need-returns-2
+returns-2 c =
+    search steps
+
+returns-3 : tie.Need-returns-3
+returns-3 c =
+    search steps
+
+pub take-spec : {M : Type 1} → statement M
+take-spec =
+    tie.close
+    (tie.spec
+    returns
+    mul-peek
+    add-peek
+    peek-requires
+    take-form-requires
+    same-length
+    same-length-2
+    returns-2
+    returns-3)

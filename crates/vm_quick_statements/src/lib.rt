@@ -1,0 +1,422 @@
+// A stretch: statements inside one frame that neither call nor return, each taken with few tests. What is not taken is left to the exact step.
+use vm_definitions::Read;
+use vm_definitions::Worked;
+ghost use mathlib.Core.Path.{_≡_};
+ghost use mathlib.Core.List.{_∷_};
+ghost use Prim.Native.Nat.{suc, _+_, _*_, _≤_, _<_};
+ghost use lib.ListN.{length, replicate};
+ghost use Rattle.base_prelude.specs.Choice.{ifTrue};
+ghost use Rattle.base_limits.specs.declared.Width.the-variants.{Bits32};
+ghost use Rattle.vm_definitions.specs.Access.{storeFrom};
+ghost use Rattle.vm_definitions.specs.Expressions.{holds};
+ghost use Rattle.vm_quick_statements.specs.declared.Move.the-variants.{To};
+ghost use Rattle.vm_quick_statements.specs.Stretch.{taken, stretched, aimed, quickAssign, quickTest, quickJump, quickBlock, quickEnd, threeRead, quickByte, quickWord, storedAt, quickAt, quickForm, quickStep, stretchOf};
+
+// What became of a statement: it goes on at a statement with an auto top; or nothing happened.
+pub enum Move {
+    To { next: u32, top: u32 },
+    Stays,
+}
+
+// Where a stretch ends: the next statement, the auto top, and the steps counted.
+pub struct Stretch {
+    pub next: u32,
+    pub top: u32,
+    pub count: u64,
+}
+
+// `let` and `set` of a local, without a call; the head of the frame is not written.
+fn assign(t: &[u32], d: u32, size: u32, st: &mut [u32], s: u32, m: &[u8], n: u32, top: u32) -> Move
+    requires { ⌜ (n < 4294967295) × (n * 27 + 27 ≤ length (now t)) × (s + size ≤ length (now st)) × (length (now m) ≤ 65536) ⌝ }
+    ensures { λ r. ⌜ taken r (now (st .exit)) (now (m .entry)) ≡ quickAssign (now (t .entry)) d size (now (st .entry)) s (now (m .entry)) n top ⌝ }
+{
+    let at = n as usize * 27;
+    let a = vm_quick_operands::peek(t, at + 4);
+    if a < 3 {
+        return Move::Stays;
+    }
+    if size <= a {
+        return Move::Stays;
+    }
+    let x = vm_quick_operands::work(t, at, d, size, st, s, m, top);
+    match x {
+        Worked::Value { word, top: end } => {
+            vm_memory::put(st, s as usize + a as usize, word);
+            Move::To {
+                next: n + 1,
+                top: end,
+            }
+        }
+        Worked::Stop(_) => Move::Stays,
+    }
+}
+
+// Whether row a is a row of function g.
+fn is_aimed(t: &[u32], c: u32, g: u32, a: u32) -> bool
+    requires { ⌜ c * 27 ≤ length (now t) ⌝ }
+    ensures { λ r. ⌜ r ≡ aimed (now (t .entry)) c g a ⌝ }
+{
+    if a < c {
+        return vm_quick_operands::peek(t, a as usize * 27 + 1) == g;
+    }
+    false
+}
+
+// Where a test of kind k at row n goes with two words; a is its target.
+fn branch(n: u32, top: u32, k: u32, a: u32, x: u32, y: u32) -> Move
+    requires { ⌜ n < 4294967295 ⌝ }
+    ensures { λ r. ⌜ r ≡ To (ifTrue (holds Bits32 k x y) (suc n) a) top ⌝ }
+{
+    if vm_operands::test(k, x, y) {
+        return Move::To {
+            next: n + 1,
+            top: top,
+        };
+    }
+    Move::To { next: a, top: top }
+}
+
+// A test of kind k.
+fn test(
+    t: &[u32],
+    c: u32,
+    g: u32,
+    d: u32,
+    size: u32,
+    st: &[u32],
+    s: u32,
+    m: &[u8],
+    n: u32,
+    top: u32,
+    k: u32,
+) -> Move
+    requires { ⌜ (n < 4294967295) × (n * 27 + 27 ≤ length (now t)) × (s + size ≤ length (now st)) × (c * 27 ≤ length (now t)) ⌝ }
+    ensures { λ r. ⌜ taken r (now (st .entry)) (now (m .entry)) ≡ quickTest (now (t .entry)) c g d size (now (st .entry)) s (now (m .entry)) n top k ⌝ }
+{
+    let at = n as usize * 27;
+    let a = vm_quick_operands::peek(t, at + 4);
+    if is_aimed(t, c, g, a) {
+        let f = vm_quick_operands::read(t, at + 11, d, size, st, s, m);
+        let Read::Got(x) = f else {
+            return Move::Stays;
+        };
+        let h = vm_quick_operands::read(t, at + 13, d, size, st, s, m);
+        let Read::Got(y) = h else {
+            return Move::Stays;
+        };
+        return branch(n, top, k, a, x, y);
+    }
+    Move::Stays
+}
+
+// `goto` and `else`.
+fn jump(t: &[u32], c: u32, g: u32, n: u32, top: u32) -> Move
+    requires { ⌜ (n * 27 + 27 ≤ length (now t)) × (c * 27 ≤ length (now t)) ⌝ }
+    ensures { λ r. ⌜ r ≡ quickJump (now (t .entry)) c g n top ⌝ }
+{
+    let a = vm_quick_operands::peek(t, n as usize * 27 + 4);
+    if is_aimed(t, c, g, a) {
+        return Move::To { next: a, top: top };
+    }
+    Move::Stays
+}
+
+// The words of a block from a place on: the auto top, then zeros.
+fn open_block(st: &mut [u32], at: usize, top: u32, lets: u32)
+    requires { ⌜ at < 1099511627775 ⌝ }
+    ensures { λ _. ⌜ now (st .exit) ≡ storeFrom (now (st .entry)) at (top ∷ replicate lets 0) ⌝ }
+{
+    vm_memory::put(st, at, top);
+    vm_memory::put_zeros(st, at + 1, lets);
+}
+
+// `block`.
+fn enter_block(t: &[u32], size: u32, st: &mut [u32], s: u32, m: &[u8], n: u32, top: u32) -> Move
+    requires { ⌜ (n < 4294967295) × (n * 27 + 27 ≤ length (now t)) ⌝ }
+    ensures { λ r. ⌜ taken r (now (st .exit)) (now (m .entry)) ≡ quickBlock (now (t .entry)) size (now (st .entry)) s (now (m .entry)) n top ⌝ }
+{
+    let at = n as usize * 27;
+    let a = vm_quick_operands::peek(t, at + 4);
+    let b = vm_quick_operands::peek(t, at + 5);
+    if a < 3 {
+        return Move::Stays;
+    }
+    if size as u64 <= a as u64 + b as u64 {
+        return Move::Stays;
+    }
+    open_block(st, s as usize + a as usize, top, b);
+    Move::To {
+        next: n + 1,
+        top: top,
+    }
+}
+
+// `end block`.
+fn leave_block(t: &[u32], size: u32, st: &[u32], s: u32, m: usize, n: u32) -> Move
+    requires { ⌜ (n < 4294967295) × (n * 27 + 27 ≤ length (now t)) × (s + size ≤ length (now st)) ⌝ }
+    ensures { λ r. ⌜ r ≡ quickEnd (now (t .entry)) size (now (st .entry)) s m n ⌝ }
+{
+    let a = vm_quick_operands::peek(t, n as usize * 27 + 4);
+    if size <= a {
+        return Move::Stays;
+    }
+    let top = vm_quick_operands::local(st, s, a);
+    if m < top as usize {
+        return Move::Stays;
+    }
+    Move::To {
+        next: n + 1,
+        top: top,
+    }
+}
+
+// Base, offset and value of `set-byte` and `set-word`.
+pub enum Three {
+    All { base: u32, offset: u32, value: u32 },
+    Unread,
+}
+
+// The first three operands of the row at a place, left to right.
+fn read_three(t: &[u32], at: usize, d: u32, size: u32, st: &[u32], s: u32, m: &[u8]) -> Three
+    requires { ⌜ (at + 27 ≤ length (now t)) × (s + size ≤ length (now st)) ⌝ }
+    ensures { λ r. ⌜ r ≡ threeRead (now (t .entry)) at d size (now (st .entry)) s (now (m .entry)) ⌝ }
+{
+    let f = vm_quick_operands::read(t, at + 11, d, size, st, s, m);
+    let Read::Got(base) = f else {
+        return Three::Unread;
+    };
+    let g = vm_quick_operands::read(t, at + 13, d, size, st, s, m);
+    let Read::Got(offset) = g else {
+        return Three::Unread;
+    };
+    let h = vm_quick_operands::read(t, at + 15, d, size, st, s, m);
+    let Read::Got(value) = h else {
+        return Three::Unread;
+    };
+    Three::All {
+        base: base,
+        offset: offset,
+        value: value,
+    }
+}
+
+// `set-byte`.
+fn set_byte(
+    t: &[u32],
+    d: u32,
+    size: u32,
+    st: &[u32],
+    s: u32,
+    m: &mut [u8],
+    n: u32,
+    top: u32,
+) -> Move
+    requires { ⌜ (n < 4294967295) × (n * 27 + 27 ≤ length (now t)) × (s + size ≤ length (now st)) ⌝ }
+    ensures { λ r. ⌜ taken r (now (st .entry)) (now (m .exit)) ≡ quickByte (now (t .entry)) d size (now (st .entry)) s (now (m .entry)) n top ⌝ }
+{
+    let x = read_three(t, n as usize * 27, d, size, st, s, m);
+    let Three::All {
+        base,
+        offset,
+        value,
+    } = x
+    else {
+        return Move::Stays;
+    };
+    let a = vm_operands::byte_address(base, offset);
+    if vm_operands::has_byte(m.len(), a) {
+        vm_memory::put_byte(m, a, value);
+        return Move::To {
+            next: n + 1,
+            top: top,
+        };
+    }
+    Move::Stays
+}
+
+// `set-word`.
+fn set_word(
+    t: &[u32],
+    d: u32,
+    size: u32,
+    st: &[u32],
+    s: u32,
+    m: &mut [u8],
+    n: u32,
+    top: u32,
+) -> Move
+    requires { ⌜ (n < 4294967295) × (n * 27 + 27 ≤ length (now t)) × (s + size ≤ length (now st)) ⌝ }
+    ensures { λ r. ⌜ taken r (now (st .entry)) (now (m .exit)) ≡ quickWord (now (t .entry)) d size (now (st .entry)) s (now (m .entry)) n top ⌝ }
+{
+    let x = read_three(t, n as usize * 27, d, size, st, s, m);
+    let Three::All {
+        base,
+        offset,
+        value,
+    } = x
+    else {
+        return Move::Stays;
+    };
+    let a = vm_operands::word_address(base, offset);
+    if vm_operands::has_word(m.len(), a) {
+        vm_memory::put_word(m, a, value);
+        return Move::To {
+            next: n + 1,
+            top: top,
+        };
+    }
+    Move::Stays
+}
+
+// `set @` without a call, a being its good address.
+fn store_at(
+    t: &[u32],
+    d: u32,
+    size: u32,
+    st: &[u32],
+    s: u32,
+    m: &mut [u8],
+    n: u32,
+    top: u32,
+    a: u32,
+) -> Move
+    requires { ⌜ (n < 4294967295) × (n * 27 + 27 ≤ length (now t)) × (s + size ≤ length (now st)) × (length (now m) ≤ 65536) × (a + 4 ≤ length (now m)) ⌝ }
+    ensures { λ r. ⌜ taken r (now (st .entry)) (now (m .exit)) ≡ storedAt (now (t .entry)) d size (now (st .entry)) s (now (m .entry)) n top a ⌝ }
+{
+    let x = vm_quick_operands::work(t, n as usize * 27, d, size, st, s, m, top);
+    match x {
+        Worked::Value { word, top: end } => {
+            vm_memory::put_word(m, a, word);
+            Move::To {
+                next: n + 1,
+                top: end,
+            }
+        }
+        Worked::Stop(_) => Move::Stays,
+    }
+}
+
+// `set @` without a call.
+fn set_at(t: &[u32], d: u32, size: u32, st: &[u32], s: u32, m: &mut [u8], n: u32, top: u32) -> Move
+    requires { ⌜ (n < 4294967295) × (n * 27 + 27 ≤ length (now t)) × (s + size ≤ length (now st)) × (length (now m) ≤ 65536) ⌝ }
+    ensures { λ r. ⌜ taken r (now (st .entry)) (now (m .exit)) ≡ quickAt (now (t .entry)) d size (now (st .entry)) s (now (m .entry)) n top ⌝ }
+{
+    let at = n as usize * 27;
+    let k = vm_quick_operands::peek(t, at + 9);
+    if 3 < k {
+        return Move::Stays;
+    }
+    let f = vm_quick_operands::read(t, at + 9, d, size, st, s, m);
+    let Read::Got(a) = f else {
+        return Move::Stays;
+    };
+    if vm_operands::has_word(m.len(), a) {
+        return store_at(t, d, size, st, s, m, n, top, a);
+    }
+    Move::Stays
+}
+
+// Row n, one of function g.
+fn take_form(
+    t: &[u32],
+    c: u32,
+    g: u32,
+    d: u32,
+    size: u32,
+    st: &mut [u32],
+    s: u32,
+    m: &mut [u8],
+    n: u32,
+    top: u32,
+) -> Move
+    requires { ⌜ (n < c) × (c < 4294967296) × (c * 27 ≤ length (now t)) × (s + size ≤ length (now st)) × (length (now m) ≤ 65536) ⌝ }
+    ensures { λ r. ⌜ taken r (now (st .exit)) (now (m .exit)) ≡ quickForm (now (t .entry)) c g d size (now (st .entry)) s (now (m .entry)) n top ⌝ }
+{
+    let k = vm_quick_operands::peek(t, n as usize * 27);
+    if prog_tables::is_test(k) {
+        return test(t, c, g, d, size, st, s, m, n, top, k);
+    }
+    match k {
+        3 => enter_block(t, size, st, s, m, n, top),
+        4 => leave_block(t, size, st, s, m.len(), n),
+        5 => assign(t, d, size, st, s, m, n, top),
+        6 => assign(t, d, size, st, s, m, n, top),
+        7 => set_at(t, d, size, st, s, m, n, top),
+        8 => set_byte(t, d, size, st, s, m, n, top),
+        9 => set_word(t, d, size, st, s, m, n, top),
+        10 => jump(t, c, g, n, top),
+        20 => jump(t, c, g, n, top),
+        21 => jump(t, c, g, n, top),
+        22 => Move::To {
+            next: n + 1,
+            top: top,
+        },
+        _ => Move::Stays,
+    }
+}
+
+// The statement at row n, where that is a row of function g.
+fn take(
+    t: &[u32],
+    c: u32,
+    g: u32,
+    d: u32,
+    size: u32,
+    st: &mut [u32],
+    s: u32,
+    m: &mut [u8],
+    n: u32,
+    top: u32,
+) -> Move
+    requires { ⌜ (c < 4294967296) × (c * 27 ≤ length (now t)) × (s + size ≤ length (now st)) × (length (now m) ≤ 65536) ⌝ }
+    ensures { λ r. ⌜ taken r (now (st .exit)) (now (m .exit)) ≡ quickStep (now (t .entry)) c g d size (now (st .entry)) s (now (m .entry)) n top ⌝ }
+{
+    if c <= n {
+        return Move::Stays;
+    }
+    let own = vm_quick_operands::peek(t, n as usize * 27 + 1);
+    if own == g {
+        return take_form(t, c, g, d, size, st, s, m, n, top);
+    }
+    Move::Stays
+}
+
+// Statements from row n on, of function g with this frame size, within a budget; s is where the frame starts.
+pub fn run_stretch(
+    t: &[u32],
+    c: u32,
+    g: u32,
+    d: u32,
+    size: u32,
+    budget: u64,
+    st: &mut [u32],
+    s: u32,
+    m: &mut [u8],
+    n: u32,
+    top: u32,
+) -> Stretch
+    requires { ⌜ (c * 27 ≤ length (now t)) × (s + size ≤ length (now st)) × (length (now m) ≤ 65536) ⌝ }
+    ensures { λ r. ⌜ stretched r (now (st .exit)) (now (m .exit)) ≡ stretchOf (now (t .entry)) c g d size s budget (now (st .entry)) (now (m .entry)) n top ⌝ }
+{
+    let mut next = n;
+    let mut end = top;
+    let mut count: u64 = 0;
+    while count < budget {
+        let x = take(t, c, g, d, size, st, s, m, next, end);
+        let Move::To { next: i, top: e } = x else {
+            return Stretch {
+                next: next,
+                top: end,
+                count: count,
+            };
+        };
+        next = i;
+        end = e;
+        count += 1;
+    }
+    Stretch {
+        next: next,
+        top: end,
+        count: count,
+    }
+}

@@ -1,0 +1,79 @@
+use borrow.Author.Needs.{needs}
+use Prim.Native.Nat.{_-_}
+use Rattle.vm_definitions.specs.Lent.{world}
+use Rattle.vm_run.proofs.Cases.{RunSoFar, running, running-low}
+use native.Mathlib.Omega.{arith}
+use mathlib.Core.Path.{_≡_, refl, sym, _∙_, ap, subst}
+use Rattle.vm_run.proofs.run_within.Statement.{statement}
+use Rattle.vm_run.proofs.run_within.Tie as tie
+use Rattle.vm_run.proofs.run_within.Reads as reads
+use Rattle.vm_run.proofs.run_within.Lts as lts
+use Rattle.vm_run.proofs.advance.Reads as advance-reads
+
+abbrev Inv-loop : tie.InvT-loop
+Inv-loop t c d budget st₀ m₀ q₀ count₀ st m q count =
+    RunSoFar t c d budget (world q₀ st₀ m₀) q st m count
+
+abbrev μ-loop : tie.MeasureT-loop
+μ-loop t c d budget st₀ m₀ q₀ count₀ st m q count =
+    budget - count
+
+loop-holds : tie.Need-loop-holds Inv-loop μ-loop
+loop-holds c =
+    search running
+
+sub-advance : tie.Need-sub-advance Inv-loop μ-loop
+sub-advance c = search needs
+
+advance-requires : tie.Need-advance-requires Inv-loop μ-loop
+advance-requires c κs = search needs
+
+same-length : tie.Need-same-length Inv-loop μ-loop
+same-length c = search needs
+
+same-length-2 : tie.Need-same-length-2 Inv-loop μ-loop
+same-length-2 c = search needs
+
+returns : tie.Need-returns Inv-loop μ-loop
+returns c =
+    search running
+
+add-count : tie.Need-add-count Inv-loop μ-loop
+add-count c =
+    omega (arith, running-low _ _ _ _ _ _ _ _ _ (c .before .before .before .before .before .before .before .before .before .before .loop .inv) _ _ _ (c .before .before .before .before .before .before .before .before .before .loop-test .taken) (c .before .before .before .before .before .before .advance .ensures))
+
+loop-less : tie.Need-loop-less Inv-loop μ-loop
+loop-less c = search needs
+
+loop-again : tie.Need-loop-again Inv-loop μ-loop
+loop-again c =
+    search running
+
+same-length-3 : tie.Need-same-length-3 Inv-loop μ-loop
+same-length-3 c = search needs
+
+same-length-4 : tie.Need-same-length-4 Inv-loop μ-loop
+same-length-4 c = search needs
+
+returns-2 : tie.Need-returns-2 Inv-loop μ-loop
+returns-2 c =
+    search running
+
+pub run-within-spec : {M : Type 1} → statement M
+run-within-spec =
+    tie.close
+    (tie.spec
+    Inv-loop
+    μ-loop
+    loop-holds
+    sub-advance
+    advance-requires
+    same-length
+    same-length-2
+    returns
+    add-count
+    loop-less
+    loop-again
+    same-length-3
+    same-length-4
+    returns-2)

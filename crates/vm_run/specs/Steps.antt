@@ -1,0 +1,57 @@
+-- Steps taken several at once: a stretch inside the frame in use, then a call or a return; the exact step where neither can be had. They
+-- are the steps of a run (proofs/Several.antt).
+-- Assumes nothing.
+use Prim.Native.Nat.{ℕ, suc, _+_}
+use mathlib.Core.List.{List}
+use lib.ListN.{length}
+use Rattle.base_prelude.specs.Choice.{ifLt, ifEq, ifTrue}
+use Rattle.base_limits.specs.declared.Machine.{Machine}
+use Rattle.prog_tables.specs.Statement.{Row, rowAt}
+use Rattle.vm_definitions.specs.Step.{World, After, movedTo}
+use Rattle.vm_definitions.specs.Lent.{world}
+use Rattle.vm_definitions.specs.declared.Broken.the-variants.{No}
+use Rattle.vm_guard.specs.Framed.{heldSize}
+use Rattle.vm_quick_statements.specs.Stretch.{Ended, stretchOf}
+use Rattle.vm_quick_calls.specs.Turns.{Turned, turnOf}
+use Rattle.vm_quick_calls.specs.declared.Turn.{Turn}
+use Rattle.vm_quick_calls.specs.declared.Turn.the-variants.{To, Stays}
+use Rattle.vm_run.specs.Within.{isRunning, withinStep}
+
+-- the words of the frame in use, where the record is running and stands in a good one; else 0
+unfoldable pub usableSize : (ℕ → Row) → ℕ → ℕ → Machine → List ℕ → ℕ
+usableSize f c m r st = ifTrue (isRunning (r .state)) (heldSize f c m r st) 0
+
+-- so many steps, and where they led
+abbrev pub after : World → ℕ → After
+after x k = record { world = x; count = k; broken = No }
+
+-- t the statement table, of c rows; d the data's length
+module _ (t : List ℕ) (c d : ℕ) where
+  -- the statement that a stretch of k steps ends at
+  unfoldable pub endBy : ℕ → World → Turn → List ℕ → After
+  endBy k x (To next frame used top) st = after (world (movedTo (x .machine) next frame used top) st (x .memory)) (k + 1)
+  endBy k x Stays st = ifLt 0 k (after (world (x .machine) st (x .memory)) k) (withinStep t c d (world (x .machine) st (x .memory)))
+
+  -- a call or a return of function g, whose frame has this size; else nothing, or the exact step where k is 0
+  unfoldable pub stretchEnd : ℕ → ℕ → ℕ → World → After
+  stretchEnd g size k x =
+      endBy k x (turnOf t c g d size (x .stack) (x .machine .frame) (x .machine .used) (x .memory) (x .machine .next) (x .machine .top) .move)
+      (turnOf t c g d size (x .stack) (x .machine .frame) (x .machine .used) (x .memory) (x .machine .next) (x .machine .top) .stack)
+
+  -- the world that a stretch ends in
+  abbrev pub ends : Machine → Ended → World
+  ends r e = world (movedTo r (e .next) (r .frame) (r .used) (e .top)) (e .stack) (e .memory)
+
+  unfoldable pub heldBy : ℕ → ℕ → ℕ → Machine → Ended → After
+  heldBy g size budget r e = ifLt (e .count) budget (stretchEnd g size (e .count) (ends r e)) (after (ends r e) (e .count))
+
+  -- a stretch in the frame in use, of this size, and what it ends at
+  unfoldable pub heldSteps : ℕ → ℕ → World → After
+  heldSteps size budget x =
+      heldBy (rowAt t (x .machine .next) .func) size budget (x .machine)
+      (stretchOf t c (rowAt t (x .machine .next) .func) d size (x .machine .frame) budget (x .stack) (x .memory) (x .machine .next) (x .machine .top))
+
+  unfoldable pub someSteps : ℕ → World → After
+  someSteps budget x =
+      ifEq (usableSize (rowAt t) c (length (x .memory)) (x .machine) (x .stack)) 0 (withinStep t c d x)
+      (heldSteps (usableSize (rowAt t) c (length (x .memory)) (x .machine) (x .stack)) budget x)

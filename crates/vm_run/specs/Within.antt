@@ -1,0 +1,39 @@
+-- Steps and runs over tables whose counts are good.
+-- Assumes nothing.
+use Prim.Native.Nat.{ℕ, zero, suc}
+use mathlib.Core.Bool.{Bool, true, false}
+use mathlib.Core.List.{List}
+use lib.ListN.{length}
+use Rattle.base_prelude.specs.Choice.{ifEq, ifTrue}
+use Rattle.base_limits.specs.declared.Width.the-variants.{Bits32}
+use Rattle.base_limits.specs.declared.State.{State}
+use Rattle.base_limits.specs.declared.State.the-variants.{Running, Finished, Stopped}
+use Rattle.base_limits.specs.declared.Machine.{Machine}
+use Rattle.prog_tables.specs.Statement.{rowAt}
+use Rattle.vm_guard.specs.Gate.{withinBroken}
+use Rattle.vm_definitions.specs.Step.{World, After, idle, gated, counting, effectOf}
+use Rattle.vm_definitions.specs.declared.Outcome.{Outcome}
+use Rattle.vm_definitions.specs.declared.Broken.{Broken}
+use Rattle.vm_definitions.specs.declared.Broken.the-variants.{No}
+
+-- nothing happened, but perhaps a 35
+abbrev pub givenBack : Machine → Broken → Outcome
+givenBack r b = record { machine = r; count = 0; broken = b }
+
+unfoldable pub isRunning : State → Bool
+isRunning Running = true
+isRunning (Finished v) = false
+isRunning (Stopped k i) = false
+
+-- t the statement table, of c rows; d the data's length
+module _ (t : List ℕ) (c d : ℕ) where
+  -- a running record's step
+  unfoldable pub takenStep : World → After
+  takenStep x = gated x (effectOf Bits32 (rowAt t) c x) (withinBroken Bits32 (rowAt t) c d (x .machine) (x .stack) (length (x .memory)))
+
+  unfoldable pub withinStep : World → After
+  withinStep x = ifTrue (isRunning (x .machine .state)) (takenStep x) (idle x No)
+
+  unfoldable pub withinRun : ℕ → World → After
+  withinRun zero x = idle x No
+  withinRun (suc b) x = ifEq (withinStep x .count) 0 (withinStep x) (counting 1 (withinRun b (withinStep x .world)))

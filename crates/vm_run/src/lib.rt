@@ -1,0 +1,280 @@
+// One step, and a run of steps.
+use base_limits::Machine;
+use base_limits::State;
+use vm_definitions::Broken;
+use vm_definitions::Outcome;
+use vm_quick_calls::Turn;
+ghost use mathlib.Core.Path.{_≡_};
+ghost use Prim.Native.Nat.{_+_, _*_, _≤_, _<_};
+ghost use lib.ListN.{length};
+ghost use Rattle.base_limits.specs.declared.Width.the-variants.{Bits32};
+ghost use Rattle.prog_tables.specs.Statement.{rowAt};
+ghost use Rattle.vm_definitions.specs.Step.{movedTo, stepOf, runOf};
+ghost use Rattle.vm_definitions.specs.Lent.{tablesOf, world, left};
+ghost use Rattle.vm_run.specs.Within.{givenBack, isRunning, takenStep, withinStep, withinRun};
+ghost use Rattle.vm_run.specs.Steps.{usableSize, stretchEnd, heldSteps, someSteps};
+
+// Nothing happened, but perhaps a 35.
+fn give_back(r: Machine, b: Broken) -> Outcome
+    ensures { λ o. ⌜ o ≡ givenBack r b ⌝ }
+{
+    Outcome {
+        machine: r,
+        count: 0,
+        broken: b,
+    }
+}
+
+// The statement that a running record stands at, or 35; the counts of the tables are good.
+fn take_step(t: &[u32], c: u32, d: u32, r: Machine, st: &mut [u32], m: &mut [u8]) -> Outcome
+    ensures { λ o. ⌜ left o (now (st .exit)) (now (m .exit)) ≡ takenStep (now (t .entry)) c d (world r (now (st .entry)) (now (m .entry))) ⌝ }
+{
+    let b = vm_guard::find_broken(t, c, d, r, st, m.len());
+    match b {
+        Broken::No => vm_statements::execute(t, c, r, st, m),
+        Broken::At(i) => give_back(r, Broken::At(i)),
+        Broken::Somewhere => give_back(r, Broken::Somewhere),
+    }
+}
+
+// Whether a record is running.
+fn is_running(r: Machine) -> bool
+    ensures { λ b. ⌜ b ≡ isRunning (r .state) ⌝ }
+{
+    let state = r.state;
+    match state {
+        State::Running => true,
+        State::Finished(_) => false,
+        State::Stopped { number, statement } => false,
+    }
+}
+
+// A step over tables whose counts are good.
+fn step_within(t: &[u32], c: u32, d: u32, r: Machine, st: &mut [u32], m: &mut [u8]) -> Outcome
+    ensures { λ o. ⌜ left o (now (st .exit)) (now (m .exit)) ≡ withinStep (now (t .entry)) c d (world r (now (st .entry)) (now (m .entry))) ⌝ }
+{
+    if is_running(r) {
+        return take_step(t, c, d, r, st, m);
+    }
+    give_back(r, Broken::No)
+}
+
+// The words of the frame in use, where the record is running and stands in a good one; else 0.
+fn usable_size(t: &[u32], c: u32, m: usize, q: Machine, st: &[u32]) -> u32
+    requires { ⌜ c * 27 ≤ length (now t) ⌝ }
+    ensures { λ z. ⌜ z ≡ usableSize (rowAt (now (t .entry))) c m q (now (st .entry)) ⌝ }
+{
+    if is_running(q) {
+        return vm_guard::held_size(t, c, m, q, st);
+    }
+    0
+}
+
+// The record at another statement of its frame, and in another frame.
+fn moved(r: Machine, next: u32, frame: u32, used: u32, top: u32) -> Machine
+    ensures { λ q. ⌜ q ≡ movedTo r next frame used top ⌝ }
+{
+    let state = r.state;
+    Machine {
+        state: state,
+        next: next,
+        frame: frame,
+        used: used,
+        top: top,
+    }
+}
+
+// The statement that a stretch of so many steps ends at: a call or a return, or else the exact step where there was none before it.
+fn end_stretch(
+    t: &[u32],
+    c: u32,
+    g: u32,
+    d: u32,
+    size: u32,
+    r: Machine,
+    count: u64,
+    st: &mut [u32],
+    m: &mut [u8],
+) -> Outcome
+    requires { ⌜ (c * 27 ≤ length (now t)) × (r .frame + size ≤ length (now st)) × (length (now st) ≤ 16384) × (length (now m) ≤ 65536) × (count < 18446744073709551615) ⌝ }
+    ensures { λ o. ⌜ left o (now (st .exit)) (now (m .exit)) ≡ stretchEnd (now (t .entry)) c d g size count (world r (now (st .entry)) (now (m .entry))) ⌝ }
+{
+    let y = vm_quick_calls::take_turn(t, c, g, d, size, st, r.frame, r.used, m, r.next, r.top);
+    match y {
+        Turn::To {
+            next,
+            frame,
+            used,
+            top,
+        } => Outcome {
+            machine: moved(r, next, frame, used, top),
+            count: count + 1,
+            broken: Broken::No,
+        },
+        Turn::Stays => {
+            if 0 < count {
+                return Outcome {
+                    machine: r,
+                    count: count,
+                    broken: Broken::No,
+                };
+            }
+            step_within(t, c, d, r, st, m)
+        }
+    }
+}
+
+// Steps of a running record that stands in a good frame of this size: a stretch, and what it ends at.
+fn advance_held(
+    t: &[u32],
+    c: u32,
+    d: u32,
+    size: u32,
+    budget: u64,
+    r: Machine,
+    st: &mut [u32],
+    m: &mut [u8],
+) -> Outcome
+    requires { ⌜ (c * 27 ≤ length (now t)) × (r .frame + size ≤ length (now st)) × (length (now st) ≤ 16384) × (length (now m) ≤ 65536) ⌝ }
+    ensures { λ o. ⌜ left o (now (st .exit)) (now (m .exit)) ≡ heldSteps (now (t .entry)) c d size budget (world r (now (st .entry)) (now (m .entry))) ⌝ }
+{
+    let g = prog_tables::func_at(t, r.next);
+    let x = vm_quick_statements::run_stretch(
+        t,
+        c,
+        g,
+        d,
+        size,
+        budget,
+        st,
+        r.frame,
+        m,
+        r.next,
+        r.top,
+    );
+    let count = x.count;
+    let q = moved(r, x.next, r.frame, r.used, x.top);
+    if count < budget {
+        return end_stretch(t, c, g, d, size, q, count, st, m);
+    }
+    Outcome {
+        machine: q,
+        count: count,
+        broken: Broken::No,
+    }
+}
+
+// Some steps within a budget, one at least where that is possible.
+fn advance(
+    t: &[u32],
+    c: u32,
+    d: u32,
+    budget: u64,
+    r: Machine,
+    st: &mut [u32],
+    m: &mut [u8],
+) -> Outcome
+    requires { ⌜ c * 27 ≤ length (now t) ⌝ }
+    ensures { λ o. ⌜ left o (now (st .exit)) (now (m .exit)) ≡ someSteps (now (t .entry)) c d budget (world r (now (st .entry)) (now (m .entry))) ⌝ }
+{
+    let size = usable_size(t, c, m.len(), r, st);
+    if size == 0 {
+        return step_within(t, c, d, r, st, m);
+    }
+    advance_held(t, c, d, size, budget, r, st, m)
+}
+
+// Steps within a budget, over tables whose counts are good.
+fn run_within(
+    t: &[u32],
+    c: u32,
+    d: u32,
+    budget: u64,
+    r: Machine,
+    st: &mut [u32],
+    m: &mut [u8],
+) -> Outcome
+    requires { ⌜ c * 27 ≤ length (now t) ⌝ }
+    ensures { λ o. ⌜ left o (now (st .exit)) (now (m .exit)) ≡ withinRun (now (t .entry)) c d budget (world r (now (st .entry)) (now (m .entry))) ⌝ }
+{
+    let mut q = r;
+    let mut count: u64 = 0;
+    while count < budget {
+        let o = advance(t, c, d, budget - count, q, st, m);
+        let counted = o.count;
+        let broken = o.broken;
+        let next = o.machine;
+        if counted == 0 {
+            return Outcome {
+                machine: next,
+                count: count,
+                broken: broken,
+            };
+        }
+        q = next;
+        count += counted;
+    }
+    Outcome {
+        machine: q,
+        count: count,
+        broken: Broken::No,
+    }
+}
+
+// One step of the record over the lent tables, stack and memory.
+pub fn step(
+    statements: &[u32],
+    count: u32,
+    labels: &[u32],
+    label_count: u32,
+    names: &[u8],
+    data_length: u32,
+    machine: Machine,
+    stack: &mut [u32],
+    memory: &mut [u8],
+) -> Outcome
+    ensures { λ o. ⌜ left o (now (stack .exit)) (now (memory .exit)) ≡ stepOf Bits32 (tablesOf (now (statements .entry)) count (now (labels .entry)) «label_count» (now (names .entry)) «data_length») (world machine (now (stack .entry)) (now (memory .entry))) ⌝ }
+{
+    if is_running(machine) {
+        if vm_counts::count_fault(statements, count, labels, label_count, names) {
+            return give_back(machine, Broken::Somewhere);
+        }
+        return take_step(statements, count, data_length, machine, stack, memory);
+    }
+    give_back(machine, Broken::No)
+}
+
+// Steps until the budget is used up, the record has finished or stopped, or a 35 comes.
+pub fn run(
+    statements: &[u32],
+    count: u32,
+    labels: &[u32],
+    label_count: u32,
+    names: &[u8],
+    data_length: u32,
+    budget: u64,
+    machine: Machine,
+    stack: &mut [u32],
+    memory: &mut [u8],
+) -> Outcome
+    ensures { λ o. ⌜ left o (now (stack .exit)) (now (memory .exit)) ≡ runOf Bits32 (tablesOf (now (statements .entry)) count (now (labels .entry)) «label_count» (now (names .entry)) «data_length») budget (world machine (now (stack .entry)) (now (memory .entry))) ⌝ }
+{
+    if budget == 0 {
+        return give_back(machine, Broken::No);
+    }
+    if is_running(machine) {
+        if vm_counts::count_fault(statements, count, labels, label_count, names) {
+            return give_back(machine, Broken::Somewhere);
+        }
+        return run_within(
+            statements,
+            count,
+            data_length,
+            budget,
+            machine,
+            stack,
+            memory,
+        );
+    }
+    give_back(machine, Broken::No)
+}

@@ -1,0 +1,83 @@
+-- A start's answer and the world it leaves, side by side; and the parts of it that the code decides one after another.
+-- Assumes nothing.
+use Prim.Native.Nat.{ℕ, suc}
+use mathlib.Core.Bool.{Bool, true, not}
+use mathlib.Core.List.{List, []}
+use lib.Dec.{ltb, leb, eqb}
+use lib.ListN.{length, take}
+use Rattle.base_prelude.specs.Choice.{ifEq, ifTrue}
+use Rattle.base_limits.specs.Limits.{stackWords}
+use Rattle.base_limits.specs.Width.{memoryLimit}
+use Rattle.base_limits.specs.Fresh.{freshOf}
+use Rattle.base_limits.specs.declared.Width.{Width}
+use Rattle.prog_tables.specs.Tests.{both, oneOf, someBelow}
+use Rattle.prog_tables.specs.Statement.{Row}
+use Rattle.prog_tables.specs.Label.{Tables, rows, labelsOf, isData, isFunctionLabel}
+use Rattle.prog_tables.specs.Faults.{rowFault, labelFault}
+use Rattle.vm_definitions.specs.Access.{storeFrom}
+use Rattle.vm_definitions.specs.Frames.{mark, frameWords}
+use Rattle.vm_definitions.specs.Broken.{orElse, lowest, numbersBelow}
+use Rattle.vm_definitions.specs.Step.{World}
+use Rattle.vm_definitions.specs.Start.{startOf, startLeaves}
+use Rattle.vm_definitions.specs.Lent.{tablesOf, world}
+use Rattle.vm_definitions.specs.declared.Broken.{Broken}
+use Rattle.vm_definitions.specs.declared.Broken.the-variants.{No, Somewhere}
+use Rattle.vm_definitions.specs.declared.Opening.{Opening}
+use Rattle.vm_definitions.specs.declared.Started.{Started}
+use Rattle.vm_definitions.specs.declared.Started.the-variants.{Begun, Refused}
+
+pub record Opened : Type 0 where
+  pub answer : Started
+  pub world : World
+
+-- what the code gives back, with the stack and the memory at exit
+abbrev pub opened : Opening → List ℕ → List ℕ → Opened
+opened o st m = record { answer = o .answer; world = world (o .machine) st m }
+
+-- what a start is
+abbrev pub openingOf : Width → Tables → List ℕ → List ℕ → List ℕ → World → Opened
+openingOf w t bytes name args x = record { answer = startOf w t bytes name args x; world = startLeaves w t bytes name args x }
+
+-- the label tables alone
+abbrev pub labelTables : List ℕ → ℕ → List ℕ → Tables
+labelTables l k names = tablesOf [] 0 l k names 0
+
+-- no function of c rows at n
+abbrev pub noFunction : (ℕ → Row) → ℕ → ℕ → Bool
+noFunction f c n = not (both (ltb n c) (eqb (f n .kind) 1))
+
+-- a label of kind k with number n is broken, its name aside
+unfoldable pub aimFault : (ℕ → Row) → ℕ → ℕ → ℕ → ℕ → Bool
+aimFault f c d k n =
+    ifTrue (isData k) (ltb d n) (ifTrue (isFunctionLabel k) (noFunction f c n) (ifEq k 5 (leb c n) true))
+
+-- 35 of the rows, then of the labels
+unfoldable pub rowsBroken : Tables → Broken
+rowsBroken t =
+    orElse (lowest (rowFault (rows t) (t .count) (t .dataLength)) (numbersBelow (t .count)))
+    (ifTrue (someBelow (λ i. labelFault (rows t) (t .count) (t .dataLength) (labelsOf t i)) (t .labelCount)) Somewhere No)
+
+-- ---- the parts behind the label: function row g, its frame of `size` words, d bytes of data
+
+abbrev pub refusedWith : ℕ → World → Opened
+refusedWith k x = record { answer = Refused k; world = x }
+
+unfoldable pub begunAt : Width → ℕ → ℕ → ℕ → List ℕ → List ℕ → List ℕ → List ℕ → World
+begunAt w g size d bytes args st m =
+    record {
+      machine = freshOf (suc g) size d;
+      stack = storeFrom st 0 (frameWords (mark w) (mark w) d args size);
+      memory = storeFrom m 0 (take d bytes);
+    }
+
+-- 22, 23, or the first frame
+unfoldable pub fittedOf : Width → ℕ → ℕ → ℕ → List ℕ → List ℕ → World → Opened
+fittedOf w g size d bytes args x =
+    ifTrue (oneOf (ltb (length (x .memory)) d) (ltb (memoryLimit w) (length (x .memory)))) (refusedWith 22 x)
+    (ifTrue (oneOf (ltb (length (x .stack)) size) (ltb stackWords (length (x .stack)))) (refusedWith 23 x)
+    (record { answer = Begun; world = begunAt w g size d bytes args (x .stack) (x .memory) }))
+
+-- 21, then these
+unfoldable pub enteredOf : Width → (ℕ → Row) → ℕ → ℕ → List ℕ → List ℕ → World → Opened
+enteredOf w f g d bytes args x =
+    ifEq (length args) (f g .b) (fittedOf w g (f g .a) d bytes args x) (refusedWith 21 x)
