@@ -6,3 +6,4 @@ pub mod Labels
 pub mod NewNames
 pub mod LabelTests
 pub mod Sound
+pub mod Examples

@@ -1,3 +1,4 @@
+pub mod Opened
 pub mod Answers
 pub mod Invariant
 pub mod Chain
