@@ -96,7 +96,7 @@ static void different_names(void)
         put("%c%c%c%s", letters[i / 2704 % 52], letters[i / 52 % 52], letters[i % 52], i == 4095 ? "" : " ");
 }
 
-/* Names that agree in eight bytes and in the hash of the rest (crates/spelling, `mix`). */
+/* Names that agree in eight bytes and in the hash of the rest (crates/lex_spelling, `mix`). */
 enum { HALF = 38 * 38 * 38 * 38 };
 struct half {
     uint32_t hash, number;

@@ -37,14 +37,14 @@
  *         printf("number %u\n", (unsigned)number);
  *
  * Everything is proved: for all inputs and all buffers the answer and every word
- * of every buffer are those of one definition (voodoo_check: crates/tracker/specs
- * and crates/checker/specs; the others: crates/tracker/specs/Calls.antt over
- * crates/machine/specs and crates/answers/specs). The functions return for every
- * input, allocate nothing, keep nothing between calls and call nothing but memcpy
- * and memset, so any number of threads may call them at once, each with its own
- * buffers. Nothing checks that these declarations and the compiled code agree.
+ * of every buffer are those of one definition (voodoo_check: crates/c_voodoo/specs
+ * and crates/check_source/specs; the others: crates/c_voodoo/specs/Calls.antt over
+ * crates/vm_definitions/specs and crates/c_words/specs). The functions return for
+ * every input, allocate nothing, keep nothing between calls and call nothing but
+ * memcpy and memset, so any number of threads may call them at once, each with its
+ * own buffers. Nothing checks that these declarations and the compiled code agree.
  *
- * Link target/staticlib/libtracker.a (x86-64 Linux; `rt staticlib tracker`).
+ * Link target/staticlib/libc_voodoo.a (x86-64 Linux; `rt staticlib c_voodoo`).
  */
 #ifndef VOODOO_H
 #define VOODOO_H

@@ -1,4 +1,4 @@
-// Memory words, operands and expressions: each function is the definition of machine/specs at 32 bits.
+// Memory words, operands and expressions: each function is the definition of vm_definitions/specs at 32 bits.
 use base_word::Answer;
 use prog_tables::Operand;
 use vm_definitions::Read;
