@@ -9,4 +9,5 @@ pub mod Words
 pub mod Whole
 pub mod Unbroken
 pub mod Strong
+pub mod Samples
 pub mod Values

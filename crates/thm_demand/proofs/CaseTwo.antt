@@ -7,6 +7,7 @@ use Prim.Native.Nat.{ℕ, zero, suc}
 use lib.ListN.{length}
 use Rattle.base_limits.specs.declared.Width.the-variants.{Bits32}
 use Rattle.prog_tables.specs.Label.{Tables}
+use Rattle.prog_tables.proofs.Samples.{program}
 use Rattle.thm_acceptance.specs.Accepts.{isAccepted}
 use Rattle.check_source.specs.Check.{lent}
 use Rattle.app_listing.specs.Cases.{case1}
@@ -16,20 +17,6 @@ use Rattle.thm_demand.specs.CaseTwo.{case1-check, CaseTwo}
 use Rattle.thm_acceptance.proofs.Opened as checking
 use Rattle.vm_definitions.proofs.Opened as running
 use Rattle.thm_demand.proofs.Demand.{demand-three}
-
--- so many words, zeros behind those given
-abbrev padded : ℕ → List ℕ → List ℕ
-padded zero xs = []
-padded (suc n) [] = 0 ∷ padded n []
-padded (suc n) (x ∷ xs) = x ∷ padded n xs
-
-abbrev tableOf : ℕ → List (List ℕ) → List ℕ
-tableOf n [] = []
-tableOf n (r ∷ rs) = padded n r ++ tableOf n rs
-
-abbrev program : List (List ℕ) → List (List ℕ) → List (List ℕ) → ℕ → Tables
-program rs ls ns d =
-    record { statements = tableOf 27 rs; count = length rs; labels = tableOf 4 ls; labelCount = length ls; names = tableOf 64 ns; dataLength = d }
 
 -- the rows of case 1
 abbrev case1-program : Tables

@@ -5,6 +5,7 @@ use mathlib.Core.List.{List, [], _∷_, _++_}
 use Prim.Native.Nat.{ℕ, zero, suc}
 use Rattle.base_limits.specs.declared.Width.the-variants.{Bits32}
 use Rattle.prog_tables.specs.Label.{Tables}
+use Rattle.prog_tables.proofs.Samples.{program}
 use Rattle.check_source.specs.Check.{lent, checkOf}
 use Rattle.thm_acceptance.proofs.Opened.{opened}
 use Rattle.thm_soundness.specs.Program.{programBy, programOf}
@@ -24,25 +25,12 @@ source =
     ++ (114 ∷ 101 ∷ 116 ∷ 117 ∷ 114 ∷ 110 ∷ 32 ∷ 120 ∷ 10 ∷ [])
     ++ (101 ∷ 110 ∷ 100 ∷ 32 ∷ 102 ∷ 117 ∷ 110 ∷ 99 ∷ 116 ∷ 105 ∷ 111 ∷ 110 ∷ [])
 
--- so many words, zeros behind those given
-abbrev padded : ℕ → List ℕ → List ℕ
-padded zero xs = []
-padded (suc n) [] = 0 ∷ padded n []
-padded (suc n) (x ∷ xs) = x ∷ padded n xs
-
 abbrev expected : Tables
 expected =
-    record {
-      statements =
-          padded 27 (1 ∷ 0 ∷ 0 ∷ 0 ∷ 3 ∷ [])
-          ++ padded 27 (13 ∷ 0 ∷ 0 ∷ 1 ∷ 0 ∷ 0 ∷ 1 ∷ 0 ∷ 1 ∷ 0 ∷ 0 ∷ 3 ∷ 0 ∷ [])
-          ++ padded 27 (2 ∷ []);
-      count = 3;
-      labels = (1 ∷ 0 ∷ 0 ∷ 1 ∷ []) ++ (3 ∷ 0 ∷ 0 ∷ 1 ∷ []);
-      labelCount = 2;
-      names = padded 64 (120 ∷ []) ++ padded 64 (102 ∷ []);
-      dataLength = 1;
-    }
+    program
+    ((1 ∷ 0 ∷ 0 ∷ 0 ∷ 3 ∷ []) ∷ (13 ∷ 0 ∷ 0 ∷ 1 ∷ 0 ∷ 0 ∷ 1 ∷ 0 ∷ 1 ∷ 0 ∷ 0 ∷ 3 ∷ []) ∷ (2 ∷ []) ∷ [])
+    ((1 ∷ 0 ∷ 0 ∷ 1 ∷ []) ∷ (3 ∷ 0 ∷ 0 ∷ 1 ∷ []) ∷ [])
+    ((120 ∷ []) ∷ (102 ∷ []) ∷ []) 1
 
 program-left : programOf (checkOf Bits32 source (lent 160 81 8 128 1)) ≡ expected
 unfolding opened programBy

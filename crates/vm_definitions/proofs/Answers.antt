@@ -19,23 +19,9 @@ use Rattle.base_limits.specs.Fresh.{freshOf}
 use Rattle.vm_definitions.specs.Step.{World, After, runOf}
 use Rattle.vm_definitions.specs.Start.{startOf, startLeaves}
 use Rattle.vm_definitions.specs.Ledger.{started, counted, fromReturn, popped, countedIn, fed, ledgerOf}
+use Rattle.prog_tables.proofs.Samples.{program}
 use Rattle.vm_definitions.proofs.Opened.{opened}
 use Rattle.vm_definitions.specs.Causes.{causeOf, firstOf, operatorMeets, withFrame}
-
--- so many words, zeros behind those given
-abbrev padded : ℕ → List ℕ → List ℕ
-padded zero xs = []
-padded (suc n) [] = 0 ∷ padded n []
-padded (suc n) (x ∷ xs) = x ∷ padded n xs
-
-abbrev tableOf : ℕ → List (List ℕ) → List ℕ
-tableOf n [] = []
-tableOf n (r ∷ rs) = padded n r ++ tableOf n rs
-
--- statement rows, label rows, names, bytes of data
-abbrev program : List (List ℕ) → List (List ℕ) → List (List ℕ) → ℕ → Tables
-program rs ls ns d =
-    record { statements = tableOf 27 rs; count = length rs; labels = tableOf 4 ls; labelCount = length ls; names = tableOf 64 ns; dataLength = d }
 
 -- a state with the steps counted and the stack words in use, or a refused start
 data Came : Type 0 where
