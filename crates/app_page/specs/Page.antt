@@ -5,6 +5,7 @@ use mathlib.Core.List.{List, [], _++_}
 use lib.ListN.{length, take}
 use Rattle.base_prelude.specs.Choice.{ifLt, ifEq}
 use Rattle.base_prelude.specs.Lists.{overlay}
+use Rattle.prog_tables.specs.Layout.{exportedData, functionLabel, exportedFunction, placeLabel}
 use Rattle.prog_tables.specs.Statement.{rowAt}
 use Rattle.prog_tables.specs.Label.{Label, labelAt}
 use Rattle.app_page.specs.Bytes.{decimal, field, nameBytesOf, newlines, accepted-word, label-word, data-word, function-word, place-word, yes-word, no-word, refused-word, line-word, byte-word, line-end}
@@ -17,11 +18,11 @@ headLine statements labels size = accepted-word ++ field statements ++ field lab
 
 -- "kind (`data`, `function`, `place`)": data 1 and exported 2, function 3 and exported 4, place 5
 unfoldable pub kindWord : ℕ → List ℕ
-kindWord kind = ifLt kind 3 data-word (ifLt kind 5 function-word place-word)
+kindWord kind = ifLt kind functionLabel data-word (ifLt kind placeLabel function-word place-word)
 
 -- "`yes` or `no` for exported"
 unfoldable pub exportedWord : ℕ → List ℕ
-exportedWord kind = ifEq kind 2 yes-word (ifEq kind 4 yes-word no-word)
+exportedWord kind = ifEq kind exportedData yes-word (ifEq kind exportedFunction yes-word no-word)
 
 -- parameters and frame size
 unfoldable pub sizes : List ℕ → ℕ → List ℕ
@@ -29,7 +30,7 @@ sizes rows statement = field (rowAt rows statement .b) ++ field (rowAt rows stat
 
 -- "and for functions parameters and frame size"
 unfoldable pub functionSizes : List ℕ → ℕ → ℕ → List ℕ
-functionSizes rows kind statement = ifLt kind 3 [] (ifLt kind 5 (sizes rows statement) [])
+functionSizes rows kind statement = ifLt kind functionLabel [] (ifLt kind placeLabel (sizes rows statement) [])
 
 -- behind the name: "kind [..], address or statement number from 0, `yes` or `no`"
 unfoldable pub labelTail : List ℕ → ℕ → ℕ → List ℕ

@@ -1,5 +1,7 @@
 // The lister's page.
 use base_prelude::wide;
+use prog_tables::LabelKind;
+use prog_tables::Table;
 ghost use mathlib.Core.Path.{_≡_};
 ghost use mathlib.Core.List.{[], _∷_, _++_};
 ghost use Prim.Native.Nat.{_+_, _*_, _/_, _%_, _≤_, _<_};
@@ -155,10 +157,10 @@ fn put_kind(out: &mut [u8], at: usize, kind: u32) -> usize
     ensures { λ r. ⌜ sheet r (now (out .exit)) ≡ put (kindWord kind) (sheet at (now (out .entry))) ⌝ }
     ensures { λ r. ⌜ r ≤ at + 64 ⌝ }
 {
-    if kind < 3 {
+    if kind < LabelKind::FUNCTION {
         return put_text(out, at, b" data ");
     }
-    if kind < 5 {
+    if kind < LabelKind::PLACE {
         return put_text(out, at, b" function ");
     }
     put_text(out, at, b" place ")
@@ -169,10 +171,10 @@ fn put_exported(out: &mut [u8], at: usize, kind: u32) -> usize
     ensures { λ r. ⌜ sheet r (now (out .exit)) ≡ put (exportedWord kind) (sheet at (now (out .entry))) ⌝ }
     ensures { λ r. ⌜ r ≤ at + 64 ⌝ }
 {
-    if kind == 2 {
+    if kind == LabelKind::EXPORTED_DATA {
         return put_text(out, at, b" yes");
     }
-    if kind == 4 {
+    if kind == LabelKind::EXPORTED_FUNCTION {
         return put_text(out, at, b" yes");
     }
     put_text(out, at, b" no")
@@ -193,10 +195,10 @@ fn put_function(out: &mut [u8], at: usize, rows: &[u32], kind: u32, statement: u
     ensures { λ r. ⌜ sheet r (now (out .exit)) ≡ put (functionSizes (now (rows .entry)) kind statement) (sheet at (now (out .entry))) ⌝ }
     ensures { λ r. ⌜ r ≤ at + 64 ⌝ }
 {
-    if kind < 3 {
+    if kind < LabelKind::FUNCTION {
         return at;
     }
-    if kind < 5 {
+    if kind < LabelKind::PLACE {
         return put_sizes(out, at, rows, statement);
     }
     at
@@ -229,7 +231,7 @@ fn put_label(out: &mut [u8], at: usize, table: &[u32], names: &[u8], rows: &[u32
     ensures { λ r. ⌜ sheet r (now (out .exit)) ≡ put (labelLine (now (rows .entry)) (labelAt (now (table .entry)) (now (names .entry)) n)) (sheet at (now (out .entry))) ⌝ }
     ensures { λ r. ⌜ r ≤ at + 1024 ⌝ }
 {
-    let row = n as usize * 4;
+    let row = n as usize * Table::LABEL_ROW;
     let kind = prog_tables::word_at(table, row);
     let number = prog_tables::word_at(table, row + 1);
     let size = prog_tables::word_at(table, row + 3);

@@ -10,12 +10,14 @@ use Rattle.base_prelude.specs.Choice.{ifLt, ifTrue}
 use Rattle.base_prelude.specs.Fault.{none, keyNumber, keyPlace}
 use Rattle.base_prelude.specs.Lists.{zeros}
 use Rattle.base_limits.specs.declared.Width.{Width}
+use Rattle.base_limits.specs.Limits.{nameBytes, tokenRow}
 use Rattle.lex_source.specs.Lex.{Outcome, accepted, refused, lexOf}
 use Rattle.lex_source.specs.Rows.{tokenTable}
 use Rattle.parse_lines.specs.Tokens.{placeAt}
 use Rattle.parse_outline.specs.Outline.{Outlined, outlineOf}
 use Rattle.parse_outline.specs.declared.Parsed.{Parsed}
 use Rattle.parse_outline.specs.declared.Parsed.the-variants as parsed
+use Rattle.prog_tables.specs.Layout.{statementRow, labelRow}
 use Rattle.prog_tables.specs.Statement.{rowAt}
 use Rattle.res_skeleton.specs.Skeleton.{skeletonOf}
 use Rattle.res_frame_words.specs.Framing.{wordsOf}
@@ -64,10 +66,10 @@ refuse number place b =
 -- 16: "a lent table or data buffer is shorter than needed"
 unfoldable pub holds : Lent → ℕ → ℕ → ℕ → ℕ → Bool
 holds b n c l size =
-    ifLt (b .tokens) (n * 8) false
-    (ifLt (b .statements) (c * 27) false
-    (ifLt (b .labels) (l * 4) false
-    (ifLt (b .names) (l * 64) false
+    ifLt (b .tokens) (n * tokenRow) false
+    (ifLt (b .statements) (c * statementRow) false
+    (ifLt (b .labels) (l * labelRow) false
+    (ifLt (b .names) (l * nameBytes) false
     (ifLt (b .bytes) size false true))))
 
 -- what is known of an accepted source: its tokens, rows, label rows, and which labels are exported

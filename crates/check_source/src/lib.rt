@@ -103,16 +103,16 @@ fn can_hold(
 ) -> bool
     ensures { λ r. ⌜ r ≡ holds (lent tokens statements labels names bytes) n c l size ⌝ }
 {
-    if tokens < n as usize * 8 {
+    if tokens < n as usize * Machine::TOKEN_ROW {
         return false;
     }
-    if statements < c as usize * 27 {
+    if statements < c as usize * Table::STATEMENT_ROW {
         return false;
     }
-    if labels < l as usize * 4 {
+    if labels < l as usize * Table::LABEL_ROW {
         return false;
     }
-    if names < l as usize * 64 {
+    if names < l as usize * Machine::NAME_BYTES {
         return false;
     }
     if bytes < size as usize {

@@ -1,6 +1,7 @@
 -- Kinds of lines and of statement rows, one numbering for both: a line has the kind of the first row it makes.
 -- Assumes nothing.
 use Prim.Native.Nat.{ℕ}
+use Rattle.lang_kinds.specs.declared.Kinds.{Kinds}
 
 -- no row: the edge around all functions, and the source's end
 abbrev pub edge : ℕ
@@ -47,12 +48,24 @@ tailCall = 12
 abbrev pub return : ℕ
 return = 13
 
--- ifeq; then ifge, ifgt, ifle, iflt and ifne as 19
-abbrev pub firstTest : ℕ
-firstTest = 14
+-- the six tests
+abbrev pub ifeq : ℕ
+ifeq = 14
 
-abbrev pub lastTest : ℕ
-lastTest = 19
+abbrev pub ifge : ℕ
+ifge = 15
+
+abbrev pub ifgt : ℕ
+ifgt = 16
+
+abbrev pub ifle : ℕ
+ifle = 17
+
+abbrev pub iflt : ℕ
+iflt = 18
+
+abbrev pub ifne : ℕ
+ifne = 19
 
 -- bare
 abbrev pub else : ℕ
@@ -65,7 +78,11 @@ elseIf = 21
 abbrev pub endIf : ℕ
 endIf = 22
 
--- lines that make no row
+-- the kinds of rows are below it
+abbrev pub pastRows : ℕ
+pastRows = 23
+
+-- lines that make no row; 23 and 24 are kept free
 abbrev pub sectionData : ℕ
 sectionData = 25
 
@@ -100,3 +117,44 @@ leftOut = 34
 -- no incantation starts so: refusal 7
 abbrev pub unknown : ℕ
 unknown = 35
+
+-- all of them, as `all_kinds` gives them
+unfoldable pub kindsOf : Kinds
+kindsOf =
+    record {
+      edge = edge;
+      function = function;
+      «end_function» = endFunction;
+      block = block;
+      «end_block» = endBlock;
+      «let_line» = letLocal;
+      set = set;
+      «set_at» = setAt;
+      «set_byte» = setByte;
+      «set_word» = setWord;
+      goto = goto;
+      call = call;
+      «tail_call» = tailCall;
+      «return_line» = return;
+      ifeq = ifeq;
+      ifge = ifge;
+      ifgt = ifgt;
+      ifle = ifle;
+      iflt = iflt;
+      ifne = ifne;
+      «else_line» = else;
+      «else_if» = elseIf;
+      «end_if» = endIf;
+      «past_rows» = pastRows;
+      «section_data» = sectionData;
+      «section_functions» = sectionFunctions;
+      export = export;
+      align = align;
+      byte = byte;
+      word = word;
+      string = string;
+      group = group;
+      «end_group» = endGroup;
+      «left_out» = leftOut;
+      unknown = unknown;
+    }

@@ -1,2 +1,5 @@
 pub mod Kinds
+pub mod Grounds
+pub mod Tokens
+pub mod TokenRow
 pub mod Nesting

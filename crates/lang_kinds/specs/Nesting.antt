@@ -1,68 +1,112 @@
 -- Where a line may stand, what it opens and closes.
 -- Assumes nothing.
-use Prim.Native.Nat.{ℕ}
+use Prim.Native.Nat.{ℕ, suc}
 use mathlib.Core.List.{List, [], _∷_}
 use lib.ListN.{getD}
 use mathlib.Core.Bool.{Bool, true, false}
 use Rattle.base_prelude.specs.Choice.{ifLt, ifEq, ifTrue}
+use Rattle.lang_kinds.specs.Kinds as kind
+use Rattle.lang_kinds.specs.Grounds as ground
 use Rattle.lang_kinds.specs.declared.Range.{Range}
 
-abbrev pub range : ℕ → ℕ → Range
-range lo hi = record { lo = lo; hi = hi }
+-- the grounds from one to another
+abbrev pub span : ℕ → ℕ → Range
+span first last = record { lo = first; hi = suc last }
 
--- The ground on which a line stands: 0 before the first section, 1 functions, 2 data, 3 a group in data; with something open
--- 4 the function itself, 5 a block, 6 an if's arm behind a test, 7 an if's arm behind the bare else.
--- A kind may stand on the grounds from lo to before hi.
+abbrev pub only : ℕ → Range
+only g = span g g
+
+-- The grounds on which a kind may stand: of a statement, then of any line. Groups "hold the other four"; `let` stands in "no `if` inside that
+-- frame".
 unfoldable pub statementIn : ℕ → Range
 statementIn k =
-    ifEq k 1 (range 1 2)
-    (ifEq k 2 (range 4 5)
-    (ifEq k 4 (range 5 6)
-    (ifEq k 5 (range 4 6)
-    (ifLt k 20 (range 4 8)
-    (ifLt k 22 (range 6 7)
-    (ifEq k 22 (range 6 8)
-    (range 4 8)))))))
+    ifEq k kind.function (only ground.functionsSection)
+    (ifEq k kind.endFunction (only ground.inFunction)
+    (ifEq k kind.endBlock (only ground.inBlock)
+    (ifEq k kind.letLocal (span ground.inFunction ground.inBlock)
+    (ifLt k kind.else (span ground.inFunction ground.inElseArm)
+    (ifLt k kind.endIf (only ground.inTestArm)
+    (ifEq k kind.endIf (span ground.inTestArm ground.inElseArm)
+    (span ground.inFunction ground.inElseArm)))))))
 
 unfoldable pub standsIn : ℕ → Range
 standsIn k =
-    ifEq k 0 (range 0 3)
-    (ifLt k 25 (statementIn k)
-    (ifLt k 27 (range 0 3)
-    (ifEq k 27 (range 1 3)
-    (ifEq k 28 (range 1 4)
-    (ifLt k 32 (range 2 4)
-    (ifEq k 32 (range 2 3)
-    (ifEq k 33 (range 3 4)
-    (range 0 8))))))))
+    ifEq k kind.edge (span ground.beforeSections ground.dataSection)
+    (ifLt k kind.sectionData (statementIn k)
+    (ifLt k kind.export (span ground.beforeSections ground.dataSection)
+    (ifEq k kind.export (span ground.functionsSection ground.dataSection)
+    (ifEq k kind.align (span ground.functionsSection ground.group)
+    (ifLt k kind.group (span ground.dataSection ground.group)
+    (ifEq k kind.group (only ground.dataSection)
+    (ifEq k kind.endGroup (only ground.group)
+    (span ground.beforeSections ground.inElseArm))))))))
 
 -- "Statements are `function` to `end function`. An `else if..` line is two statements"
 unfoldable pub rowsOf : ℕ → ℕ
-rowsOf k = ifEq k 0 0 (ifEq k 21 2 (ifLt k 25 1 0))
+rowsOf k = ifEq k kind.edge 0 (ifEq k kind.elseIf 2 (ifLt k kind.sectionData 1 0))
 
 -- a function, a block, a test's arm and an else's arm are open behind their row
 unfoldable pub enters : ℕ → Bool
-enters k = ifEq k 1 true (ifEq k 3 true (ifLt k 14 false (ifLt k 21 true false)))
+enters k = ifEq k kind.function true (ifEq k kind.block true (ifLt k kind.ifeq false (ifLt k kind.elseIf true false)))
 
 -- ends, and what changes an arm, close what is open before them
 unfoldable pub leaves : ℕ → Bool
-leaves k = ifEq k 2 true (ifEq k 4 true (ifLt k 20 false (ifLt k 23 true false)))
+leaves k = ifEq k kind.endFunction true (ifEq k kind.endBlock true (ifLt k kind.else false (ifLt k kind.pastRows true false)))
 
 -- the ground behind a row of this kind that is open; 0 for no such row
 unfoldable pub groundOf : ℕ → ℕ
-groundOf k = ifEq k 1 4 (ifEq k 3 5 (ifLt k 14 0 (ifLt k 20 6 (ifEq k 20 7 0))))
+groundOf k =
+    ifEq k kind.function ground.inFunction
+    (ifEq k kind.block ground.inBlock
+    (ifLt k kind.ifeq 0
+    (ifLt k kind.else ground.inTestArm
+    (ifEq k kind.else ground.inElseArm
+    0))))
 
 -- a function or a block: a frame, in which locals live
 unfoldable pub isFrame : ℕ → Bool
-isFrame k = ifEq k 1 true (ifEq k 3 true false)
+isFrame k = ifEq k kind.function true (ifEq k kind.block true false)
 
 -- the kind of a line by the number of its magic word, where that alone decides; `set`, `else`, `end` and `section` look on. From 0:
 -- no word, section, import, export, align, byte, word, string, group, function, block, end, else, if, call, goto, let, return,
 -- set, set-byte, set-word, tail-call, the five save- and restore- words, the six tests
 abbrev pub wordKinds : List ℕ
 wordKinds =
-    35 ∷ 35 ∷ 34 ∷ 27 ∷ 28 ∷ 29 ∷ 30 ∷ 31 ∷ 32 ∷ 1 ∷ 3 ∷ 35 ∷ 20 ∷ 35 ∷ 11 ∷ 10 ∷ 5 ∷ 13 ∷ 6 ∷ 8 ∷ 9 ∷ 12 ∷ 34 ∷ 34 ∷ 34 ∷ 34 ∷ 34 ∷ 14 ∷ 15 ∷ 16 ∷ 17 ∷ 18 ∷ 19 ∷ []
+    kind.unknown ∷
+    kind.unknown ∷
+    kind.leftOut ∷
+    kind.export ∷
+    kind.align ∷
+    kind.byte ∷
+    kind.word ∷
+    kind.string ∷
+    kind.group ∷
+    kind.function ∷
+    kind.block ∷
+    kind.unknown ∷
+    kind.else ∷
+    kind.unknown ∷
+    kind.call ∷
+    kind.goto ∷
+    kind.letLocal ∷
+    kind.return ∷
+    kind.set ∷
+    kind.setByte ∷
+    kind.setWord ∷
+    kind.tailCall ∷
+    kind.leftOut ∷
+    kind.leftOut ∷
+    kind.leftOut ∷
+    kind.leftOut ∷
+    kind.leftOut ∷
+    kind.ifeq ∷
+    kind.ifge ∷
+    kind.ifgt ∷
+    kind.ifle ∷
+    kind.iflt ∷
+    kind.ifne ∷
+    []
 
 -- operators and other names start no line
 unfoldable pub kindOfWord : ℕ → ℕ
-kindOfWord w = getD wordKinds w 35
+kindOfWord w = getD wordKinds w kind.unknown

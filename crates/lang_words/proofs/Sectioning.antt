@@ -8,21 +8,22 @@ use Rattle.base_prelude.specs.Lists.{sameList}
 use Rattle.base_prelude.proofs.Choice.{is-yes, is-no}
 use Rattle.base_prelude.specs.Choice.{ifEq}
 use Rattle.base_prelude.proofs.Choice.{is-eq, is-ne}
+use Rattle.lang_words.specs.Numbers as word
 use Rattle.lang_words.specs.Words.{numberOf}
-use Rattle.lang_words.specs.Sections.{data-name, functions-name, code-name, w-data, w-functions, w-code, sectionOf, knownOf}
+use Rattle.lang_words.specs.Sections.{data-name, functions-name, code-name, sectionOf, knownOf}
 
 module _ (name : List ℕ) (a : Bool) (p : a ≡ sameList name data-name) where
-  pub is-data : a ≡ true → w-data ≡ sectionOf name
+  pub is-data : a ≡ true → word.dataSection ≡ sectionOf name
   unfolding sectionOf
   is-data e = is-yes _ _ _ _ (sym p ∙ e) refl
 
   module _ (n : a ≡ false) (b : Bool) (q : b ≡ sameList name functions-name) where
-    pub is-functions : b ≡ true → w-functions ≡ sectionOf name
+    pub is-functions : b ≡ true → word.functionsSection ≡ sectionOf name
     unfolding sectionOf
     is-functions e = is-no _ _ _ _ (sym p ∙ n) (is-yes _ _ _ _ (sym q ∙ e) refl)
 
     module _ (m : b ≡ false) (c : Bool) (s : c ≡ sameList name code-name) where
-      pub is-code : c ≡ true → w-code ≡ sectionOf name
+      pub is-code : c ≡ true → word.codeSection ≡ sectionOf name
       unfolding sectionOf
       is-code e = is-no _ _ _ _ (sym p ∙ n) (is-no _ _ _ _ (sym q ∙ m) (is-yes _ _ _ _ (sym s ∙ e) refl))
 

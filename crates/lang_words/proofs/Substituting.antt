@@ -6,20 +6,20 @@ use mathlib.Core.List.{List}
 use Prim.Native.Nat.{ℕ}
 use Rattle.base_prelude.specs.Lists.{sameList}
 use Rattle.base_prelude.proofs.Choice.{is-yes, is-no}
-use Rattle.lang_words.specs.Substitutes.{bits-per-word, bytes-per-word, saved-frame-size, s-bits-per-word, s-bytes-per-word, s-saved-frame-size, substituteOf}
+use Rattle.lang_words.specs.Substitutes.{bits-per-word, bytes-per-word, saved-frame-size, bitsPerWord, bytesPerWord, savedFrameSize, substituteOf}
 
 module _ (name : List ℕ) (a : Bool) (p : a ≡ sameList name bits-per-word) where
-  pub is-bits : a ≡ true → s-bits-per-word ≡ substituteOf name
+  pub is-bits : a ≡ true → bitsPerWord ≡ substituteOf name
   unfolding substituteOf
   is-bits e = is-yes _ _ _ _ (sym p ∙ e) refl
 
   module _ (n : a ≡ false) (b : Bool) (q : b ≡ sameList name bytes-per-word) where
-    pub is-bytes : b ≡ true → s-bytes-per-word ≡ substituteOf name
+    pub is-bytes : b ≡ true → bytesPerWord ≡ substituteOf name
     unfolding substituteOf
     is-bytes e = is-no _ _ _ _ (sym p ∙ n) (is-yes _ _ _ _ (sym q ∙ e) refl)
 
     module _ (m : b ≡ false) (c : Bool) (s : c ≡ sameList name saved-frame-size) where
-      pub is-saved : c ≡ true → s-saved-frame-size ≡ substituteOf name
+      pub is-saved : c ≡ true → savedFrameSize ≡ substituteOf name
       unfolding substituteOf
       is-saved e = is-no _ _ _ _ (sym p ∙ n) (is-no _ _ _ _ (sym q ∙ m) (is-yes _ _ _ _ (sym s ∙ e) refl))
 

@@ -4,34 +4,26 @@ use Prim.Native.Nat.{ℕ}
 use mathlib.Core.List.{List, [], _∷_}
 use Rattle.base_prelude.specs.Choice.{ifEq, ifTrue}
 use Rattle.base_prelude.specs.Lists.{sameList}
+use Rattle.lang_words.specs.Numbers as word
 use Rattle.lang_words.specs.Words.{numberOf}
 
 -- data
 abbrev pub data-name : List ℕ
 data-name = 100 ∷ 97 ∷ 116 ∷ 97 ∷ []
 
-abbrev pub w-data : ℕ
-w-data = 52
-
 -- functions
 abbrev pub functions-name : List ℕ
 functions-name = 102 ∷ 117 ∷ 110 ∷ 99 ∷ 116 ∷ 105 ∷ 111 ∷ 110 ∷ 115 ∷ []
-
-abbrev pub w-functions : ℕ
-w-functions = 53
 
 -- code
 abbrev pub code-name : List ℕ
 code-name = 99 ∷ 111 ∷ 100 ∷ 101 ∷ []
 
-abbrev pub w-code : ℕ
-w-code = 54
-
 unfoldable pub sectionOf : List ℕ → ℕ
 sectionOf name =
-    ifTrue (sameList name data-name) w-data
-    (ifTrue (sameList name functions-name) w-functions
-    (ifTrue (sameList name code-name) w-code 0))
+    ifTrue (sameList name data-name) word.dataSection
+    (ifTrue (sameList name functions-name) word.functionsSection
+    (ifTrue (sameList name code-name) word.codeSection 0))
 
 -- the number of a reserved word or of a section's identifier, 0 for any other name
 unfoldable pub knownOf : List ℕ → ℕ

@@ -9,26 +9,26 @@ use Rattle.base_prelude.specs.Lists.{sameList}
 abbrev pub bits-per-word : List ℕ
 bits-per-word = 98 ∷ 105 ∷ 116 ∷ 115 ∷ 45 ∷ 112 ∷ 101 ∷ 114 ∷ 45 ∷ 119 ∷ 111 ∷ 114 ∷ 100 ∷ []
 
-abbrev pub s-bits-per-word : ℕ
-s-bits-per-word = 1
+abbrev pub bitsPerWord : ℕ
+bitsPerWord = 1
 
 -- bytes-per-word
 abbrev pub bytes-per-word : List ℕ
 bytes-per-word = 98 ∷ 121 ∷ 116 ∷ 101 ∷ 115 ∷ 45 ∷ 112 ∷ 101 ∷ 114 ∷ 45 ∷ 119 ∷ 111 ∷ 114 ∷ 100 ∷ []
 
-abbrev pub s-bytes-per-word : ℕ
-s-bytes-per-word = 2
+abbrev pub bytesPerWord : ℕ
+bytesPerWord = 2
 
 -- saved-frame-size
 abbrev pub saved-frame-size : List ℕ
 saved-frame-size = 115 ∷ 97 ∷ 118 ∷ 101 ∷ 100 ∷ 45 ∷ 102 ∷ 114 ∷ 97 ∷ 109 ∷ 101 ∷ 45 ∷ 115 ∷ 105 ∷ 122 ∷ 101 ∷ []
 
-abbrev pub s-saved-frame-size : ℕ
-s-saved-frame-size = 3
+abbrev pub savedFrameSize : ℕ
+savedFrameSize = 3
 
 -- the number of a substitute, 0 for any other name
 unfoldable pub substituteOf : List ℕ → ℕ
 substituteOf name =
-    ifTrue (sameList name bits-per-word) s-bits-per-word
-    (ifTrue (sameList name bytes-per-word) s-bytes-per-word
-    (ifTrue (sameList name saved-frame-size) s-saved-frame-size 0))
+    ifTrue (sameList name bits-per-word) bitsPerWord
+    (ifTrue (sameList name bytes-per-word) bytesPerWord
+    (ifTrue (sameList name saved-frame-size) savedFrameSize 0))

@@ -7,6 +7,7 @@ use mathlib.Core.List.{List, [], _∷_}
 use lib.Dec.{eqb}
 use Rattle.base_prelude.specs.Choice.{pick}
 use Rattle.base_prelude.specs.Lists.{sameList}
+use Rattle.lang_words.specs.Numbers as word
 
 pub record Entry : Type 0 where
   pub letters : List ℕ
@@ -23,57 +24,57 @@ nothing = entry [] 0 0 0
 
 unfoldable pub words : List Entry
 words =
-    entry (115 ∷ 101 ∷ 99 ∷ 116 ∷ 105 ∷ 111 ∷ 110 ∷ []) 1 1 1 ∷  -- section
-    entry (105 ∷ 109 ∷ 112 ∷ 111 ∷ 114 ∷ 116 ∷ []) 2 1 1 ∷  -- import
-    entry (101 ∷ 120 ∷ 112 ∷ 111 ∷ 114 ∷ 116 ∷ []) 3 1 1 ∷  -- export
-    entry (97 ∷ 108 ∷ 105 ∷ 103 ∷ 110 ∷ []) 4 0 1 ∷  -- align
-    entry (98 ∷ 121 ∷ 116 ∷ 101 ∷ []) 5 1 1 ∷  -- byte
-    entry (119 ∷ 111 ∷ 114 ∷ 100 ∷ []) 6 1 1 ∷  -- word
-    entry (115 ∷ 116 ∷ 114 ∷ 105 ∷ 110 ∷ 103 ∷ []) 7 1 1 ∷  -- string
-    entry (103 ∷ 114 ∷ 111 ∷ 117 ∷ 112 ∷ []) 8 0 0 ∷  -- group
-    entry (102 ∷ 117 ∷ 110 ∷ 99 ∷ 116 ∷ 105 ∷ 111 ∷ 110 ∷ []) 9 0 8 ∷  -- function
-    entry (98 ∷ 108 ∷ 111 ∷ 99 ∷ 107 ∷ []) 10 0 0 ∷  -- block
-    entry (101 ∷ 110 ∷ 100 ∷ []) 11 1 1 ∷  -- end
-    entry (101 ∷ 108 ∷ 115 ∷ 101 ∷ []) 12 0 3 ∷  -- else
-    entry (105 ∷ 102 ∷ []) 13 0 0 ∷  -- if
-    entry (99 ∷ 97 ∷ 108 ∷ 108 ∷ []) 14 1 9 ∷  -- call
-    entry (103 ∷ 111 ∷ 116 ∷ 111 ∷ []) 15 1 1 ∷  -- goto
-    entry (108 ∷ 101 ∷ 116 ∷ []) 16 2 11 ∷  -- let
-    entry (114 ∷ 101 ∷ 116 ∷ 117 ∷ 114 ∷ 110 ∷ []) 17 0 10 ∷  -- return
-    entry (115 ∷ 101 ∷ 116 ∷ []) 18 2 11 ∷  -- set
-    entry (115 ∷ 101 ∷ 116 ∷ 45 ∷ 98 ∷ 121 ∷ 116 ∷ 101 ∷ []) 19 3 3 ∷  -- set-byte
-    entry (115 ∷ 101 ∷ 116 ∷ 45 ∷ 119 ∷ 111 ∷ 114 ∷ 100 ∷ []) 20 3 3 ∷  -- set-word
-    entry (116 ∷ 97 ∷ 105 ∷ 108 ∷ 45 ∷ 99 ∷ 97 ∷ 108 ∷ 108 ∷ []) 21 1 9 ∷  -- tail-call
-    entry (115 ∷ 97 ∷ 118 ∷ 101 ∷ 45 ∷ 102 ∷ 114 ∷ 97 ∷ 109 ∷ 101 ∷ []) 22 1 1 ∷  -- save-frame
-    entry (115 ∷ 97 ∷ 118 ∷ 101 ∷ 45 ∷ 108 ∷ 111 ∷ 99 ∷ 97 ∷ 108 ∷ 115 ∷ []) 23 1 65 ∷  -- save-locals
-    entry (115 ∷ 97 ∷ 118 ∷ 101 ∷ 45 ∷ 102 ∷ 114 ∷ 97 ∷ 109 ∷ 101 ∷ 45 ∷ 97 ∷ 110 ∷ 100 ∷ 45 ∷ 108 ∷ 111 ∷ 99 ∷ 97 ∷ 108 ∷ 115 ∷ []) 24 1 65 ∷  -- save-frame-and-locals
-    entry (114 ∷ 101 ∷ 115 ∷ 116 ∷ 111 ∷ 114 ∷ 101 ∷ 45 ∷ 102 ∷ 114 ∷ 97 ∷ 109 ∷ 101 ∷ []) 25 1 1 ∷  -- restore-frame
-    entry (114 ∷ 101 ∷ 115 ∷ 116 ∷ 111 ∷ 114 ∷ 101 ∷ 45 ∷ 108 ∷ 111 ∷ 99 ∷ 97 ∷ 108 ∷ 115 ∷ []) 26 1 65 ∷  -- restore-locals
-    entry (105 ∷ 102 ∷ 101 ∷ 113 ∷ []) 27 2 2 ∷  -- ifeq
-    entry (105 ∷ 102 ∷ 103 ∷ 101 ∷ []) 28 2 2 ∷  -- ifge
-    entry (105 ∷ 102 ∷ 103 ∷ 116 ∷ []) 29 2 2 ∷  -- ifgt
-    entry (105 ∷ 102 ∷ 108 ∷ 101 ∷ []) 30 2 2 ∷  -- ifle
-    entry (105 ∷ 102 ∷ 108 ∷ 116 ∷ []) 31 2 2 ∷  -- iflt
-    entry (105 ∷ 102 ∷ 110 ∷ 101 ∷ []) 32 2 2 ∷  -- ifne
-    entry (97 ∷ 100 ∷ 100 ∷ []) 33 2 2 ∷  -- add
-    entry (97 ∷ 110 ∷ 100 ∷ []) 34 2 2 ∷  -- and
-    entry (97 ∷ 115 ∷ 114 ∷ []) 35 2 2 ∷  -- asr
-    entry (97 ∷ 117 ∷ 116 ∷ 111 ∷ 45 ∷ 98 ∷ 121 ∷ 116 ∷ 101 ∷ 115 ∷ []) 36 1 1 ∷  -- auto-bytes
-    entry (97 ∷ 117 ∷ 116 ∷ 111 ∷ 45 ∷ 119 ∷ 111 ∷ 114 ∷ 100 ∷ 115 ∷ []) 37 1 1 ∷  -- auto-words
-    entry (98 ∷ 115 ∷ 114 ∷ []) 38 2 2 ∷  -- bsr
-    entry (100 ∷ 105 ∷ 118 ∷ []) 39 2 2 ∷  -- div
-    entry (103 ∷ 101 ∷ 116 ∷ 45 ∷ 98 ∷ 121 ∷ 116 ∷ 101 ∷ []) 40 2 2 ∷  -- get-byte
-    entry (103 ∷ 101 ∷ 116 ∷ 45 ∷ 119 ∷ 111 ∷ 114 ∷ 100 ∷ []) 41 2 2 ∷  -- get-word
-    entry (109 ∷ 111 ∷ 100 ∷ []) 42 2 2 ∷  -- mod
-    entry (109 ∷ 117 ∷ 108 ∷ []) 43 2 2 ∷  -- mul
-    entry (110 ∷ 111 ∷ 116 ∷ []) 44 1 1 ∷  -- not
-    entry (111 ∷ 114 ∷ []) 45 2 2 ∷  -- or
-    entry (114 ∷ 111 ∷ 108 ∷ []) 46 2 2 ∷  -- rol
-    entry (114 ∷ 111 ∷ 114 ∷ []) 47 2 2 ∷  -- ror
-    entry (115 ∷ 104 ∷ 108 ∷ []) 48 2 2 ∷  -- shl
-    entry (115 ∷ 104 ∷ 114 ∷ []) 49 2 2 ∷  -- shr
-    entry (115 ∷ 117 ∷ 98 ∷ []) 50 2 2 ∷  -- sub
-    entry (120 ∷ 111 ∷ 114 ∷ []) 51 2 2 ∷  -- xor
+    entry (115 ∷ 101 ∷ 99 ∷ 116 ∷ 105 ∷ 111 ∷ 110 ∷ []) word.section 1 1 ∷  -- section
+    entry (105 ∷ 109 ∷ 112 ∷ 111 ∷ 114 ∷ 116 ∷ []) word.import 1 1 ∷  -- import
+    entry (101 ∷ 120 ∷ 112 ∷ 111 ∷ 114 ∷ 116 ∷ []) word.export 1 1 ∷  -- export
+    entry (97 ∷ 108 ∷ 105 ∷ 103 ∷ 110 ∷ []) word.align 0 1 ∷  -- align
+    entry (98 ∷ 121 ∷ 116 ∷ 101 ∷ []) word.byte 1 1 ∷  -- byte
+    entry (119 ∷ 111 ∷ 114 ∷ 100 ∷ []) word.word 1 1 ∷  -- word
+    entry (115 ∷ 116 ∷ 114 ∷ 105 ∷ 110 ∷ 103 ∷ []) word.string 1 1 ∷  -- string
+    entry (103 ∷ 114 ∷ 111 ∷ 117 ∷ 112 ∷ []) word.group 0 0 ∷  -- group
+    entry (102 ∷ 117 ∷ 110 ∷ 99 ∷ 116 ∷ 105 ∷ 111 ∷ 110 ∷ []) word.function 0 8 ∷  -- function
+    entry (98 ∷ 108 ∷ 111 ∷ 99 ∷ 107 ∷ []) word.block 0 0 ∷  -- block
+    entry (101 ∷ 110 ∷ 100 ∷ []) word.end 1 1 ∷  -- end
+    entry (101 ∷ 108 ∷ 115 ∷ 101 ∷ []) word.else 0 3 ∷  -- else
+    entry (105 ∷ 102 ∷ []) word.if 0 0 ∷  -- if
+    entry (99 ∷ 97 ∷ 108 ∷ 108 ∷ []) word.call 1 9 ∷  -- call
+    entry (103 ∷ 111 ∷ 116 ∷ 111 ∷ []) word.goto 1 1 ∷  -- goto
+    entry (108 ∷ 101 ∷ 116 ∷ []) word.letLocal 2 11 ∷  -- let
+    entry (114 ∷ 101 ∷ 116 ∷ 117 ∷ 114 ∷ 110 ∷ []) word.return 0 10 ∷  -- return
+    entry (115 ∷ 101 ∷ 116 ∷ []) word.set 2 11 ∷  -- set
+    entry (115 ∷ 101 ∷ 116 ∷ 45 ∷ 98 ∷ 121 ∷ 116 ∷ 101 ∷ []) word.setByte 3 3 ∷  -- set-byte
+    entry (115 ∷ 101 ∷ 116 ∷ 45 ∷ 119 ∷ 111 ∷ 114 ∷ 100 ∷ []) word.setWord 3 3 ∷  -- set-word
+    entry (116 ∷ 97 ∷ 105 ∷ 108 ∷ 45 ∷ 99 ∷ 97 ∷ 108 ∷ 108 ∷ []) word.tailCall 1 9 ∷  -- tail-call
+    entry (115 ∷ 97 ∷ 118 ∷ 101 ∷ 45 ∷ 102 ∷ 114 ∷ 97 ∷ 109 ∷ 101 ∷ []) word.saveFrame 1 1 ∷  -- save-frame
+    entry (115 ∷ 97 ∷ 118 ∷ 101 ∷ 45 ∷ 108 ∷ 111 ∷ 99 ∷ 97 ∷ 108 ∷ 115 ∷ []) word.saveLocals 1 65 ∷  -- save-locals
+    entry (115 ∷ 97 ∷ 118 ∷ 101 ∷ 45 ∷ 102 ∷ 114 ∷ 97 ∷ 109 ∷ 101 ∷ 45 ∷ 97 ∷ 110 ∷ 100 ∷ 45 ∷ 108 ∷ 111 ∷ 99 ∷ 97 ∷ 108 ∷ 115 ∷ []) word.saveFrameAndLocals 1 65 ∷  -- save-frame-and-locals
+    entry (114 ∷ 101 ∷ 115 ∷ 116 ∷ 111 ∷ 114 ∷ 101 ∷ 45 ∷ 102 ∷ 114 ∷ 97 ∷ 109 ∷ 101 ∷ []) word.restoreFrame 1 1 ∷  -- restore-frame
+    entry (114 ∷ 101 ∷ 115 ∷ 116 ∷ 111 ∷ 114 ∷ 101 ∷ 45 ∷ 108 ∷ 111 ∷ 99 ∷ 97 ∷ 108 ∷ 115 ∷ []) word.restoreLocals 1 65 ∷  -- restore-locals
+    entry (105 ∷ 102 ∷ 101 ∷ 113 ∷ []) word.ifeq 2 2 ∷  -- ifeq
+    entry (105 ∷ 102 ∷ 103 ∷ 101 ∷ []) word.ifge 2 2 ∷  -- ifge
+    entry (105 ∷ 102 ∷ 103 ∷ 116 ∷ []) word.ifgt 2 2 ∷  -- ifgt
+    entry (105 ∷ 102 ∷ 108 ∷ 101 ∷ []) word.ifle 2 2 ∷  -- ifle
+    entry (105 ∷ 102 ∷ 108 ∷ 116 ∷ []) word.iflt 2 2 ∷  -- iflt
+    entry (105 ∷ 102 ∷ 110 ∷ 101 ∷ []) word.ifne 2 2 ∷  -- ifne
+    entry (97 ∷ 100 ∷ 100 ∷ []) word.add 2 2 ∷  -- add
+    entry (97 ∷ 110 ∷ 100 ∷ []) word.and 2 2 ∷  -- and
+    entry (97 ∷ 115 ∷ 114 ∷ []) word.asr 2 2 ∷  -- asr
+    entry (97 ∷ 117 ∷ 116 ∷ 111 ∷ 45 ∷ 98 ∷ 121 ∷ 116 ∷ 101 ∷ 115 ∷ []) word.autoBytes 1 1 ∷  -- auto-bytes
+    entry (97 ∷ 117 ∷ 116 ∷ 111 ∷ 45 ∷ 119 ∷ 111 ∷ 114 ∷ 100 ∷ 115 ∷ []) word.autoWords 1 1 ∷  -- auto-words
+    entry (98 ∷ 115 ∷ 114 ∷ []) word.bsr 2 2 ∷  -- bsr
+    entry (100 ∷ 105 ∷ 118 ∷ []) word.div 2 2 ∷  -- div
+    entry (103 ∷ 101 ∷ 116 ∷ 45 ∷ 98 ∷ 121 ∷ 116 ∷ 101 ∷ []) word.getByte 2 2 ∷  -- get-byte
+    entry (103 ∷ 101 ∷ 116 ∷ 45 ∷ 119 ∷ 111 ∷ 114 ∷ 100 ∷ []) word.getWord 2 2 ∷  -- get-word
+    entry (109 ∷ 111 ∷ 100 ∷ []) word.modulo 2 2 ∷  -- mod
+    entry (109 ∷ 117 ∷ 108 ∷ []) word.mul 2 2 ∷  -- mul
+    entry (110 ∷ 111 ∷ 116 ∷ []) word.not 1 1 ∷  -- not
+    entry (111 ∷ 114 ∷ []) word.or 2 2 ∷  -- or
+    entry (114 ∷ 111 ∷ 108 ∷ []) word.rol 2 2 ∷  -- rol
+    entry (114 ∷ 111 ∷ 114 ∷ []) word.ror 2 2 ∷  -- ror
+    entry (115 ∷ 104 ∷ 108 ∷ []) word.shl 2 2 ∷  -- shl
+    entry (115 ∷ 104 ∷ 114 ∷ []) word.shr 2 2 ∷  -- shr
+    entry (115 ∷ 117 ∷ 98 ∷ []) word.sub 2 2 ∷  -- sub
+    entry (120 ∷ 111 ∷ 114 ∷ []) word.xor 2 2 ∷  -- xor
     []
 
 -- the first entry that passes a test

@@ -123,6 +123,9 @@ impl Word {
     pub const FUNCTIONS: u32 = 53;
 
     pub const CODE: u32 = 54;
+
+    // The numbers of reserved words are below it.
+    pub const PAST_WORDS: u32 = Word::DATA;
 }
 
 // The numbers of the substitutes.

@@ -1,4 +1,3 @@
-pub mod Kinds
 pub mod Number
 pub mod Gap
 pub mod Reading

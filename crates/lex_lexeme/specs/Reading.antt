@@ -7,13 +7,13 @@ use lib.ListN.{length}
 use Rattle.base_prelude.specs.Choice.{ifLt, ifEq, ifTrue}
 use Rattle.base_prelude.specs.Bytes.{byteAt}
 use Rattle.base_limits.specs.declared.Width.{Width}
+use Rattle.lang_kinds.specs.Tokens as token
 use Rattle.lex_spelling.specs.Classes.{isLetter, isDigit}
 use Rattle.lex_spelling.specs.Continuation.{joined}
 use Rattle.lex_spelling.specs.Text.{spelledAt, measured, nameAt, stringAt}
 use Rattle.lex_spelling.specs.declared.Spelled.{Spelled}
 use Rattle.lex_spelling.specs.declared.Ending.{Ending}
 use Rattle.lex_spelling.specs.declared.Ending.the-variants as ending
-use Rattle.lex_lexeme.specs.Kinds.{newline, label, symbol, substitute, atSymbol, atSubstitute, integer, atInteger, string}
 use Rattle.lex_lexeme.specs.Number.{Digits, digitsAt, valueOf, numberOf}
 use Rattle.lex_lexeme.specs.Gap.{gapEnd}
 use Rattle.lex_lexeme.specs.declared.Number.{Number}
@@ -42,8 +42,8 @@ valued kind first next value fits =
 -- "label (symbol directly followed by `:`)"; under a mark it stays what it is
 unfoldable pub symbolTo : List ℕ → ℕ → ℕ → ℕ → ℕ → ℕ → ℕ → Lexeme
 symbolTo s kind first start size hash p =
-    ifEq kind symbol
-    (ifEq (byteAt s p) 58 (texted label first start (p + 1) size hash) (texted symbol first start p size hash))
+    ifEq kind token.symbol
+    (ifEq (byteAt s p) 58 (texted token.label first start (p + 1) size hash) (texted token.symbol first start p size hash))
     (texted kind first start p size hash)
 
 unfoldable pub symbolEnd : List ℕ → ℕ → ℕ → ℕ → ℕ → ℕ → Ending → Reading
@@ -59,7 +59,7 @@ symbolAt s kind first start = symbolBy s kind first start (measured (spelledAt f
 
 unfoldable pub stringTo : List ℕ → ℕ → ℕ → ℕ → ℕ → Reading
 stringTo s first size hash p =
-    ifEq (byteAt s p) 34 (Whole (texted string first (first + 1) (joined s (p + 1)) size hash)) (Open first)
+    ifEq (byteAt s p) 34 (Whole (texted token.string first (first + 1) (joined s (p + 1)) size hash)) (Open first)
 
 unfoldable pub stringEnd : List ℕ → ℕ → ℕ → ℕ → Ending → Reading
 stringEnd s first size hash (ending.Stopped p) = stringTo s first size hash p
@@ -101,9 +101,9 @@ markedAt s kind first at = markedFrom s kind first (joined s at)
 
 unfoldable pub atFrom : Width → List ℕ → ℕ → ℕ → Reading
 atFrom w s first at =
-    ifEq (byteAt s at) 37 (markedAt s atSubstitute first (at + 1))
-    (ifTrue (startsSymbol (byteAt s at)) (symbolAt s atSymbol first at)
-    (ifTrue (startsInteger (byteAt s at)) (integerAt w s atInteger first at)
+    ifEq (byteAt s at) 37 (markedAt s token.atSubstitute first (at + 1))
+    (ifTrue (startsSymbol (byteAt s at)) (symbolAt s token.atSymbol first at)
+    (ifTrue (startsInteger (byteAt s at)) (integerAt w s token.atInteger first at)
     (Lone first)))
 
 -- "`@` directly before an integer, symbol or substitute, as one token"
@@ -113,17 +113,17 @@ atRead w s first = atFrom w s first (joined s (first + 1))
 -- a token that starts with no mark; "no token can be read here": the byte itself
 unfoldable pub plainRead : Width → List ℕ → ℕ → ℕ → Reading
 plainRead w s at c =
-    ifTrue (startsSymbol c) (symbolAt s symbol at at)
-    (ifTrue (startsInteger c) (integerAt w s integer at at)
+    ifTrue (startsSymbol c) (symbolAt s token.symbol at at)
+    (ifTrue (startsInteger c) (integerAt w s token.integer at at)
     (Lone at))
 
 -- the token at a place
 unfoldable pub readAt : Width → List ℕ → ℕ → Reading
 readAt w s at =
     ifLt at (length s)
-    (ifEq (byteAt s at) 10 (Whole (valued newline at (at + 1) 0 true))
+    (ifEq (byteAt s at) 10 (Whole (valued token.newline at (at + 1) 0 true))
     (ifEq (byteAt s at) 34 (stringRead s at)
-    (ifEq (byteAt s at) 37 (markedAt s substitute at (at + 1))
+    (ifEq (byteAt s at) 37 (markedAt s token.substitute at (at + 1))
     (ifEq (byteAt s at) 64 (atRead w s at)
     (plainRead w s at (byteAt s at))))))
     End
@@ -134,15 +134,15 @@ nextRead w s at = readAt w s (gapEnd s at)
 
 -- a token with a name: a symbol, plain, as a label, or under `%` or `@`
 unfoldable pub isNamed : ℕ → Bool
-isNamed kind = ifLt kind 2 false (ifLt kind 7 true false)
+isNamed kind = ifLt kind token.label false (ifLt kind token.integer true false)
 
 -- where the symbol of a token starts: behind its marks
 unfoldable pub nameStart : List ℕ → ℕ → ℕ → ℕ
 nameStart s kind first =
-    ifLt kind 4 first
-    (ifEq kind 6 (joined s (joined s (first + 1) + 1))
+    ifLt kind token.substitute first
+    (ifEq kind token.atSubstitute (joined s (joined s (first + 1) + 1))
     (joined s (first + 1)))
 
 -- the decoded bytes of a name or a string
 unfoldable pub textOf : List ℕ → ℕ → ℕ → List ℕ
-textOf s kind start = ifTrue (isNamed kind) (nameAt s start) (ifEq kind 9 (stringAt s start) [])
+textOf s kind start = ifTrue (isNamed kind) (nameAt s start) (ifEq kind token.string (stringAt s start) [])

@@ -1,5 +1,6 @@
 // Tokens as they are read: gaps, integers, symbols, strings, and the marks `%` and `@`.
 use base_limits::Width;
+use lang_kinds::Token;
 use lex_spelling::Ending;
 ghost use mathlib.Core.Path.{_≡_};
 ghost use Prim.Native.Nat.{_+_, _*_, _≤_, _<_, _-_, _^_, min};
@@ -38,26 +39,6 @@ pub struct Lexeme {
     pub hash: u32,
     pub value: u32,
     pub fits: bool,
-}
-
-impl Lexeme {
-    pub const NEWLINE: u32 = 1;
-
-    pub const LABEL: u32 = 2;
-
-    pub const SYMBOL: u32 = 3;
-
-    pub const SUBSTITUTE: u32 = 4;
-
-    pub const AT_SYMBOL: u32 = 5;
-
-    pub const AT_SUBSTITUTE: u32 = 6;
-
-    pub const INTEGER: u32 = 7;
-
-    pub const AT_INTEGER: u32 = 8;
-
-    pub const STRING: u32 = 9;
 }
 
 // What is read at a place: the source's end, a byte that starts no token, a token with a bad escape, a string that does not
@@ -283,11 +264,11 @@ fn symbol_to(
     requires { ⌜ p ≤ length (now s) ⌝ }
     ensures { λ r. ⌜ r ≡ symbolTo (now (s .entry)) kind first start size hash p ⌝ }
 {
-    if kind == Lexeme::SYMBOL {
+    if kind == Token::SYMBOL {
         if base_prelude::byte_at(s, p) == 58 {
-            return with_text(Lexeme::LABEL, first, start, p + 1, size, hash);
+            return with_text(Token::LABEL, first, start, p + 1, size, hash);
         }
-        return with_text(Lexeme::SYMBOL, first, start, p, size, hash);
+        return with_text(Token::SYMBOL, first, start, p, size, hash);
     }
     with_text(kind, first, start, p, size, hash)
 }
@@ -326,7 +307,7 @@ fn string_to(s: &[u8], first: usize, size: usize, hash: u32, p: usize) -> Readin
 {
     if base_prelude::byte_at(s, p) == 34 {
         return Reading::Whole(with_text(
-            Lexeme::STRING,
+            Token::STRING,
             first,
             first + 1,
             lex_spelling::join(s, p + 1),
@@ -415,13 +396,13 @@ fn at_from(w: Width, s: &[u8], first: usize, at: usize) -> Reading
 {
     let c = base_prelude::byte_at(s, at);
     if c == 37 {
-        return read_marked(s, Lexeme::AT_SUBSTITUTE, first, at + 1);
+        return read_marked(s, Token::AT_SUBSTITUTE, first, at + 1);
     }
     if starts_symbol(c) {
-        return read_symbol(s, Lexeme::AT_SYMBOL, first, at);
+        return read_symbol(s, Token::AT_SYMBOL, first, at);
     }
     if starts_integer(c) {
-        return read_integer(w, s, Lexeme::AT_INTEGER, first, at);
+        return read_integer(w, s, Token::AT_INTEGER, first, at);
     }
     Reading::Lone(first)
 }
@@ -440,10 +421,10 @@ fn read_plain(w: Width, s: &[u8], at: usize, c: u32) -> Reading
     ensures { λ r. ⌜ r ≡ plainRead w (now (s .entry)) at c ⌝ }
 {
     if starts_symbol(c) {
-        return read_symbol(s, Lexeme::SYMBOL, at, at);
+        return read_symbol(s, Token::SYMBOL, at, at);
     }
     if starts_integer(c) {
-        return read_integer(w, s, Lexeme::INTEGER, at, at);
+        return read_integer(w, s, Token::INTEGER, at, at);
     }
     Reading::Lone(at)
 }
@@ -457,13 +438,13 @@ fn read_token(w: Width, s: &[u8], at: usize) -> Reading
     }
     let c = base_prelude::byte_at(s, at);
     if c == 10 {
-        return Reading::Whole(with_value(Lexeme::NEWLINE, at, at + 1, 0, true));
+        return Reading::Whole(with_value(Token::NEWLINE, at, at + 1, 0, true));
     }
     if c == 34 {
         return read_string(s, at);
     }
     if c == 37 {
-        return read_marked(s, Lexeme::SUBSTITUTE, at, at + 1);
+        return read_marked(s, Token::SUBSTITUTE, at, at + 1);
     }
     if c == 64 {
         return read_at_sign(w, s, at);
@@ -482,10 +463,10 @@ pub fn next_token(w: Width, s: &[u8], at: usize) -> Reading
 pub fn is_named(kind: u32) -> bool
     ensures { λ r. ⌜ r ≡ isNamed kind ⌝ }
 {
-    if kind < 2 {
+    if kind < Token::LABEL {
         return false;
     }
-    if kind < 7 {
+    if kind < Token::INTEGER {
         return true;
     }
     false
@@ -496,10 +477,10 @@ pub fn name_start(s: &[u8], kind: u32, first: u32) -> usize
     ensures { λ r. ⌜ r ≡ nameStart (now (s .entry)) kind first ⌝ }
 {
     let at = first as usize;
-    if kind < 4 {
+    if kind < Token::SUBSTITUTE {
         return at;
     }
-    if kind == 6 {
+    if kind == Token::AT_SUBSTITUTE {
         return lex_spelling::join(s, lex_spelling::join(s, at + 1) + 1);
     }
     lex_spelling::join(s, at + 1)

@@ -6,6 +6,7 @@ use Rattle.base_prelude.specs.Choice.{ifLt, ifTrue}
 use Rattle.base_prelude.specs.Bytes.{byteAt}
 use Rattle.base_prelude.specs.Fault.{none, key, leastOf}
 use Rattle.base_limits.specs.Limits.{tokens, nameBytes}
+use Rattle.lang_kinds.specs.Tokens as token
 use Rattle.lex_spelling.specs.Classes.{isSeparator}
 use Rattle.lex_lexeme.specs.declared.Lexeme.{Lexeme}
 use Rattle.lex_lexeme.specs.declared.Reading.{Reading}
@@ -51,7 +52,7 @@ limitFault n place = ifLt n tokens none (key place 14)
 -- 2: "After an integer, string, symbol or substitute comes a blank, byte 10, `#` or the end .., else refusal 2 there; anything
 -- may follow a label"
 unfoldable pub followFault : List ℕ → Lexeme → ℕ
-followFault s x = ifLt (x .kind) 3 none (ifTrue (isSeparator (byteAt s (x .next))) none (key (x .next) 2))
+followFault s x = ifLt (x .kind) token.symbol none (ifTrue (isSeparator (byteAt s (x .next))) none (key (x .next) 2))
 
 unfoldable pub rangeRule : Reading → ℕ
 rangeRule End = none

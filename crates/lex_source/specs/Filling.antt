@@ -9,6 +9,8 @@ use Rattle.base_prelude.specs.Choice.{ifLt, ifEq, ifTrue}
 use Rattle.base_prelude.specs.Fault.{none}
 use Rattle.base_prelude.specs.Lists.{sameList}
 use Rattle.base_limits.specs.declared.Width.{Width}
+use Rattle.base_limits.specs.Limits.{tokenRow}
+use Rattle.lang_kinds.specs.TokenRow as field
 use Rattle.lang_words.specs.Sections.{knownOf}
 use Rattle.lang_words.specs.Substitutes.{substituteOf}
 use Rattle.lex_spelling.specs.Text.{nameAt}
@@ -25,9 +27,9 @@ use Rattle.lex_source.specs.declared.Turn.the-variants as turn
 -- whether the token of row k has the name that starts at a place; the hash is compared first
 unfoldable pub rowNamed : List ℕ → List ℕ → ℕ → ℕ → ℕ → Bool
 rowNamed s t k hash start =
-    ifEq (getD t (k * 8 + 6) 0) hash
-    (ifTrue (isNamed (getD t (k * 8) 0))
-    (sameList (nameAt s (nameStart s (getD t (k * 8) 0) (getD t (k * 8 + 1) 0))) (nameAt s start))
+    ifEq (getD t (k * tokenRow + field.hash) 0) hash
+    (ifTrue (isNamed (getD t (k * tokenRow) 0))
+    (sameList (nameAt s (nameStart s (getD t (k * tokenRow) 0) (getD t (k * tokenRow + field.first) 0))) (nameAt s start))
     false)
     false
 
@@ -69,7 +71,7 @@ wordsOf r = r .kind ∷ r .first ∷ r .next ∷ r .value ∷ r .name ∷ r .wor
 
 -- a row written as row n
 unfoldable pub putRow : List ℕ → ℕ → Row → List ℕ
-putRow t n r = take (n * 8) t ++ wordsOf r ++ drop (n * 8 + 8) t
+putRow t n r = take (n * tokenRow) t ++ wordsOf r ++ drop (n * tokenRow + tokenRow) t
 
 -- what one turn comes to, and the table then
 pub record Turned : Type 0 where

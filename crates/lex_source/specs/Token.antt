@@ -8,6 +8,8 @@ use Rattle.base_prelude.specs.Choice.{ifLt, ifEq, ifTrue}
 use Rattle.base_prelude.specs.Lists.{sameList}
 use Rattle.base_limits.specs.Width.{bitsOf, bytesOf}
 use Rattle.base_limits.specs.declared.Width.{Width}
+use Rattle.lang_kinds.specs.Tokens as token
+use Rattle.lang_words.specs.Substitutes as substitute
 use Rattle.lang_words.specs.Sections.{knownOf}
 use Rattle.lang_words.specs.Substitutes.{substituteOf}
 use Rattle.lex_lexeme.specs.Reading.{isNamed, nameStart, textOf}
@@ -25,11 +27,11 @@ pub record Token : Type 0 where
 
 -- under a `%`
 unfoldable pub isSubstitute : ℕ → Bool
-isSubstitute kind = ifEq kind 4 true (ifEq kind 6 true false)
+isSubstitute kind = ifEq kind token.substitute true (ifEq kind token.atSubstitute true false)
 
 -- "`%bits-per-word` is 32, `%bytes-per-word` 4, as integers everywhere"
 unfoldable pub substituteValue : Width → ℕ → ℕ
-substituteValue w k = ifEq k 1 (bitsOf w) (ifEq k 2 (bytesOf w) 0)
+substituteValue w k = ifEq k substitute.bitsPerWord (bitsOf w) (ifEq k substitute.bytesPerWord (bytesOf w) 0)
 
 -- which reserved word or section identifier a symbol is, which substitute a substitute is; 0 where it is none
 unfoldable pub wordOf : ℕ → List ℕ → ℕ
@@ -39,8 +41,8 @@ wordOf kind text = ifTrue (isNamed kind) (ifTrue (isSubstitute kind) (substitute
 unfoldable pub valueOf : Width → ℕ → ℕ → ℕ → ℕ → ℕ
 valueOf w kind value size word =
     ifTrue (isSubstitute kind) (substituteValue w word)
-    (ifEq kind 7 value
-    (ifEq kind 8 value
+    (ifEq kind token.integer value
+    (ifEq kind token.atInteger value
     size))
 
 -- whether a token has this name: all bytes agree

@@ -1,6 +1,9 @@
 // Source bytes to the token table.
 use base_limits::Machine;
 use base_limits::Width;
+use lang_kinds::Token;
+use lang_kinds::TokenRow;
+use lang_words::Substitutes;
 use lex_lexeme::Lexeme;
 use lex_lexeme::Reading;
 ghost use mathlib.Core.Path.{_≡_};
@@ -44,10 +47,10 @@ pub enum Turn {
 pub fn is_substitute(kind: u32) -> bool
     ensures { λ r. ⌜ r ≡ isSubstitute kind ⌝ }
 {
-    if kind == 4 {
+    if kind == Token::SUBSTITUTE {
         return true;
     }
-    if kind == 6 {
+    if kind == Token::AT_SUBSTITUTE {
         return true;
     }
     false
@@ -56,10 +59,10 @@ pub fn is_substitute(kind: u32) -> bool
 fn substitute_value(w: Width, k: u32) -> u32
     ensures { λ r. ⌜ r ≡ substituteValue w k ⌝ }
 {
-    if k == 1 {
+    if k == Substitutes::BITS_PER_WORD {
         return base_limits::bits_of(w);
     }
-    if k == 2 {
+    if k == Substitutes::BYTES_PER_WORD {
         return base_limits::bytes_of(w);
     }
     0
@@ -72,10 +75,10 @@ fn value_of(w: Width, kind: u32, value: u32, size: usize, word: u32) -> u32
     if is_substitute(kind) {
         return substitute_value(w, word);
     }
-    if kind == 7 {
+    if kind == Token::INTEGER {
         return value;
     }
-    if kind == 8 {
+    if kind == Token::AT_INTEGER {
         return value;
     }
     size as u32
@@ -114,7 +117,7 @@ fn limit_fault(n: usize, place: usize) -> u64
 fn follow_fault(s: &[u8], x: Lexeme) -> u64
     ensures { λ r. ⌜ r ≡ followFault (now (s .entry)) x ⌝ }
 {
-    if x.kind < 3 {
+    if x.kind < Token::SYMBOL {
         return 1099511627776;
     }
     let next = x.next;
@@ -149,10 +152,14 @@ fn row_named(s: &[u8], t: &[u32], k: usize, hash: u32, start: usize) -> bool
     requires { ⌜ k * 8 + 8 ≤ length (now t) ⌝ }
     ensures { λ r. ⌜ r ≡ rowNamed (now (s .entry)) (now (t .entry)) k hash start ⌝ }
 {
-    if t[k * 8 + 6] == hash {
-        let kind = t[k * 8];
+    if t[k * Machine::TOKEN_ROW + TokenRow::HASH] == hash {
+        let kind = t[k * Machine::TOKEN_ROW];
         if lex_lexeme::is_named(kind) {
-            return lex_spelling::same_name(s, lex_lexeme::name_start(s, kind, t[k * 8 + 1]), start);
+            return lex_spelling::same_name(
+                s,
+                lex_lexeme::name_start(s, kind, t[k * Machine::TOKEN_ROW + TokenRow::FIRST]),
+                start,
+            );
         }
         return false;
     }
@@ -232,14 +239,14 @@ fn put_row(t: &mut [u32], n: usize, r: Row)
     requires { ⌜ n * 8 + 8 ≤ length (now t) ⌝ }
     ensures { λ _. ⌜ now (t .exit) ≡ putRow (now (t .entry)) n r ⌝ }
 {
-    t[n * 8] = r.kind;
-    t[n * 8 + 1] = r.first;
-    t[n * 8 + 2] = r.next;
-    t[n * 8 + 3] = r.value;
-    t[n * 8 + 4] = r.name;
-    t[n * 8 + 5] = r.word;
-    t[n * 8 + 6] = r.hash;
-    t[n * 8 + 7] = 0;
+    t[n * Machine::TOKEN_ROW] = r.kind;
+    t[n * Machine::TOKEN_ROW + TokenRow::FIRST] = r.first;
+    t[n * Machine::TOKEN_ROW + TokenRow::NEXT] = r.next;
+    t[n * Machine::TOKEN_ROW + TokenRow::VALUE] = r.value;
+    t[n * Machine::TOKEN_ROW + TokenRow::NAME] = r.name;
+    t[n * Machine::TOKEN_ROW + TokenRow::WORD] = r.word;
+    t[n * Machine::TOKEN_ROW + TokenRow::HASH] = r.hash;
+    t[n * Machine::TOKEN_ROW + TokenRow::STATEMENT] = 0;
 }
 
 fn add_token(w: Width, s: &[u8], t: &mut [u32], n: usize, x: Lexeme)

@@ -7,24 +7,26 @@ use lib.ListN.{length, getD}
 use Rattle.base_prelude.specs.Choice.{ifLt, ifEq}
 use Rattle.base_prelude.specs.Fault.{key}
 use Rattle.base_prelude.specs.Walk.{Step, go, stop, walk}
+use Rattle.lang_kinds.specs.Tokens as token
+use Rattle.lang_kinds.specs.TokenRow as field
 
 -- word f of token i
 unfoldable pub tokenWord : List ℕ → ℕ → ℕ → ℕ
 tokenWord t i f = getD t (i * 8 + f) 0
 
 abbrev pub kindAt : List ℕ → ℕ → ℕ
-kindAt t i = tokenWord t i 0
+kindAt t i = tokenWord t i field.kind
 
 abbrev pub valueAt : List ℕ → ℕ → ℕ
-valueAt t i = tokenWord t i 3
+valueAt t i = tokenWord t i field.value
 
 -- the number of the reserved word, section identifier or substitute
 abbrev pub wordAt : List ℕ → ℕ → ℕ
-wordAt t i = tokenWord t i 5
+wordAt t i = tokenWord t i field.word
 
 -- a token's place; the source's length n at its end
 unfoldable pub placeAt : List ℕ → ℕ → ℕ → ℕ
-placeAt t n i = ifEq (kindAt t i) 0 n (tokenWord t i 1)
+placeAt t n i = ifEq (kindAt t i) token.sourceEnd n (tokenWord t i field.first)
 
 -- a fault at a token
 unfoldable pub keyAt : List ℕ → ℕ → ℕ → ℕ → ℕ

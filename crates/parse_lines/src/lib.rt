@@ -1,4 +1,9 @@
 // Units and lines of tokens, and the rules that need no state.
+use lang_kinds::Kind;
+use lang_kinds::Token;
+use lang_kinds::TokenRow;
+use lang_words::Substitutes;
+use lang_words::Word;
 ghost use mathlib.Core.Path.{_≡_};
 ghost use Prim.Native.Nat.{_+_, _*_, _-_, _^_, _≤_, _<_};
 ghost use lib.ListN.{length};
@@ -25,29 +30,29 @@ pub fn token_word(t: &[u32], i: u32, f: usize) -> u32
 pub fn kind_at(t: &[u32], i: u32) -> u32
     ensures { λ r. ⌜ r ≡ tokenWord (now (t .entry)) i 0 ⌝ }
 {
-    token_word(t, i, 0)
+    token_word(t, i, TokenRow::KIND)
 }
 
 pub fn value_at(t: &[u32], i: u32) -> u32
     ensures { λ r. ⌜ r ≡ tokenWord (now (t .entry)) i 3 ⌝ }
 {
-    token_word(t, i, 3)
+    token_word(t, i, TokenRow::VALUE)
 }
 
 pub fn word_at(t: &[u32], i: u32) -> u32
     ensures { λ r. ⌜ r ≡ tokenWord (now (t .entry)) i 5 ⌝ }
 {
-    token_word(t, i, 5)
+    token_word(t, i, TokenRow::WORD)
 }
 
 // A token's place; the source's length n at its end.
 pub fn place_at(t: &[u32], n: u32, i: u32) -> u32
     ensures { λ r. ⌜ r ≡ placeAt (now (t .entry)) n i ⌝ }
 {
-    if kind_at(t, i) == 0 {
+    if kind_at(t, i) == Token::SOURCE_END {
         return n;
     }
-    token_word(t, i, 1)
+    token_word(t, i, TokenRow::FIRST)
 }
 
 pub fn key_at(t: &[u32], n: u32, i: u32, number: u32) -> u64
@@ -94,7 +99,7 @@ fn span_from(t: &[u32], first: u32, word: u32) -> Span
     Span {
         first: first,
         word: word,
-        next: skip_kinds(t, 2, 16, word + 1),
+        next: skip_kinds(t, Token::LABEL, Token::PAST_TOKENS, word + 1),
     }
 }
 
@@ -102,7 +107,11 @@ fn span_of(t: &[u32], first: u32) -> Span
     requires { ⌜ (length (now t) ≡ 32768) × (first ≤ 4097) ⌝ }
     ensures { λ r. ⌜ r ≡ spanOf (now (t .entry)) first ⌝ }
 {
-    span_from(t, first, skip_kinds(t, 1, 3, first))
+    span_from(
+        t,
+        first,
+        skip_kinds(t, Token::NEWLINE, Token::SYMBOL, first),
+    )
 }
 
 // The unit that starts at a token.
@@ -110,100 +119,100 @@ pub fn unit_at(t: &[u32], at: u32) -> Span
     requires { ⌜ (length (now t) ≡ 32768) × (at ≤ 4097) ⌝ }
     ensures { λ r. ⌜ r ≡ unitAt (now (t .entry)) at ⌝ }
 {
-    span_of(t, skip_kinds(t, 1, 2, at))
+    span_of(t, skip_kinds(t, Token::NEWLINE, Token::LABEL, at))
 }
 
 fn section_kind(w: u32) -> u32
     ensures { λ r. ⌜ r ≡ sectionKind w ⌝ }
 {
-    if w == 52 {
-        return 25;
+    if w == Word::DATA {
+        return Kind::SECTION_DATA;
     }
-    if w == 53 {
-        return 26;
+    if w == Word::FUNCTIONS {
+        return Kind::SECTION_FUNCTIONS;
     }
-    if w == 54 {
-        return 34;
+    if w == Word::CODE {
+        return Kind::LEFT_OUT;
     }
-    35
+    Kind::UNKNOWN
 }
 
 fn end_kind(w: u32) -> u32
     ensures { λ r. ⌜ r ≡ endKind w ⌝ }
 {
-    if w == 9 {
-        return 2;
+    if w == Word::FUNCTION {
+        return Kind::END_FUNCTION;
     }
-    if w == 10 {
-        return 4;
+    if w == Word::BLOCK {
+        return Kind::END_BLOCK;
     }
-    if w == 13 {
-        return 22;
+    if w == Word::IF {
+        return Kind::END_IF;
     }
-    if w == 8 {
-        return 33;
+    if w == Word::GROUP {
+        return Kind::END_GROUP;
     }
-    35
+    Kind::UNKNOWN
 }
 
 fn test_kind(w: u32) -> u32
     ensures { λ r. ⌜ r ≡ testKind w ⌝ }
 {
-    if w < 27 {
-        return 35;
+    if w < Word::IFEQ {
+        return Kind::UNKNOWN;
     }
-    if w < 33 {
-        return 21;
+    if w < Word::ADD {
+        return Kind::ELSE_IF;
     }
-    35
+    Kind::UNKNOWN
 }
 
 fn else_kind(kind: u32, w: u32) -> u32
     ensures { λ r. ⌜ r ≡ elseKind kind w ⌝ }
 {
-    if kind < 2 {
-        return 20;
+    if kind < Token::LABEL {
+        return Kind::ELSE;
     }
-    if kind == 3 {
+    if kind == Token::SYMBOL {
         return test_kind(w);
     }
-    35
+    Kind::UNKNOWN
 }
 
 fn set_kind(kind: u32) -> u32
     ensures { λ r. ⌜ r ≡ setKind kind ⌝ }
 {
-    if kind == 5 {
-        return 7;
+    if kind == Token::AT_SYMBOL {
+        return Kind::SET_AT;
     }
-    if kind == 6 {
-        return 7;
+    if kind == Token::AT_SUBSTITUTE {
+        return Kind::SET_AT;
     }
-    if kind == 8 {
-        return 7;
+    if kind == Token::AT_INTEGER {
+        return Kind::SET_AT;
     }
-    6
+    Kind::SET
 }
 
 fn symbol_kind(w: u32, kind: u32, second: u32) -> u32
     ensures { λ r. ⌜ r ≡ symbolKind w kind second ⌝ }
 {
-    if w == 1 {
-        if kind == 3 {
+    if w == Word::SECTION {
+        if kind == Token::SYMBOL {
             return section_kind(second);
         }
-        return 35;
+        return Kind::UNKNOWN;
     }
-    if w == 11 {
-        if kind == 3 {
+    if w == Word::END {
+        if kind == Token::SYMBOL {
             return end_kind(second);
         }
-        return 35;
+        return Kind::UNKNOWN;
     }
-    if w == 12 {
+    if w == Word::ELSE {
         return else_kind(kind, second);
     }
-    if w == 18 {
+    if w == Word::SET {
         return set_kind(kind);
     }
     lang_kinds::kind_of_word(w)
@@ -212,22 +221,22 @@ fn symbol_kind(w: u32, kind: u32, second: u32) -> u32
 fn other_kind(kind: u32, w: u32) -> u32
     ensures { λ r. ⌜ r ≡ otherKind kind w ⌝ }
 {
-    if kind == 0 {
-        return 0;
+    if kind == Token::SOURCE_END {
+        return Kind::EDGE;
     }
-    if kind == 4 {
-        if w == 3 {
-            return 34;
+    if kind == Token::SUBSTITUTE {
+        if w == Substitutes::SAVED_FRAME_SIZE {
+            return Kind::LEFT_OUT;
         }
-        return 35;
+        return Kind::UNKNOWN;
     }
-    if kind == 6 {
-        if w == 3 {
-            return 34;
+    if kind == Token::AT_SUBSTITUTE {
+        if w == Substitutes::SAVED_FRAME_SIZE {
+            return Kind::LEFT_OUT;
         }
-        return 35;
+        return Kind::UNKNOWN;
     }
-    35
+    Kind::UNKNOWN
 }
 
 // The kind of the line whose magic word is a token.
@@ -237,7 +246,7 @@ pub fn line_kind(t: &[u32], i: u32) -> u32
 {
     let kind = kind_at(t, i);
     let w = word_at(t, i);
-    if kind == 3 {
+    if kind == Token::SYMBOL {
         return symbol_kind(w, kind_at(t, i + 1), word_at(t, i + 1));
     }
     other_kind(kind, w)

@@ -6,6 +6,10 @@ use lib.ListN.{length, take, drop}
 use Rattle.base_prelude.specs.Choice.{ifLt, ifEq}
 use Rattle.base_prelude.specs.Lists.{zeros}
 use Rattle.base_prelude.specs.Walk.{Step, go, stop, walk}
+use Rattle.lang_kinds.specs.Kinds as kind
+use Rattle.lang_kinds.specs.Grounds as ground
+use Rattle.lang_kinds.specs.Tokens as token
+use Rattle.prog_tables.specs.Layout.{dataLabel, functionLabel, placeLabel}
 use Rattle.lang_kinds.specs.Nesting.{rowsOf}
 use Rattle.parse_lines.specs.Tokens.{kindAt}
 use Rattle.parse_lines.specs.Units.{unitAt}
@@ -16,13 +20,13 @@ use Rattle.parse_outline.specs.declared.Marks.{Marks}
 use Rattle.parse_outline.specs.declared.Going.{Going}
 use Rattle.parse_outline.specs.declared.Going.the-variants.{On, Over}
 
--- 1 data, 3 function, 5 place: by the section, and whether the line is a function
+-- data, function or place: by the section, and whether the line is a function
 unfoldable pub labelKind : ℕ → ℕ → ℕ
-labelKind k section = ifLt section 2 (ifEq k 1 3 5) 1
+labelKind k section = ifLt section ground.dataSection (ifEq k kind.function functionLabel placeLabel) dataLabel
 
 -- in data the magic word's token, else the row that the line makes first
 unfoldable pub labelNumber : ℕ → ℕ → ℕ → ℕ
-labelNumber section word row = ifLt section 2 row word
+labelNumber section word row = ifLt section ground.dataSection row word
 
 -- label row c
 unfoldable pub putLabel : List ℕ → ℕ → ℕ → ℕ → ℕ → List ℕ
@@ -39,7 +43,7 @@ marked c x = record { count = c; table = x }
 -- a token before the magic word: a label, or a newline
 unfoldable pub markToken : List ℕ → ℕ → ℕ → ℕ → Marked → Marked
 markToken t i kind number m =
-    ifEq (kindAt t i) 2 (marked (m .count + 1) (putLabel (m .table) (m .count) i kind number)) m
+    ifEq (kindAt t i) token.label (marked (m .count + 1) (putLabel (m .table) (m .count) i kind number)) m
 
 unfoldable pub markFrom : ℕ → List ℕ → ℕ → ℕ → ℕ → Marked → Marked
 markFrom zero t i kind number m = m
@@ -62,7 +66,7 @@ marksBehind u k s labels = record { at = u .next; row = s .row + rowsOf k; secti
 
 unfoldable pub markOn : List ℕ → Span → ℕ → Marking → Step Marking (List ℕ)
 markOn t u k m =
-    ifEq k 0 (stop (markUnit t u k (m .state) (m .table) .table))
+    ifEq k kind.edge (stop (markUnit t u k (m .state) (m .table) .table))
     (go (marking (marksBehind u k (m .state) (markUnit t u k (m .state) (m .table) .count)) (markUnit t u k (m .state) (m .table) .table)))
 
 -- unit after unit, to the source's end
@@ -78,7 +82,7 @@ unfoldable pub marksFrom : List ℕ → Marking → List ℕ
 marksFrom t m = walk (markStep t) [] (suc (length t)) m
 
 abbrev pub firstMarks : Marks
-firstMarks = record { at = 0; row = 1; section = 0; labels = 0 }
+firstMarks = record { at = 0; row = 1; section = ground.beforeSections; labels = 0 }
 
 -- the label rows of the tokens t
 unfoldable pub labelRows : List ℕ → List ℕ

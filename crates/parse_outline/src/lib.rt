@@ -1,8 +1,12 @@
 // The outline as a whole: statement rows, label rows, and the stage's answer.
 use base_limits::Machine;
 use base_limits::Width;
+use lang_kinds::Ground;
+use lang_kinds::Kind;
+use lang_kinds::Token;
 use parse_lines::Span;
 use parse_units::Verdict;
+use prog_tables::LabelKind;
 ghost use mathlib.Core.Path.{_≡_};
 ghost use Prim.Native.Nat.{_+_, _*_, _-_, _≤_, _<_};
 ghost use lib.ListN.{length};
@@ -41,19 +45,19 @@ pub struct Marks {
 fn label_kind(k: u32, section: u32) -> u32
     ensures { λ r. ⌜ r ≡ labelKind k section ⌝ }
 {
-    if section < 2 {
-        if k == 1 {
-            return 3;
+    if section < Ground::DATA_SECTION {
+        if k == Kind::FUNCTION {
+            return LabelKind::FUNCTION;
         }
-        return 5;
+        return LabelKind::PLACE;
     }
-    1
+    LabelKind::DATA
 }
 
 fn label_number(section: u32, word: u32, row: u32) -> u32
     ensures { λ r. ⌜ r ≡ labelNumber section word row ⌝ }
 {
-    if section < 2 {
+    if section < Ground::DATA_SECTION {
         return row;
     }
     word
@@ -83,7 +87,7 @@ fn mark_token(t: &[u32], x: &mut [u32], i: u32, kind: u32, number: u32, c: u32) 
     requires { ⌜ (length (now x) ≡ 1024) × (c < 4294967295) ⌝ }
     ensures { λ r. ⌜ marked r (now (x .exit)) ≡ markToken (now (t .entry)) i kind number (marked c (now (x .entry))) ⌝ }
 {
-    if parse_lines::kind_at(t, i) == 2 {
+    if parse_lines::kind_at(t, i) == Token::LABEL {
         put_label(x, c, i, kind, number);
         return c + 1;
     }
@@ -145,7 +149,7 @@ fn mark_turn(t: &[u32], x: &mut [u32], s: Marks) -> Going
     let u = parse_lines::unit_at(t, s.at);
     let k = parse_lines::line_kind(t, u.word);
     let c = mark_unit(t, x, u, k, s);
-    if k == 0 {
+    if k == Kind::EDGE {
         return Going::Over;
     }
     Going::On(marks_behind(u, k, s, c))
@@ -174,7 +178,7 @@ fn first_marks() -> Marks
     Marks {
         at: 0,
         row: 1,
-        section: 0,
+        section: Ground::BEFORE_SECTIONS,
         labels: 0,
     }
 }

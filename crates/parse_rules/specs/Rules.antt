@@ -7,6 +7,10 @@ use Rattle.base_prelude.specs.Choice.{ifLt, ifEq, ifTrue}
 use Rattle.base_prelude.specs.Fault.{none}
 use Rattle.base_limits.specs.Limits as limits
 use Rattle.base_limits.specs.declared.Width.{Width}
+use Rattle.lang_kinds.specs.Kinds as kind
+use Rattle.lang_kinds.specs.Tokens as token
+use Rattle.lang_words.specs.Numbers as word
+use Rattle.lang_words.specs.Substitutes as substitute
 use Rattle.lang_words.specs.Words.{mostOperands}
 use Rattle.parse_lines.specs.Tokens.{kindAt, wordAt, keyAt}
 use Rattle.parse_shapes.specs.Shapes.{isName, isOperator, isListed, shapeFits}
@@ -16,18 +20,18 @@ use Rattle.parse_rules.specs.declared.Labelled.{Labelled}
 -- 7: "word or shape unknown: magic word"
 unfoldable pub shapeRule : Width → List ℕ → ℕ → Span → ℕ → ℕ
 shapeRule w t n u k =
-    ifEq k 0 none
-    (ifEq k 34 none
-    (ifEq k 35 (keyAt t n (u .word) 7)
+    ifEq k kind.edge none
+    (ifEq k kind.leftOut none
+    (ifEq k kind.unknown (keyAt t n (u .word) 7)
     (ifTrue (shapeFits w t u k) none (keyAt t n (u .word) 7))))
 
 -- 9: "left out", in any shape and place
 unfoldable pub leftRule : List ℕ → ℕ → Span → ℕ → ℕ
-leftRule t n u k = ifEq k 34 (keyAt t n (u .word) 9) none
+leftRule t n u k = ifEq k kind.leftOut (keyAt t n (u .word) 9) none
 
 -- the first token of an expression is an operator or `call`, and no name
 unfoldable pub isHead : List ℕ → ℕ → Bool
-isHead t i = ifTrue (isName t i) (ifEq (wordAt t i) 14 true (isOperator (wordAt t i))) false
+isHead t i = ifTrue (isName t i) (ifEq (wordAt t i) word.call true (isOperator (wordAt t i))) false
 
 unfoldable pub headAt : List ℕ → ℕ → ℕ
 headAt t i = ifTrue (isHead t i) i 0
@@ -35,31 +39,34 @@ headAt t i = ifTrue (isHead t i) i 0
 -- the token of a line that is a reserved word in its own place: behind `end` and `else`, or an expression's first; 0 where none is
 unfoldable pub ownWord : List ℕ → Span → ℕ → ℕ
 ownWord t u k =
-    ifEq k 2 (u .word + 1)
-    (ifEq k 4 (u .word + 1)
-    (ifEq k 22 (u .word + 1)
-    (ifEq k 33 (u .word + 1)
-    (ifEq k 21 (u .word + 1)
-    (ifEq k 13 (headAt t (u .word + 1))
-    (ifLt k 5 0
-    (ifLt k 8 (headAt t (u .word + 2))
+    ifEq k kind.endFunction (u .word + 1)
+    (ifEq k kind.endBlock (u .word + 1)
+    (ifEq k kind.endIf (u .word + 1)
+    (ifEq k kind.endGroup (u .word + 1)
+    (ifEq k kind.elseIf (u .word + 1)
+    (ifEq k kind.return (headAt t (u .word + 1))
+    (ifLt k kind.letLocal 0
+    (ifLt k kind.setByte (headAt t (u .word + 2))
     0)))))))
 
 -- 8: "as a name each is refusal 8, at it"
 unfoldable pub nameKey : List ℕ → ℕ → ℕ → ℕ → ℕ
-nameKey t n own i = ifEq i own none (ifLt (wordAt t i) 1 none (ifLt (wordAt t i) 52 (keyAt t n i 8) none))
+nameKey t n own i = ifEq i own none (ifLt (wordAt t i) word.section none (ifLt (wordAt t i) word.pastWords (keyAt t n i 8) none))
 
 -- "any other substitute is refusal 7, the one left out 9, each at it"
 unfoldable pub substituteKey : List ℕ → ℕ → ℕ → ℕ
 substituteKey t n i =
-    ifEq (wordAt t i) 1 none (ifEq (wordAt t i) 2 none (ifEq (wordAt t i) 3 (keyAt t n i 9) (keyAt t n i 7)))
+    ifEq (wordAt t i) substitute.bitsPerWord none
+    (ifEq (wordAt t i) substitute.bytesPerWord none
+    (ifEq (wordAt t i) substitute.savedFrameSize (keyAt t n i 9)
+    (keyAt t n i 7)))
 
 unfoldable pub tokenKey : List ℕ → ℕ → ℕ → ℕ → ℕ
 tokenKey t n own i =
-    ifEq (kindAt t i) 3 (nameKey t n own i)
-    (ifEq (kindAt t i) 5 (nameKey t n own i)
-    (ifEq (kindAt t i) 4 (substituteKey t n i)
-    (ifEq (kindAt t i) 6 (substituteKey t n i)
+    ifEq (kindAt t i) token.symbol (nameKey t n own i)
+    (ifEq (kindAt t i) token.atSymbol (nameKey t n own i)
+    (ifEq (kindAt t i) token.substitute (substituteKey t n i)
+    (ifEq (kindAt t i) token.atSubstitute (substituteKey t n i)
     none)))
 
 -- the least over so many tokens from i on
@@ -79,7 +86,7 @@ listRule t n u k = ifTrue (isListed k) (pastMost t n (u .word + 1 + mostOperands
 
 -- 8 at a label whose name is reserved
 unfoldable pub reservedLabel : List ℕ → ℕ → ℕ → ℕ
-reservedLabel t n i = ifLt (wordAt t i) 1 none (ifLt (wordAt t i) 52 (keyAt t n i 8) none)
+reservedLabel t n i = ifLt (wordAt t i) word.section none (ifLt (wordAt t i) word.pastWords (keyAt t n i 8) none)
 
 -- 14 at the 257th label
 unfoldable pub labelLimit : List ℕ → ℕ → ℕ → ℕ → ℕ
@@ -93,7 +100,7 @@ labelled fault count = record { fault = fault; count = count }
 
 -- one token of those before the magic word: a label counts, a newline does not
 unfoldable pub labelStep : List ℕ → ℕ → ℕ → Labelled → Labelled
-labelStep t n i x = ifEq (kindAt t i) 2 (labelled (min (x .fault) (labelKey t n i (x .count))) (x .count + 1)) x
+labelStep t n i x = ifEq (kindAt t i) token.label (labelled (min (x .fault) (labelKey t n i (x .count))) (x .count + 1)) x
 
 unfoldable pub labelsFrom : ℕ → List ℕ → ℕ → ℕ → Labelled → Labelled
 labelsFrom zero t n i x = x

@@ -1,6 +1,10 @@
 // The rules on lines that need no state: each gives the least fault it finds.
 use base_limits::Machine;
 use base_limits::Width;
+use lang_kinds::Kind;
+use lang_kinds::Token;
+use lang_words::Substitutes;
+use lang_words::Word;
 use parse_lines::Span;
 ghost use mathlib.Core.Path.{_≡_};
 ghost use Prim.Native.Nat.{_+_, _-_, _≤_, _<_, min};
@@ -19,13 +23,13 @@ pub fn shape_rule(w: Width, t: &[u32], n: u32, u: Span, k: u32) -> u64
     requires { ⌜ (length (now t) ≡ 32768) × (u .word < 4294967292) ⌝ }
     ensures { λ r. ⌜ r ≡ shapeRule w (now (t .entry)) n u k ⌝ }
 {
-    if k == 0 {
+    if k == Kind::EDGE {
         return 1099511627776;
     }
-    if k == 34 {
+    if k == Kind::LEFT_OUT {
         return 1099511627776;
     }
-    if k == 35 {
+    if k == Kind::UNKNOWN {
         return parse_lines::key_at(t, n, u.word, 7);
     }
     if parse_shapes::shape_fits(w, t, u, k) {
@@ -38,7 +42,7 @@ pub fn shape_rule(w: Width, t: &[u32], n: u32, u: Span, k: u32) -> u64
 pub fn left_rule(t: &[u32], n: u32, u: Span, k: u32) -> u64
     ensures { λ r. ⌜ r ≡ leftRule (now (t .entry)) n u k ⌝ }
 {
-    if k == 34 {
+    if k == Kind::LEFT_OUT {
         return parse_lines::key_at(t, n, u.word, 9);
     }
     1099511627776
@@ -49,7 +53,7 @@ fn is_head(t: &[u32], i: u32) -> bool
 {
     if parse_shapes::is_name(t, i) {
         let w = parse_lines::word_at(t, i);
-        if w == 14 {
+        if w == Word::CALL {
             return true;
         }
         return parse_shapes::is_operator(w);
@@ -71,28 +75,28 @@ fn own_word(t: &[u32], u: Span, k: u32) -> u32
     requires { ⌜ u .word < 4294967292 ⌝ }
     ensures { λ r. ⌜ r ≡ ownWord (now (t .entry)) u k ⌝ }
 {
-    if k == 2 {
+    if k == Kind::END_FUNCTION {
         return u.word + 1;
     }
-    if k == 4 {
+    if k == Kind::END_BLOCK {
         return u.word + 1;
     }
-    if k == 22 {
+    if k == Kind::END_IF {
         return u.word + 1;
     }
-    if k == 33 {
+    if k == Kind::END_GROUP {
         return u.word + 1;
     }
-    if k == 21 {
+    if k == Kind::ELSE_IF {
         return u.word + 1;
     }
-    if k == 13 {
+    if k == Kind::RETURN {
         return head_at(t, u.word + 1);
     }
-    if k < 5 {
+    if k < Kind::LET {
         return 0;
     }
-    if k < 8 {
+    if k < Kind::SET_BYTE {
         return head_at(t, u.word + 2);
     }
     0
@@ -106,10 +110,10 @@ fn name_key(t: &[u32], n: u32, own: u32, i: u32) -> u64
         return 1099511627776;
     }
     let w = parse_lines::word_at(t, i);
-    if w < 1 {
+    if w < Word::SECTION {
         return 1099511627776;
     }
-    if w < 52 {
+    if w < Word::PAST_WORDS {
         return parse_lines::key_at(t, n, i, 8);
     }
     1099511627776
@@ -120,13 +124,13 @@ fn substitute_key(t: &[u32], n: u32, i: u32) -> u64
     ensures { λ r. ⌜ r ≡ substituteKey (now (t .entry)) n i ⌝ }
 {
     let w = parse_lines::word_at(t, i);
-    if w == 1 {
+    if w == Substitutes::BITS_PER_WORD {
         return 1099511627776;
     }
-    if w == 2 {
+    if w == Substitutes::BYTES_PER_WORD {
         return 1099511627776;
     }
-    if w == 3 {
+    if w == Substitutes::SAVED_FRAME_SIZE {
         return parse_lines::key_at(t, n, i, 9);
     }
     parse_lines::key_at(t, n, i, 7)
@@ -136,16 +140,16 @@ fn token_key(t: &[u32], n: u32, own: u32, i: u32) -> u64
     ensures { λ r. ⌜ r ≡ tokenKey (now (t .entry)) n own i ⌝ }
 {
     let k = parse_lines::kind_at(t, i);
-    if k == 3 {
+    if k == Token::SYMBOL {
         return name_key(t, n, own, i);
     }
-    if k == 5 {
+    if k == Token::AT_SYMBOL {
         return name_key(t, n, own, i);
     }
-    if k == 4 {
+    if k == Token::SUBSTITUTE {
         return substitute_key(t, n, i);
     }
-    if k == 6 {
+    if k == Token::AT_SUBSTITUTE {
         return substitute_key(t, n, i);
     }
     1099511627776
@@ -203,10 +207,10 @@ fn reserved_label(t: &[u32], n: u32, i: u32) -> u64
     ensures { λ r. ⌜ r ≡ reservedLabel (now (t .entry)) n i ⌝ }
 {
     let w = parse_lines::word_at(t, i);
-    if w < 1 {
+    if w < Word::SECTION {
         return 1099511627776;
     }
-    if w < 52 {
+    if w < Word::PAST_WORDS {
         return parse_lines::key_at(t, n, i, 8);
     }
     1099511627776
@@ -231,7 +235,7 @@ fn label_step(t: &[u32], n: u32, i: u32, x: Labelled) -> Labelled
     requires { ⌜ x .count < 4294967295 ⌝ }
     ensures { λ r. ⌜ r ≡ labelStep (now (t .entry)) n i x ⌝ }
 {
-    if parse_lines::kind_at(t, i) == 2 {
+    if parse_lines::kind_at(t, i) == Token::LABEL {
         return Labelled {
             fault: base_prelude::least(x.fault, label_key(t, n, i, x.count)),
             count: x.count + 1,

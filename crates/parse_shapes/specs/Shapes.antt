@@ -7,24 +7,28 @@ use mathlib.Core.List.{List}
 use Rattle.base_prelude.specs.Choice.{ifLt, ifEq, ifTrue}
 use Rattle.base_limits.specs.Width.{bitsOf}
 use Rattle.base_limits.specs.declared.Width.{Width}
+use Rattle.lang_kinds.specs.Kinds as kind
+use Rattle.lang_kinds.specs.Tokens as token
+use Rattle.lang_words.specs.Numbers as word
+use Rattle.lang_words.specs.Substitutes as substitute
 use Rattle.lang_words.specs.Words.{leastOperands, mostOperands}
 use Rattle.parse_lines.specs.Tokens.{kindAt, wordAt, valueAt, allFrom}
 use Rattle.parse_lines.specs.declared.Span.{Span}
 
 -- a plain symbol
 unfoldable pub isName : List ℕ → ℕ → Bool
-isName t i = ifEq (kindAt t i) 3 true false
+isName t i = ifEq (kindAt t i) token.symbol true false
 
 -- an integer; substitutes are "integers everywhere"
 unfoldable pub isInteger : List ℕ → ℕ → Bool
-isInteger t i = ifEq (kindAt t i) 7 true (ifEq (kindAt t i) 4 true false)
+isInteger t i = ifEq (kindAt t i) token.integer true (ifEq (kindAt t i) token.substitute true false)
 
 unfoldable pub isString : List ℕ → ℕ → Bool
-isString t i = ifEq (kindAt t i) 9 true false
+isString t i = ifEq (kindAt t i) token.string true false
 
 -- operands from i to the line's end
 unfoldable pub operandsFrom : List ℕ → ℕ → ℕ → Bool
-operandsFrom t i next = allFrom t 3 9 i next
+operandsFrom t i next = allFrom t token.symbol token.string i next
 
 -- a function's name at i, then its arguments
 unfoldable pub callFrom : List ℕ → ℕ → ℕ → Bool
@@ -32,7 +36,7 @@ callFrom t i next = ifTrue (isName t i) (operandsFrom t (i + 1) next) false
 
 -- an operator's word
 unfoldable pub isOperator : ℕ → Bool
-isOperator w = ifLt w 33 false (ifLt w 52 true false)
+isOperator w = ifLt w word.add false (ifLt w word.pastWords true false)
 
 -- an operator with exactly its operands
 unfoldable pub operatorFrom : List ℕ → ℕ → ℕ → Bool
@@ -45,7 +49,7 @@ operandAt t i next = ifEq next (i + 1) (operandsFrom t i next) false
 -- an expression whose first token is a symbol
 unfoldable pub symbolFrom : List ℕ → ℕ → ℕ → Bool
 symbolFrom t i next =
-    ifEq (wordAt t i) 14 (callFrom t (i + 1) next)
+    ifEq (wordAt t i) word.call (callFrom t (i + 1) next)
     (ifTrue (isOperator (wordAt t i)) (operatorFrom t i next)
     (operandAt t i next))
 
@@ -59,7 +63,13 @@ operandCount u = u .next - (u .word + 1)
 
 -- lines that end in a list of parameters or arguments: one too many is a passed limit (14) and no wrong shape
 unfoldable pub isListed : ℕ → Bool
-isListed k = ifEq k 1 true (ifLt k 5 false (ifLt k 8 true (ifLt k 11 false (ifLt k 14 true false))))
+isListed k =
+    ifEq k kind.function true
+    (ifLt k kind.letLocal false
+    (ifLt k kind.setByte true
+    (ifLt k kind.call false
+    (ifLt k kind.ifeq true
+    false))))
 
 -- "One constant table gives each word its operand count."
 unfoldable pub countFits : List ℕ → Span → ℕ → Bool
@@ -71,39 +81,43 @@ countFits t u k =
 -- statements from `goto` on
 unfoldable pub laterFits : List ℕ → Span → ℕ → Bool
 laterFits t u k =
-    ifEq k 10 (isName t (u .word + 1))
-    (ifLt k 13 (callFrom t (u .word + 1) (u .next))
-    (ifEq k 13 (ifEq (operandCount u) 0 true (expressionFrom t (u .word + 1) (u .next)))
-    (ifLt k 20 (operandsFrom t (u .word + 1) (u .next))
-    (ifEq k 21 (ifEq (operandCount u) 3 (operandsFrom t (u .word + 2) (u .next)) false)
+    ifEq k kind.goto (isName t (u .word + 1))
+    (ifLt k kind.return (callFrom t (u .word + 1) (u .next))
+    (ifEq k kind.return (ifEq (operandCount u) 0 true (expressionFrom t (u .word + 1) (u .next)))
+    (ifLt k kind.else (operandsFrom t (u .word + 1) (u .next))
+    (ifEq k kind.elseIf (ifEq (operandCount u) 3 (operandsFrom t (u .word + 2) (u .next)) false)
     true))))
 
 -- statements
 unfoldable pub statementFits : List ℕ → Span → ℕ → Bool
 statementFits t u k =
-    ifEq k 1 (allFrom t 3 4 (u .word + 1) (u .next))
-    (ifLt k 5 true
-    (ifLt k 7 (ifTrue (isName t (u .word + 1)) (expressionFrom t (u .word + 2) (u .next)) false)
-    (ifEq k 7 (expressionFrom t (u .word + 2) (u .next))
-    (ifLt k 10 (operandsFrom t (u .word + 1) (u .next))
+    ifEq k kind.function (allFrom t token.symbol token.substitute (u .word + 1) (u .next))
+    (ifLt k kind.letLocal true
+    (ifLt k kind.setAt (ifTrue (isName t (u .word + 1)) (expressionFrom t (u .word + 2) (u .next)) false)
+    (ifEq k kind.setAt (expressionFrom t (u .word + 2) (u .next))
+    (ifLt k kind.goto (operandsFrom t (u .word + 1) (u .next))
     (laterFits t u k)))))
 
 -- lines that make no row
 unfoldable pub otherFits : List ℕ → Span → ℕ → Bool
 otherFits t u k =
-    ifEq k 27 (isName t (u .word + 1))
-    (ifEq k 28 (ifEq (operandCount u) 0 true (isInteger t (u .word + 1)))
-    (ifEq k 29 (isInteger t (u .word + 1))
-    (ifEq k 30 (isInteger t (u .word + 1))
-    (ifEq k 31 (isString t (u .word + 1))
+    ifEq k kind.export (isName t (u .word + 1))
+    (ifEq k kind.align (ifEq (operandCount u) 0 true (isInteger t (u .word + 1)))
+    (ifEq k kind.byte (isInteger t (u .word + 1))
+    (ifEq k kind.word (isInteger t (u .word + 1))
+    (ifEq k kind.string (isString t (u .word + 1))
     true))))
 
 unfoldable pub formFits : List ℕ → Span → ℕ → Bool
-formFits t u k = ifLt k 25 (statementFits t u k) (otherFits t u k)
+formFits t u k = ifLt k kind.sectionData (statementFits t u k) (otherFits t u k)
 
 -- a value that is known: an integer, or a substitute that stands for one
 unfoldable pub isKnown : List ℕ → ℕ → Bool
-isKnown t i = ifEq (kindAt t i) 7 true (ifEq (kindAt t i) 4 (ifEq (wordAt t i) 1 true (ifEq (wordAt t i) 2 true false)) false)
+isKnown t i =
+    ifEq (kindAt t i) token.integer true
+    (ifEq (kindAt t i) token.substitute
+    (ifEq (wordAt t i) substitute.bitsPerWord true (ifEq (wordAt t i) substitute.bytesPerWord true false))
+    false)
 
 -- "`byte` -128 to 255 .. by its word's signed value"
 unfoldable pub byteFits : Width → ℕ → Bool
@@ -117,8 +131,8 @@ alignFits v = ifLt v 1 false (ifLt v 4097 true false)
 unfoldable pub rangeFits : Width → List ℕ → Span → ℕ → Bool
 rangeFits w t u k =
     ifTrue (isKnown t (u .word + 1))
-    (ifEq k 29 (byteFits w (valueAt t (u .word + 1)))
-    (ifEq k 28 (alignFits (valueAt t (u .word + 1)))
+    (ifEq k kind.byte (byteFits w (valueAt t (u .word + 1)))
+    (ifEq k kind.align (alignFits (valueAt t (u .word + 1)))
     true))
     true
 

@@ -1,5 +1,9 @@
 // Shapes of lines: how many tokens stand behind the magic word, and of which kinds.
 use base_limits::Width;
+use lang_kinds::Kind;
+use lang_kinds::Token;
+use lang_words::Substitutes;
+use lang_words::Word;
 use parse_lines::Span;
 ghost use mathlib.Core.Path.{_≡_};
 ghost use Prim.Native.Nat.{_+_, _*_, _-_, _^_, _≤_, _<_};
@@ -13,7 +17,7 @@ ghost use Rattle.parse_shapes.specs.Shapes.{isName, isInteger, isString,
 pub fn is_name(t: &[u32], i: u32) -> bool
     ensures { λ r. ⌜ r ≡ isName (now (t .entry)) i ⌝ }
 {
-    if parse_lines::kind_at(t, i) == 3 {
+    if parse_lines::kind_at(t, i) == Token::SYMBOL {
         return true;
     }
     false
@@ -23,10 +27,10 @@ fn is_integer(t: &[u32], i: u32) -> bool
     ensures { λ r. ⌜ r ≡ isInteger (now (t .entry)) i ⌝ }
 {
     let k = parse_lines::kind_at(t, i);
-    if k == 7 {
+    if k == Token::INTEGER {
         return true;
     }
-    if k == 4 {
+    if k == Token::SUBSTITUTE {
         return true;
     }
     false
@@ -35,7 +39,7 @@ fn is_integer(t: &[u32], i: u32) -> bool
 fn is_string(t: &[u32], i: u32) -> bool
     ensures { λ r. ⌜ r ≡ isString (now (t .entry)) i ⌝ }
 {
-    if parse_lines::kind_at(t, i) == 9 {
+    if parse_lines::kind_at(t, i) == Token::STRING {
         return true;
     }
     false
@@ -45,7 +49,7 @@ fn operands_from(t: &[u32], i: u32, next: u32) -> bool
     requires { ⌜ length (now t) ≡ 32768 ⌝ }
     ensures { λ r. ⌜ r ≡ operandsFrom (now (t .entry)) i next ⌝ }
 {
-    parse_lines::all_from(t, 3, 9, i, next)
+    parse_lines::all_from(t, Token::SYMBOL, Token::STRING, i, next)
 }
 
 // A function's name, then its arguments.
@@ -63,10 +67,10 @@ fn call_from(t: &[u32], i: u32, next: u32) -> bool
 pub fn is_operator(w: u32) -> bool
     ensures { λ r. ⌜ r ≡ isOperator w ⌝ }
 {
-    if w < 33 {
+    if w < Word::ADD {
         return false;
     }
-    if w < 52 {
+    if w < Word::PAST_WORDS {
         return true;
     }
     false
@@ -107,7 +111,7 @@ fn symbol_from(t: &[u32], i: u32, next: u32) -> bool
     ensures { λ r. ⌜ r ≡ symbolFrom (now (t .entry)) i next ⌝ }
 {
     let w = parse_lines::word_at(t, i);
-    if w == 14 {
+    if w == Word::CALL {
         return call_from(t, i + 1, next);
     }
     if is_operator(w) {
@@ -131,19 +135,19 @@ fn expression_from(t: &[u32], i: u32, next: u32) -> bool
 pub fn is_listed(k: u32) -> bool
     ensures { λ r. ⌜ r ≡ isListed k ⌝ }
 {
-    if k == 1 {
+    if k == Kind::FUNCTION {
         return true;
     }
-    if k < 5 {
+    if k < Kind::LET {
         return false;
     }
-    if k < 8 {
+    if k < Kind::SET_BYTE {
         return true;
     }
-    if k < 11 {
+    if k < Kind::CALL {
         return false;
     }
-    if k < 14 {
+    if k < Kind::IFEQ {
         return true;
     }
     false
@@ -210,19 +214,19 @@ fn later_fits(t: &[u32], u: Span, k: u32) -> bool
     requires { ⌜ (length (now t) ≡ 32768) × (u .word < 4294967292) ⌝ }
     ensures { λ r. ⌜ r ≡ laterFits (now (t .entry)) u k ⌝ }
 {
-    if k == 10 {
+    if k == Kind::GOTO {
         return is_name(t, u.word + 1);
     }
-    if k < 13 {
+    if k < Kind::RETURN {
         return call_from(t, u.word + 1, u.next);
     }
-    if k == 13 {
+    if k == Kind::RETURN {
         return return_fits(t, u);
     }
-    if k < 20 {
+    if k < Kind::ELSE {
         return operands_from(t, u.word + 1, u.next);
     }
-    if k == 21 {
+    if k == Kind::ELSE_IF {
         return else_if_fits(t, u);
     }
     true
@@ -232,19 +236,19 @@ fn statement_fits(t: &[u32], u: Span, k: u32) -> bool
     requires { ⌜ (length (now t) ≡ 32768) × (u .word < 4294967292) ⌝ }
     ensures { λ r. ⌜ r ≡ statementFits (now (t .entry)) u k ⌝ }
 {
-    if k == 1 {
-        return parse_lines::all_from(t, 3, 4, u.word + 1, u.next);
+    if k == Kind::FUNCTION {
+        return parse_lines::all_from(t, Token::SYMBOL, Token::SUBSTITUTE, u.word + 1, u.next);
     }
-    if k < 5 {
+    if k < Kind::LET {
         return true;
     }
-    if k < 7 {
+    if k < Kind::SET_AT {
         return named_expression(t, u.word, u.next);
     }
-    if k == 7 {
+    if k == Kind::SET_AT {
         return expression_from(t, u.word + 2, u.next);
     }
-    if k < 10 {
+    if k < Kind::GOTO {
         return operands_from(t, u.word + 1, u.next);
     }
     later_fits(t, u, k)
@@ -264,19 +268,19 @@ fn other_fits(t: &[u32], u: Span, k: u32) -> bool
     requires { ⌜ u .word < 4294967292 ⌝ }
     ensures { λ r. ⌜ r ≡ otherFits (now (t .entry)) u k ⌝ }
 {
-    if k == 27 {
+    if k == Kind::EXPORT {
         return is_name(t, u.word + 1);
     }
-    if k == 28 {
+    if k == Kind::ALIGN {
         return align_form(t, u);
     }
-    if k == 29 {
+    if k == Kind::BYTE {
         return is_integer(t, u.word + 1);
     }
-    if k == 30 {
+    if k == Kind::WORD {
         return is_integer(t, u.word + 1);
     }
-    if k == 31 {
+    if k == Kind::STRING {
         return is_string(t, u.word + 1);
     }
     true
@@ -286,7 +290,7 @@ fn form_fits(t: &[u32], u: Span, k: u32) -> bool
     requires { ⌜ (length (now t) ≡ 32768) × (u .word < 4294967292) ⌝ }
     ensures { λ r. ⌜ r ≡ formFits (now (t .entry)) u k ⌝ }
 {
-    if k < 25 {
+    if k < Kind::SECTION_DATA {
         return statement_fits(t, u, k);
     }
     other_fits(t, u, k)
@@ -297,15 +301,15 @@ fn is_known(t: &[u32], i: u32) -> bool
     ensures { λ r. ⌜ r ≡ isKnown (now (t .entry)) i ⌝ }
 {
     let k = parse_lines::kind_at(t, i);
-    if k == 7 {
+    if k == Token::INTEGER {
         return true;
     }
-    if k == 4 {
+    if k == Token::SUBSTITUTE {
         let w = parse_lines::word_at(t, i);
-        if w == 1 {
+        if w == Substitutes::BITS_PER_WORD {
             return true;
         }
-        if w == 2 {
+        if w == Substitutes::BYTES_PER_WORD {
             return true;
         }
         return false;
@@ -352,10 +356,10 @@ fn range_fits(w: Width, t: &[u32], u: Span, k: u32) -> bool
     ensures { λ r. ⌜ r ≡ rangeFits w (now (t .entry)) u k ⌝ }
 {
     if is_known(t, u.word + 1) {
-        if k == 29 {
+        if k == Kind::BYTE {
             return byte_fits(w, parse_lines::value_at(t, u.word + 1));
         }
-        if k == 28 {
+        if k == Kind::ALIGN {
             return align_fits(parse_lines::value_at(t, u.word + 1));
         }
         return true;

@@ -4,6 +4,7 @@ use mathlib.Core.Path.{_≡_}
 use mathlib.Core.List.{List}
 use Prim.Native.Nat.{ℕ, _+_, _≤_, _<_}
 use lib.ListN.{length}
+use Rattle.lang_kinds.specs.Kinds as kind
 use Rattle.lang_kinds.specs.Nesting.{rowsOf}
 use Rattle.parse_lines.specs.declared.Span.{Span}
 use Rattle.parse_units.specs.declared.State.{State}
@@ -13,8 +14,8 @@ pub record StepFits (rows : List ℕ) (u : Span) (k : ℕ) (s : State) : Type 0 
   pub near : u .word ≤ 4097
   pub few : s .labels ≤ 4097
   pub room : s .count + rowsOf k ≤ 1025
-  pub lets : k ≡ 5 → s .locals < 64
-  pub deep : k ≡ 3 → s .depth < 16
+  pub lets : k ≡ kind.letLocal → s .locals < 64
+  pub deep : k ≡ kind.block → s .depth < 16
 
 pub record TurnFits (t rows : List ℕ) (s : State) : Type 0 where
   pub tokens : length t ≡ 32768

@@ -4,6 +4,7 @@ use Prim.Native.Nat.{ℕ, _+_, _*_}
 use mathlib.Core.List.{List, [], _∷_, _++_}
 use lib.ListN.{take, drop}
 use Rattle.base_prelude.specs.Choice.{ifEq, ifTrue}
+use Rattle.lang_kinds.specs.Kinds as kind
 use Rattle.lang_kinds.specs.Nesting.{enters, leaves, isFrame}
 use Rattle.parse_lines.specs.Tokens.{tokenWord}
 use Rattle.parse_units.specs.declared.Row.{Row}
@@ -35,8 +36,8 @@ unfoldable pub rowIn : ℕ → ℕ → ℕ → Row → ℕ → ℕ → ℕ → �
 rowIn k n top o token next before operands =
     record {
       kind = k;
-      func = ifEq k 1 n (o .func);
-      scope = ifEq k 1 n (ifTrue (isFrame (o .kind)) top (o .scope));
+      func = ifEq k kind.function n (o .func);
+      scope = ifEq k kind.function n (ifTrue (isFrame (o .kind)) top (o .scope));
       up = ifTrue (leaves k) (o .up) top;
       token = token;
       next = next;

@@ -8,6 +8,8 @@ use Rattle.base_prelude.specs.Fault.{none, keyNumber, keyPlace}
 use Rattle.base_prelude.specs.Lists.{zeros}
 use Rattle.base_prelude.specs.Walk.{Step, go, stop, walk}
 use Rattle.base_limits.specs.declared.Width.{Width}
+use Rattle.lang_kinds.specs.Kinds as kind
+use Rattle.lang_kinds.specs.Grounds as ground
 use Rattle.lang_kinds.specs.Nesting.{rowsOf, kindOfWord}
 use Rattle.parse_lines.specs.Tokens.{wordAt}
 use Rattle.parse_lines.specs.Units.{unitAt}
@@ -52,14 +54,19 @@ growBy m t u k x = ifEq m 0 x (ifEq m 1 (putKind k (u .word) (u .next) (operandC
 
 -- locals in scope behind a line: a function has its parameters, a let adds one, an `end block` takes its block's off
 unfoldable pub localsBehind : ℕ → ℕ → ℕ → ℕ → ℕ
-localsBehind k operands before locals = ifEq k 1 operands (ifEq k 5 (locals + 1) (ifEq k 4 before locals))
+localsBehind k operands before locals = ifEq k kind.function operands (ifEq k kind.letLocal (locals + 1) (ifEq k kind.endBlock before locals))
 
 unfoldable pub depthBehind : ℕ → ℕ → ℕ
-depthBehind k depth = ifEq k 1 0 (ifEq k 3 (depth + 1) (ifEq k 4 (depth - 1) depth))
+depthBehind k depth = ifEq k kind.function 0 (ifEq k kind.block (depth + 1) (ifEq k kind.endBlock (depth - 1) depth))
 
--- 1 functions, 2 data, 3 a group in data
+-- the section, or the group in data, as a ground
 unfoldable pub sectionBehind : ℕ → ℕ → ℕ
-sectionBehind k section = ifEq k 25 2 (ifEq k 26 1 (ifEq k 32 3 (ifEq k 33 2 section)))
+sectionBehind k section =
+    ifEq k kind.sectionData ground.dataSection
+    (ifEq k kind.sectionFunctions ground.functionsSection
+    (ifEq k kind.group ground.group
+    (ifEq k kind.endGroup ground.dataSection
+    section)))
 
 -- the state behind a unit: a total function of the state and the magic word (for `end` and the like also the word behind it),
 -- whether a rule finds a fault or not
@@ -109,7 +116,7 @@ faultIn w t n u x = unitFault w t n u (lineKind t (u .word)) (groundIn (x .state
 unfoldable pub turnOn : Width → List ℕ → ℕ → Span → World → Step World Result
 turnOn w t n u x =
     ifLt (faultIn w t n u x) none (stop (result (Refused (faultIn w t n u x)) (x .table)))
-    (ifEq (lineKind t (u .word)) 0 (stop (result (Accepted (x .state .count) (x .state .labels)) (x .table)))
+    (ifEq (lineKind t (u .word)) kind.edge (stop (result (Accepted (x .state .count) (x .state .labels)) (x .table)))
     (go (advance t n u (lineKind t (u .word)) x)))
 
 unfoldable pub turnOf : Width → List ℕ → ℕ → World → Step World Result
@@ -117,7 +124,7 @@ turnOf w t n x = turnOn w t n (unitAt t (x .state .at)) x
 
 -- before the first unit
 abbrev pub begin : State
-begin = record { at = 0; count = 1; top = 0; section = 0; locals = 0; depth = 0; labels = 0 }
+begin = record { at = 0; count = 1; top = 0; section = ground.beforeSections; locals = 0; depth = 0; labels = 0 }
 
 unfoldable pub parseFrom : Width → List ℕ → ℕ → World → Result
 parseFrom w t n x = walk (turnOf w t n) (result (Refused none) []) (suc (length t)) x

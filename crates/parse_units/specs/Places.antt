@@ -6,6 +6,11 @@ use mathlib.Core.List.{List, [], _∷_}
 use Rattle.base_prelude.specs.Choice.{ifLt, ifEq, ifTrue}
 use Rattle.base_prelude.specs.Fault.{none, leastOf}
 use Rattle.base_limits.specs.declared.Width.{Width}
+use Rattle.base_limits.specs.Limits as limits
+use Rattle.lang_kinds.specs.Kinds as kind
+use Rattle.lang_kinds.specs.Grounds as ground
+use Rattle.lang_kinds.specs.Tokens as token
+use Rattle.lang_words.specs.Numbers as word
 use Rattle.lang_kinds.specs.Nesting.{standsIn, rowsOf, groundOf}
 use Rattle.lang_kinds.specs.declared.Range.{Range}
 use Rattle.parse_lines.specs.Tokens.{kindAt, wordAt, keyAt}
@@ -21,25 +26,25 @@ groundIn s o = ifEq (s .top) 0 (s .section) (groundOf (o .kind))
 
 -- words for data, and for what stands in a function
 unfoldable pub dataWord : ℕ → Bool
-dataWord w = ifLt w 4 false (ifLt w 9 true false)
+dataWord w = ifLt w word.align false (ifLt w word.function true false)
 
 unfoldable pub statementWord : ℕ → Bool
-statementWord w = ifLt w 9 false (ifEq w 13 false (ifLt w 33 true false))
+statementWord w = ifLt w word.function false (ifEq w word.if false (ifLt w word.add true false))
 
 -- "A label names a data definition, group or `align` in data, a function in functions, or a statement inside a function, `end` and
 -- `else` lines included, however its line goes on": judged by the ground and the magic word alone
 unfoldable pub mayLabel : ℕ → ℕ → ℕ → Bool
-mayLabel g kind w =
-    ifEq kind 3
-    (ifEq g 0 false
-    (ifEq g 1 (ifEq w 9 true false)
-    (ifLt g 4 (dataWord w) (statementWord w))))
+mayLabel g k w =
+    ifEq k token.symbol
+    (ifEq g ground.beforeSections false
+    (ifEq g ground.functionsSection (ifEq w word.function true false)
+    (ifLt g ground.inFunction (dataWord w) (statementWord w))))
     false
 
 -- 8: "else, or at the source's end, refusal 8 at it": the first of the labels before the line
 unfoldable pub labelRule : List ℕ → ℕ → Span → ℕ → ℕ
 labelRule t n u g =
-    ifEq (kindAt t (u .first)) 2
+    ifEq (kindAt t (u .first)) token.label
     (ifTrue (mayLabel g (kindAt t (u .word)) (wordAt t (u .word))) none (keyAt t n (u .first) 8))
     none
 
@@ -54,11 +59,11 @@ roomRule t n u k count = ifLt (1025 - count) (rowsOf k) (keyAt t n (u .word) 14)
 
 -- 14: 64 locals in scope
 unfoldable pub localsRule : List ℕ → ℕ → Span → ℕ → ℕ → ℕ
-localsRule t n u k locals = ifEq k 5 (ifLt locals 64 none (keyAt t n (u .word) 14)) none
+localsRule t n u k locals = ifEq k kind.letLocal (ifLt locals limits.locals none (keyAt t n (u .word) 14)) none
 
 -- 14: blocks 16 deep
 unfoldable pub depthRule : List ℕ → ℕ → Span → ℕ → ℕ → ℕ
-depthRule t n u k depth = ifEq k 3 (ifLt depth 16 none (keyAt t n (u .word) 14)) none
+depthRule t n u k depth = ifEq k kind.block (ifLt depth limits.blockDepth none (keyAt t n (u .word) 14)) none
 
 -- what the rules find in a unit, on a ground, in a state: words, shapes and places
 unfoldable pub lineFaults : Width → List ℕ → ℕ → Span → ℕ → ℕ → State → List ℕ

@@ -1,6 +1,10 @@
 // Tokens to the outline: places, sections, nesting, labels and limits.
 use base_limits::Machine;
 use base_limits::Width;
+use lang_kinds::Ground;
+use lang_kinds::Kind;
+use lang_kinds::Token;
+use lang_words::Word;
 use parse_lines::Span;
 ghost use mathlib.Core.Path.{_≡_};
 ghost use Prim.Native.Nat.{_+_, _*_, _-_, _≤_, _<_};
@@ -101,7 +105,7 @@ fn put_row(rows: &mut [u32], n: u32, r: Row)
 fn own_or(k: u32, n: u32, other: u32) -> u32
     ensures { λ r. ⌜ r ≡ ifEq k 1 n other ⌝ }
 {
-    if k == 1 {
+    if k == Kind::FUNCTION {
         return n;
     }
     other
@@ -170,10 +174,10 @@ fn ground_in(s: State, o: Row) -> u32
 fn data_word(w: u32) -> bool
     ensures { λ r. ⌜ r ≡ dataWord w ⌝ }
 {
-    if w < 4 {
+    if w < Word::ALIGN {
         return false;
     }
-    if w < 9 {
+    if w < Word::FUNCTION {
         return true;
     }
     false
@@ -182,13 +186,13 @@ fn data_word(w: u32) -> bool
 fn statement_word(w: u32) -> bool
     ensures { λ r. ⌜ r ≡ statementWord w ⌝ }
 {
-    if w < 9 {
+    if w < Word::FUNCTION {
         return false;
     }
-    if w == 13 {
+    if w == Word::IF {
         return false;
     }
-    if w < 33 {
+    if w < Word::ADD {
         return true;
     }
     false
@@ -197,7 +201,7 @@ fn statement_word(w: u32) -> bool
 fn function_word(w: u32) -> bool
     ensures { λ r. ⌜ r ≡ ifEq w 9 true false ⌝ }
 {
-    if w == 9 {
+    if w == Word::FUNCTION {
         return true;
     }
     false
@@ -206,14 +210,14 @@ fn function_word(w: u32) -> bool
 fn may_label(g: u32, kind: u32, w: u32) -> bool
     ensures { λ r. ⌜ r ≡ mayLabel g kind w ⌝ }
 {
-    if kind == 3 {
-        if g == 0 {
+    if kind == Token::SYMBOL {
+        if g == Ground::BEFORE_SECTIONS {
             return false;
         }
-        if g == 1 {
+        if g == Ground::FUNCTIONS_SECTION {
             return function_word(w);
         }
-        if g < 4 {
+        if g < Ground::IN_FUNCTION {
             return data_word(w);
         }
         return statement_word(w);
@@ -225,7 +229,7 @@ fn may_label(g: u32, kind: u32, w: u32) -> bool
 fn label_rule(t: &[u32], n: u32, u: Span, g: u32) -> u64
     ensures { λ r. ⌜ r ≡ labelRule (now (t .entry)) n u g ⌝ }
 {
-    if parse_lines::kind_at(t, u.first) == 2 {
+    if parse_lines::kind_at(t, u.first) == Token::LABEL {
         if may_label(
             g,
             parse_lines::kind_at(t, u.word),
@@ -275,7 +279,7 @@ fn room_rule(t: &[u32], n: u32, u: Span, k: u32, count: u32) -> u64
 fn locals_rule(t: &[u32], n: u32, u: Span, k: u32, locals: u32) -> u64
     ensures { λ r. ⌜ r ≡ localsRule (now (t .entry)) n u k locals ⌝ }
 {
-    if k == 5 {
+    if k == Kind::LET {
         if locals < Machine::LOCALS {
             return 1099511627776;
         }
@@ -288,7 +292,7 @@ fn locals_rule(t: &[u32], n: u32, u: Span, k: u32, locals: u32) -> u64
 fn depth_rule(t: &[u32], n: u32, u: Span, k: u32, depth: u32) -> u64
     ensures { λ r. ⌜ r ≡ depthRule (now (t .entry)) n u k depth ⌝ }
 {
-    if k == 3 {
+    if k == Kind::BLOCK {
         if depth < Machine::BLOCK_DEPTH {
             return 1099511627776;
         }
@@ -384,13 +388,13 @@ fn locals_behind(k: u32, operands: u32, before: u32, locals: u32) -> u32
     requires { ⌜ (k ≡ 5 → locals < 64) ⌝ }
     ensures { λ r. ⌜ r ≡ localsBehind k operands before locals ⌝ }
 {
-    if k == 1 {
+    if k == Kind::FUNCTION {
         return operands;
     }
-    if k == 5 {
+    if k == Kind::LET {
         return locals + 1;
     }
-    if k == 4 {
+    if k == Kind::END_BLOCK {
         return before;
     }
     locals
@@ -409,13 +413,13 @@ fn depth_behind(k: u32, depth: u32) -> u32
     requires { ⌜ (k ≡ 3 → depth < 16) ⌝ }
     ensures { λ r. ⌜ r ≡ depthBehind k depth ⌝ }
 {
-    if k == 1 {
+    if k == Kind::FUNCTION {
         return 0;
     }
-    if k == 3 {
+    if k == Kind::BLOCK {
         return depth + 1;
     }
-    if k == 4 {
+    if k == Kind::END_BLOCK {
         return less_one(depth);
     }
     depth
@@ -425,17 +429,17 @@ fn depth_behind(k: u32, depth: u32) -> u32
 pub fn section_behind(k: u32, section: u32) -> u32
     ensures { λ r. ⌜ r ≡ sectionBehind k section ⌝ }
 {
-    if k == 25 {
-        return 2;
+    if k == Kind::SECTION_DATA {
+        return Ground::DATA_SECTION;
     }
-    if k == 26 {
-        return 1;
+    if k == Kind::SECTION_FUNCTIONS {
+        return Ground::FUNCTIONS_SECTION;
     }
-    if k == 32 {
-        return 3;
+    if k == Kind::GROUP {
+        return Ground::GROUP;
     }
-    if k == 33 {
-        return 2;
+    if k == Kind::END_GROUP {
+        return Ground::DATA_SECTION;
     }
     section
 }
@@ -492,7 +496,7 @@ fn take_turn(w: Width, t: &[u32], n: u32, rows: &mut [u32], s: State) -> Turn
     if f < 1099511627776 {
         return Turn::Done(Verdict::Refused(f));
     }
-    if k == 0 {
+    if k == Kind::EDGE {
         return Turn::Done(Verdict::Accepted {
             count: s.count,
             labels: s.labels,
@@ -525,7 +529,7 @@ fn start_state() -> State
         at: 0,
         count: 1,
         top: 0,
-        section: 0,
+        section: Ground::BEFORE_SECTIONS,
         locals: 0,
         depth: 0,
         labels: 0,

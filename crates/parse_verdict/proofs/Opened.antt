@@ -18,28 +18,32 @@ use Rattle.lex_spelling.specs.Continuation as m14
 use Rattle.lex_spelling.specs.Escape as m15
 use Rattle.lex_spelling.specs.Pair as m16
 use Rattle.lex_spelling.specs.Text as m17
-use Rattle.lang_kinds.specs.Nesting as m18
-use Rattle.lex_lexeme.specs.Gap as m19
-use Rattle.lex_lexeme.specs.Number as m20
-use Rattle.lex_lexeme.specs.Reading as m21
-use Rattle.lex_source.specs.Faults as m22
-use Rattle.lex_source.specs.Filling as m23
-use Rattle.lex_source.specs.Lex as m24
-use Rattle.lex_source.specs.Rows as m25
-use Rattle.lex_source.specs.Token as m26
-use Rattle.parse_lines.specs.Lines as m27
-use Rattle.parse_lines.specs.Tokens as m28
-use Rattle.parse_lines.specs.Units as m29
-use Rattle.parse_shapes.specs.Shapes as m30
-use Rattle.parse_rules.specs.Rules as m31
-use Rattle.parse_units.specs.Outline as m32
-use Rattle.parse_units.specs.Parse as m33
-use Rattle.parse_units.specs.Places as m34
-use Rattle.parse_outline.specs.Labels as m35
-use Rattle.parse_outline.specs.Outline as m36
-use Rattle.parse_verdict.specs.Lexing as m37
-use Rattle.parse_verdict.specs.Verdict as m38
+use Rattle.lang_kinds.specs.Grounds as m18
+use Rattle.lang_kinds.specs.Kinds as m19
+use Rattle.lang_kinds.specs.Nesting as m20
+use Rattle.lang_kinds.specs.TokenRow as m21
+use Rattle.lang_kinds.specs.Tokens as m22
+use Rattle.lex_lexeme.specs.Gap as m23
+use Rattle.lex_lexeme.specs.Number as m24
+use Rattle.lex_lexeme.specs.Reading as m25
+use Rattle.lex_source.specs.Faults as m26
+use Rattle.lex_source.specs.Filling as m27
+use Rattle.lex_source.specs.Lex as m28
+use Rattle.lex_source.specs.Rows as m29
+use Rattle.lex_source.specs.Token as m30
+use Rattle.parse_lines.specs.Lines as m31
+use Rattle.parse_lines.specs.Tokens as m32
+use Rattle.parse_lines.specs.Units as m33
+use Rattle.parse_shapes.specs.Shapes as m34
+use Rattle.parse_rules.specs.Rules as m35
+use Rattle.parse_units.specs.Outline as m36
+use Rattle.parse_units.specs.Parse as m37
+use Rattle.parse_units.specs.Places as m38
+use Rattle.parse_outline.specs.Labels as m39
+use Rattle.parse_outline.specs.Outline as m40
+use Rattle.parse_verdict.specs.Lexing as m41
+use Rattle.parse_verdict.specs.Verdict as m42
 
 unfoldable pub opened : ℕ
-unfolding m1.byteAt m2.ifLt m2.ifEq m2.ifTrue m3.key m3.leastOf m4.sameList m4.clearedFrom m4.overlay m5.walk m6.freshOf m7.limitsOf m8.numbers m9.sectionOf m9.knownOf m10.substituteOf m11.joined m11.rowsFrom m11.rows m11.entryAt m11.rowAt m11.letterAt m11.spelled m12.words m12.firstOf m12.isNamed m12.isNumber m12.entryNamed m12.entryOf m12.numberOf m12.leastOperands m12.mostOperands m13.isBlank m13.isDigit m13.isLetter m13.isNameByte m13.isSeparator m14.blankStep m14.blanksEnd m14.isJoint m14.joinStep m14.joined m15.hexOf m15.plainOf m15.badPlace m15.plainAt m15.hexAt m15.escapeAt m16.pairOne m16.pairEnd m16.pairOf m16.pairAt m17.inString m17.inSymbol m17.escaped m17.rawAt m17.characterFrom m17.characterAt m17.spellMore m17.spelledWithin m17.spelledAt m17.nameAt m17.stringAt m17.mix m17.hashFrom m17.measuredFrom m17.measured m18.statementIn m18.standsIn m18.rowsOf m18.enters m18.leaves m18.groundOf m18.isFrame m18.kindOfWord m19.commentStep m19.commentEnd m19.gapSkip m19.gapStep m19.gapEnd m20.digitFrom m20.digitAt m20.digitMore m20.digitsWithin m20.digitsAt m20.valueFrom m20.numberOf m20.decimalFrom m20.decimalOf m21.startsSymbol m21.startsInteger m21.symbolTo m21.symbolEnd m21.symbolBy m21.symbolAt m21.stringTo m21.stringEnd m21.stringBy m21.stringRead m21.integerFrom m21.integerBy m21.digitsRead m21.integerAt m21.markedFrom m21.markedAt m21.atFrom m21.atRead m21.plainRead m21.readAt m21.nextRead m21.isNamed m21.nameStart m21.textOf m22.loneRule m22.escapeRule m22.openRule m22.rangeFault m22.lengthFault m22.limitFault m22.followFault m22.rangeRule m22.lengthRule m22.limitRule m22.followRule m22.faultsOf m22.faultOf m23.rowNamed m23.findWithin m23.findName m23.wordNamed m23.rowFrom m23.putRow m23.fillBy m23.fillTurn m23.turnAt m24.tokenStep m24.turnOf m24.lexStep m24.tokensFrom m24.lexOf m24.answerOf m24.tableOf m25.rowOf m25.rowsOf m25.tokenTable m26.isSubstitute m26.substituteValue m26.wordOf m26.valueOf m26.hasName m26.firstFrom m26.nameNumber m26.tokenOf m27.sectionKind m27.endKind m27.testKind m27.elseKind m27.setKind m27.symbolKind m27.otherKind m27.lineKind m28.tokenWord m28.placeAt m28.keyAt m28.skipStep m28.skip m28.allFrom m29.spanFrom m29.spanOf m29.unitAt m30.isName m30.isInteger m30.isString m30.operandsFrom m30.callFrom m30.isOperator m30.operatorFrom m30.operandAt m30.symbolFrom m30.expressionFrom m30.isListed m30.countFits m30.laterFits m30.statementFits m30.otherFits m30.formFits m30.isKnown m30.byteFits m30.alignFits m30.rangeFits m30.shapeFits m31.shapeRule m31.leftRule m31.isHead m31.headAt m31.ownWord m31.nameKey m31.substituteKey m31.tokenKey m31.tokensLeast m31.tokensRule m31.pastMost m31.listRule m31.reservedLabel m31.labelLimit m31.labelKey m31.labelStep m31.labelsFrom m31.labelsRule m32.rowAt m32.putRow m32.rowIn m32.behind m33.putState m33.putKind m33.growTwo m33.growBy m33.localsBehind m33.depthBehind m33.sectionBehind m33.stateBehind m33.joinState m33.advance m33.openRow m33.faultIn m33.turnOn m33.turnOf m33.parseFrom m33.parseOf m34.groundIn m34.dataWord m34.statementWord m34.mayLabel m34.labelRule m34.placeRule m34.roomRule m34.localsRule m34.depthRule m34.lineFaults m34.limitFaults m34.unitFault m35.labelKind m35.labelNumber m35.putLabel m35.markToken m35.markFrom m35.markUnit m35.marksBehind m35.markOn m35.markStep m35.marksFrom m35.labelRows m36.answerOf m36.outlineOf m37.tokenFaults m37.lexFaults m38.kindIn m38.faultAt m38.nextWorld m38.faultsFrom m38.allFaults m38.verdictOf
+unfolding m1.byteAt m2.ifLt m2.ifEq m2.ifTrue m3.key m3.leastOf m4.sameList m4.clearedFrom m4.overlay m5.walk m6.freshOf m7.limitsOf m8.numbers m9.sectionOf m9.knownOf m10.substituteOf m11.joined m11.rowsFrom m11.rows m11.entryAt m11.rowAt m11.letterAt m11.spelled m12.words m12.firstOf m12.isNamed m12.isNumber m12.entryNamed m12.entryOf m12.numberOf m12.leastOperands m12.mostOperands m13.isBlank m13.isDigit m13.isLetter m13.isNameByte m13.isSeparator m14.blankStep m14.blanksEnd m14.isJoint m14.joinStep m14.joined m15.hexOf m15.plainOf m15.badPlace m15.plainAt m15.hexAt m15.escapeAt m16.pairOne m16.pairEnd m16.pairOf m16.pairAt m17.inString m17.inSymbol m17.escaped m17.rawAt m17.characterFrom m17.characterAt m17.spellMore m17.spelledWithin m17.spelledAt m17.nameAt m17.stringAt m17.mix m17.hashFrom m17.measuredFrom m17.measured m18.groundsOf m19.kindsOf m20.statementIn m20.standsIn m20.rowsOf m20.enters m20.leaves m20.groundOf m20.isFrame m20.kindOfWord m21.tokenRowOf m22.tokensOf m23.commentStep m23.commentEnd m23.gapSkip m23.gapStep m23.gapEnd m24.digitFrom m24.digitAt m24.digitMore m24.digitsWithin m24.digitsAt m24.valueFrom m24.numberOf m24.decimalFrom m24.decimalOf m25.startsSymbol m25.startsInteger m25.symbolTo m25.symbolEnd m25.symbolBy m25.symbolAt m25.stringTo m25.stringEnd m25.stringBy m25.stringRead m25.integerFrom m25.integerBy m25.digitsRead m25.integerAt m25.markedFrom m25.markedAt m25.atFrom m25.atRead m25.plainRead m25.readAt m25.nextRead m25.isNamed m25.nameStart m25.textOf m26.loneRule m26.escapeRule m26.openRule m26.rangeFault m26.lengthFault m26.limitFault m26.followFault m26.rangeRule m26.lengthRule m26.limitRule m26.followRule m26.faultsOf m26.faultOf m27.rowNamed m27.findWithin m27.findName m27.wordNamed m27.rowFrom m27.putRow m27.fillBy m27.fillTurn m27.turnAt m28.tokenStep m28.turnOf m28.lexStep m28.tokensFrom m28.lexOf m28.answerOf m28.tableOf m29.rowOf m29.rowsOf m29.tokenTable m30.isSubstitute m30.substituteValue m30.wordOf m30.valueOf m30.hasName m30.firstFrom m30.nameNumber m30.tokenOf m31.sectionKind m31.endKind m31.testKind m31.elseKind m31.setKind m31.symbolKind m31.otherKind m31.lineKind m32.tokenWord m32.placeAt m32.keyAt m32.skipStep m32.skip m32.allFrom m33.spanFrom m33.spanOf m33.unitAt m34.isName m34.isInteger m34.isString m34.operandsFrom m34.callFrom m34.isOperator m34.operatorFrom m34.operandAt m34.symbolFrom m34.expressionFrom m34.isListed m34.countFits m34.laterFits m34.statementFits m34.otherFits m34.formFits m34.isKnown m34.byteFits m34.alignFits m34.rangeFits m34.shapeFits m35.shapeRule m35.leftRule m35.isHead m35.headAt m35.ownWord m35.nameKey m35.substituteKey m35.tokenKey m35.tokensLeast m35.tokensRule m35.pastMost m35.listRule m35.reservedLabel m35.labelLimit m35.labelKey m35.labelStep m35.labelsFrom m35.labelsRule m36.rowAt m36.putRow m36.rowIn m36.behind m37.putState m37.putKind m37.growTwo m37.growBy m37.localsBehind m37.depthBehind m37.sectionBehind m37.stateBehind m37.joinState m37.advance m37.openRow m37.faultIn m37.turnOn m37.turnOf m37.parseFrom m37.parseOf m38.groundIn m38.dataWord m38.statementWord m38.mayLabel m38.labelRule m38.placeRule m38.roomRule m38.localsRule m38.depthRule m38.lineFaults m38.limitFaults m38.unitFault m39.labelKind m39.labelNumber m39.putLabel m39.markToken m39.markFrom m39.markUnit m39.marksBehind m39.markOn m39.markStep m39.marksFrom m39.labelRows m40.answerOf m40.outlineOf m41.tokenFaults m41.lexFaults m42.kindIn m42.faultAt m42.nextWorld m42.faultsFrom m42.allFaults m42.verdictOf
 opened = 0

@@ -8,6 +8,8 @@ use Rattle.base_prelude.specs.Choice.{ifEq}
 use Rattle.base_prelude.specs.Fault.{none, leastOf}
 use Rattle.base_prelude.specs.Lists.{zeros}
 use Rattle.base_limits.specs.declared.Width.{Width}
+use Rattle.lang_kinds.specs.Kinds as kind
+use Rattle.lang_kinds.specs.Tokens as token
 use Rattle.parse_lines.specs.Tokens.{kindAt, placeAt}
 use Rattle.parse_lines.specs.Units.{unitAt}
 use Rattle.parse_lines.specs.Lines.{lineKind}
@@ -30,7 +32,7 @@ nextWorld t n x = advance t n (unitAt t (x .state .at)) (kindIn t x) x
 -- the faults of the unit at which a state stands and of all behind it, to the source's end
 unfoldable pub faultsFrom : ℕ → Width → List ℕ → ℕ → World → List ℕ
 faultsFrom zero w t n x = []
-faultsFrom (suc k) w t n x = faultAt w t n x ∷ ifEq (kindIn t x) 0 [] (faultsFrom k w t n (nextWorld t n x))
+faultsFrom (suc k) w t n x = faultAt w t n x ∷ ifEq (kindIn t x) kind.edge [] (faultsFrom k w t n (nextWorld t n x))
 
 -- the faults of the whole source
 unfoldable pub allFaults : Width → List ℕ → ℕ → List ℕ
@@ -56,6 +58,6 @@ keyOf (Refused k) = k
 
 -- what the lexer's tables have: places rise from token to token and end at the source's length, and behind the end no token stands
 pub record Rising (t : List ℕ) (n : ℕ) : Type 0 where
-  pub rises : (i : ℕ) → 1 ≤ kindAt t i → placeAt t n i < placeAt t n (i + 1)
-  pub ends : (i : ℕ) → kindAt t i ≡ 0 → kindAt t (i + 1) ≡ 0
+  pub rises : (i : ℕ) → token.newline ≤ kindAt t i → placeAt t n i < placeAt t n (i + 1)
+  pub ends : (i : ℕ) → kindAt t i ≡ token.sourceEnd → kindAt t (i + 1) ≡ token.sourceEnd
   pub low : (i : ℕ) → placeAt t n i < 4294967296

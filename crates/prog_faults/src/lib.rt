@@ -1,5 +1,9 @@
 // Broken rows: refusal 35 for a statement row.
+use lang_kinds::Kind;
+use prog_tables::ExpressionKind;
 use prog_tables::Operand;
+use prog_tables::StatementRow;
+use prog_tables::Table;
 ghost use mathlib.Core.Path.{_≡_};
 ghost use mathlib.Core.List.{[], _∷_};
 ghost use Prim.Native.Nat.{_+_, _*_, _≤_, _<_, min};
@@ -13,10 +17,10 @@ ghost use Rattle.prog_tables.specs.Faults.{expressionListed, inFunction, sizeAt
 pub fn is_listed(k: u32) -> bool
     ensures { λ r. ⌜ r ≡ isListed k ⌝ }
 {
-    if k == 0 {
+    if k == Kind::EDGE {
         return false;
     }
-    k < 23
+    k < Kind::PAST_ROWS
 }
 
 // Whether nesting gives a row of this kind its target.
@@ -26,23 +30,23 @@ pub fn has_target(k: u32) -> bool
     if prog_tables::is_test(k) {
         return true;
     }
-    if k == 20 {
+    if k == Kind::ELSE {
         return true;
     }
-    k == 21
+    k == Kind::ELSE_IF
 }
 
 // Whether a row of this kind may have an expression of kind e.
 pub fn is_expression(k: u32, e: u32) -> bool
     ensures { λ r. ⌜ r ≡ expressionListed k e ⌝ }
 {
-    if e == 0 {
-        return k == 13;
+    if e == ExpressionKind::NONE {
+        return k == Kind::RETURN;
     }
-    if e == 1 {
+    if e == ExpressionKind::PLAIN {
         return true;
     }
-    if e == 2 {
+    if e == ExpressionKind::CALL {
         return true;
     }
     prog_tables::is_operator(e)
@@ -54,7 +58,7 @@ pub fn is_in_function(t: &[u32], c: u32, n: u32) -> bool
 {
     let g = prog_tables::func_at(t, n);
     if g < c {
-        return prog_tables::kind_at(t, g) == 1;
+        return prog_tables::kind_at(t, g) == Kind::FUNCTION;
     }
     false
 }
@@ -124,7 +128,7 @@ fn is_jump(k: u32) -> bool
     if has_target(k) {
         return true;
     }
-    k == 10
+    k == Kind::GOTO
 }
 
 // A target that is no statement of the same function.
@@ -160,7 +164,7 @@ fn callee_fault(t: &[u32], c: u32, n: u32) -> bool
         let g = prog_tables::callee_at(t, n);
         if g < c {
             let j = prog_tables::kind_at(t, g);
-            if j == 1 {
+            if j == Kind::FUNCTION {
                 let p = prog_tables::parameters_at(t, g);
                 let m = prog_tables::count_at(t, n);
                 if p == m {
@@ -183,7 +187,7 @@ fn size_fault(t: &[u32], n: u32) -> bool
     ensures { λ r. ⌜ r ≡ sizeFault (rowAt (now (t .entry))) n ⌝ }
 {
     let k = prog_tables::kind_at(t, n);
-    if k == 1 {
+    if k == Kind::FUNCTION {
         let a = prog_tables::a_at(t, n);
         let p = prog_tables::parameters_at(t, n);
         let least = 3 + p as u64;
@@ -197,10 +201,10 @@ fn size_fault(t: &[u32], n: u32) -> bool
 fn has_word(k: u32) -> bool
     ensures { λ r. ⌜ r ≡ hasWord k ⌝ }
 {
-    if k < 3 {
+    if k < Kind::BLOCK {
         return false;
     }
-    k < 7
+    k < Kind::SET_AT
 }
 
 // The last frame word that a row itself names.
@@ -209,7 +213,7 @@ fn own_word(t: &[u32], n: u32) -> u64
 {
     let k = prog_tables::kind_at(t, n);
     let a = prog_tables::a_at(t, n);
-    if k == 3 {
+    if k == Kind::BLOCK {
         let b = prog_tables::parameters_at(t, n);
         return a as u64 + b as u64;
     }
@@ -255,7 +259,10 @@ fn slot_fault(t: &[u32], size: u32, d: u32, n: u32, i: u32) -> bool
     requires { ⌜ i < 8 ⌝ }
     ensures { λ r. ⌜ r ≡ operandFault size d (operandAt (now (t .entry)) (n * 27 + 11 + i * 2)) ⌝ }
 {
-    let o = prog_tables::operand_at(t, n as usize * 27 + 11 + i as usize * 2);
+    let o = prog_tables::operand_at(
+        t,
+        n as usize * Table::STATEMENT_ROW + StatementRow::OPERANDS + i as usize * 2,
+    );
     operand_fault(size, d, o)
 }
 
@@ -280,7 +287,7 @@ fn address_fault(t: &[u32], c: u32, d: u32, n: u32) -> bool
     ensures { λ r. ⌜ r ≡ addressFault (rowAt (now (t .entry))) c d n ⌝ }
 {
     let k = prog_tables::kind_at(t, n);
-    if k == 7 {
+    if k == Kind::SET_AT {
         let o = prog_tables::address_at(t, n);
         if is_address(o) {
             return operand_fault(size_at(t, c, n), d, o);
@@ -361,22 +368,22 @@ pub fn row_fault(t: &[u32], c: u32, d: u32, n: u32) -> bool
         return test_fault(t, c, d, n);
     }
     match k {
-        1 => size_fault(t, n),
-        2 => false,
-        3 => word_fault(t, c, n),
-        4 => word_fault(t, c, n),
-        5 => local_fault(t, c, d, n),
-        6 => local_fault(t, c, d, n),
-        7 => set_at_fault(t, c, d, n),
-        8 => operands_fault(t, c, d, n),
-        9 => operands_fault(t, c, d, n),
-        10 => target_fault(t, c, n),
-        11 => call_fault(t, c, d, n),
-        12 => call_fault(t, c, d, n),
-        13 => return_fault(t, c, d, n),
-        20 => target_fault(t, c, n),
-        21 => target_fault(t, c, n),
-        22 => false,
+        Kind::FUNCTION => size_fault(t, n),
+        Kind::END_FUNCTION => false,
+        Kind::BLOCK => word_fault(t, c, n),
+        Kind::END_BLOCK => word_fault(t, c, n),
+        Kind::LET => local_fault(t, c, d, n),
+        Kind::SET => local_fault(t, c, d, n),
+        Kind::SET_AT => set_at_fault(t, c, d, n),
+        Kind::SET_BYTE => operands_fault(t, c, d, n),
+        Kind::SET_WORD => operands_fault(t, c, d, n),
+        Kind::GOTO => target_fault(t, c, n),
+        Kind::CALL => call_fault(t, c, d, n),
+        Kind::TAIL_CALL => call_fault(t, c, d, n),
+        Kind::RETURN => return_fault(t, c, d, n),
+        Kind::ELSE => target_fault(t, c, n),
+        Kind::ELSE_IF => target_fault(t, c, n),
+        Kind::END_IF => false,
         _ => true,
     }
 }

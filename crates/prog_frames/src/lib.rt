@@ -1,4 +1,6 @@
 // Nesting and frames: targets, what a frame needs, the words of lets and blocks, what is in scope.
+use lang_kinds::Kind;
+use prog_tables::Table;
 ghost use mathlib.Core.Path.{_≡_};
 ghost use Prim.Native.Nat.{_+_, _*_, _≤_, _<_, max};
 ghost use Rattle.prog_tables.specs.Statement.{rowAt};
@@ -23,7 +25,7 @@ pub fn lets_before(t: &[u32], s: u32, n: u32) -> u32
     let mut lets: u32 = 0;
     let mut i: u32 = 0;
     while i < n {
-        if is_in(t, 5, s, i) {
+        if is_in(t, Kind::LET, s, i) {
             lets += 1;
             i += 1;
         } else {
@@ -52,7 +54,7 @@ pub fn need(t: &[u32], c: u32, depth: u32, s: u32) -> u32
     let mut most: u32 = 0;
     let mut i: u32 = 0;
     while i < c {
-        if is_in(t, 3, s, i) {
+        if is_in(t, Kind::BLOCK, s, i) {
             let w = need(t, c, depth - 1, i);
             most = greater(most, w + 1);
             i += 1;
@@ -68,7 +70,7 @@ pub fn frame_size(t: &[u32], c: u32, s: u32) -> u32
     requires { ⌜ (c ≤ 1024) × (rowAt (now t) s .b ≤ 8) ⌝ }
     ensures { λ r. ⌜ r ≡ frameSize (rowAt (now (t .entry))) c s ⌝ }
 {
-    3 + prog_tables::parameters_at(t, s) + need(t, c, 17, s)
+    Table::FRAME_HEAD + prog_tables::parameters_at(t, s) + need(t, c, 17, s)
 }
 
 // Whether a row changes or ends an if, with u around it.
@@ -78,8 +80,8 @@ fn is_arm(t: &[u32], u: u32, i: u32) -> bool
     let x = prog_tables::up_at(t, i);
     if x == u {
         let k = prog_tables::kind_at(t, i);
-        if 20 <= k {
-            return k <= 22;
+        if Kind::ELSE <= k {
+            return k <= Kind::END_IF;
         }
         return false;
     }
@@ -92,7 +94,7 @@ fn is_end_if(t: &[u32], u: u32, i: u32) -> bool
 {
     let x = prog_tables::up_at(t, i);
     if x == u {
-        return prog_tables::kind_at(t, i) == 22;
+        return prog_tables::kind_at(t, i) == Kind::END_IF;
     }
     false
 }
@@ -138,7 +140,7 @@ pub fn target_of(t: &[u32], c: u32, n: u32) -> u32
     if prog_tables::is_test(k) {
         let m = next_arm(t, c, n);
         let j = prog_tables::kind_at(t, m);
-        if j == 22 {
+        if j == Kind::END_IF {
             return m;
         }
         return m + 1;
@@ -157,7 +159,7 @@ pub fn is_around(t: &[u32], fuel: u32, e: u32, s: u32) -> bool
         return true;
     }
     let k = prog_tables::kind_at(t, s);
-    if k == 3 {
+    if k == Kind::BLOCK {
         return is_around(t, fuel - 1, e, prog_tables::scope_at(t, s));
     }
     false
@@ -172,7 +174,7 @@ pub fn first_let(t: &[u32], c: u32, fuel: u32, s: u32) -> u64
         return 0;
     }
     let k = prog_tables::kind_at(t, s);
-    if k == 3 {
+    if k == Kind::BLOCK {
         let e = prog_tables::scope_at(t, s);
         let w = first_let(t, c, fuel - 1, e);
         let lets = lets_before(t, e, c);
@@ -209,7 +211,7 @@ fn is_seen(t: &[u32], s: u32, i: u32) -> bool
     ensures { λ r. ⌜ r ≡ letSeen (rowAt (now (t .entry))) s i ⌝ }
 {
     let k = prog_tables::kind_at(t, i);
-    if k == 5 {
+    if k == Kind::LET {
         return is_around(t, 17, prog_tables::scope_at(t, i), s);
     }
     false
@@ -238,8 +240,8 @@ pub fn locals_at(t: &[u32], n: u32) -> u64
 fn is_parameter(p: u32, w: u32) -> bool
     ensures { λ r. ⌜ r ≡ isParameter p w ⌝ }
 {
-    if 3 <= w {
-        return w - 3 < p;
+    if Table::FRAME_HEAD <= w {
+        return w - Table::FRAME_HEAD < p;
     }
     false
 }

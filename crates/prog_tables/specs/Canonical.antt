@@ -8,6 +8,9 @@ use lib.Dec.{ltb, eqb}
 use lib.ListN.{getD, drop}
 use Rattle.base_prelude.specs.Choice.{ifLt, ifEq}
 use Rattle.base_limits.specs.Limits.{nameBytes}
+use Rattle.lang_kinds.specs.Kinds as kind
+use Rattle.prog_tables.specs.StatementRow as row
+use Rattle.prog_tables.specs.LabelRow as label
 use Rattle.prog_tables.specs.Layout.{statementRow, labelRow}
 use Rattle.prog_tables.specs.Tests.{both, oneOf, all, allOf, allBelow}
 use Rattle.prog_tables.specs.Statement.{Row, hasExpression, isCall, usedBy, rowAt}
@@ -19,22 +22,22 @@ use Rattle.prog_tables.specs.WellFormed.{hasOperands}
 -- a row uses its word j
 unfoldable pub usesWord : Row → ℕ → Bool
 usesWord r j =
-    ifLt j 4 true
-    (ifEq j 4 (oneOf (eqb (r .kind) 1) (oneOf (hasWord (r .kind)) (oneOf (hasTarget (r .kind)) (eqb (r .kind) 10))))
-    (ifEq j 5 (oneOf (eqb (r .kind) 1) (eqb (r .kind) 3))
-    (ifEq j 6 (hasExpression (r .kind))
-    (ifEq j 7 (oneOf (eqb (r .kind) 3) (isCall (r .kind) (r .expr)))
-    (ifEq j 8 (hasOperands (r .kind))
-    (ifLt j 11 (eqb (r .kind) 7)
-    (ltb j (11 + 2 * usedBy (r .kind) (r .expr) (r .count)))))))))
+    ifLt j row.a true
+    (ifEq j row.a (oneOf (eqb (r .kind) kind.function) (oneOf (hasWord (r .kind)) (oneOf (hasTarget (r .kind)) (eqb (r .kind) kind.goto))))
+    (ifEq j row.b (oneOf (eqb (r .kind) kind.function) (eqb (r .kind) kind.block))
+    (ifEq j row.expr (hasExpression (r .kind))
+    (ifEq j row.callee (oneOf (eqb (r .kind) kind.block) (isCall (r .kind) (r .expr)))
+    (ifEq j row.count (hasOperands (r .kind))
+    (ifLt j row.operands (eqb (r .kind) kind.setAt)
+    (ltb j (row.operands + 2 * usedBy (r .kind) (r .expr) (r .count)))))))))
 
 unfoldable pub unusedZero : List ℕ → ℕ → Bool
 unusedZero t n = allBelow (λ j. oneOf (usesWord (rowAt t n) j) (eqb (getD t (n * statementRow + j) 0) 0)) statementRow
 
--- word 2 of a label row, and the bytes behind its name
+-- the unused word of a label row, and the bytes behind its name
 unfoldable pub labelUnusedZero : List ℕ → List ℕ → ℕ → Bool
 labelUnusedZero t names n =
-    both (eqb (getD t (n * labelRow + 2) 0) 0)
+    both (eqb (getD t (n * labelRow + label.unused) 0) 0)
     (allBelow (λ j. oneOf (ltb j (labelAt t names n .size)) (eqb (getD names (n * nameBytes + j) 0) 0)) nameBytes)
 
 unfoldable pub zeroFrom : ℕ → List ℕ → Bool

@@ -10,7 +10,8 @@ use lib.Dec.{ltb, leb, eqb}
 use lib.ListN.{length}
 use Rattle.base_prelude.specs.Choice.{ifLt, ifEq, ifTrue}
 use Rattle.base_limits.specs.Limits.{nameBytes}
-use Rattle.prog_tables.specs.Layout.{statementRow, labelRow, operandSlots, frameHead, noExpression, plain, callExpression}
+use Rattle.lang_kinds.specs.Kinds as kind
+use Rattle.prog_tables.specs.Layout.{statementRow, labelRow, operandSlots, frameHead, noExpression, plain, callExpression, placeLabel}
 use Rattle.prog_tables.specs.Tests.{both, oneOf, some, someOf, someBelow}
 use Rattle.prog_tables.specs.Statement.{Row, hasExpression, isOperator, isCall}
 use Rattle.prog_tables.specs.Label.{Label, Tables, rows, labelsOf, isData, isFunctionLabel}
@@ -20,11 +21,11 @@ use Rattle.prog_tables.specs.declared.Operand.the-variants.{Constant, Lo
 
 -- the expression kinds that a row of kind k may have: a bare `return` alone has none
 unfoldable pub expressionListed : ℕ → ℕ → Bool
-expressionListed k e = ifEq e noExpression (eqb k 13) (ifEq e plain true (ifEq e callExpression true (isOperator e)))
+expressionListed k e = ifEq e noExpression (eqb k kind.return) (ifEq e plain true (ifEq e callExpression true (isOperator e)))
 
 -- row n is in a function: its function field names a `function` row
 unfoldable pub inFunction : (ℕ → Row) → ℕ → ℕ → Bool
-inFunction f c n = both (ltb (f n .func) c) (eqb (f (f n .func) .kind) 1)
+inFunction f c n = both (ltb (f n .func) c) (eqb (f (f n .func) .kind) kind.function)
 
 -- the frame size of the function of row n; 0 in none
 unfoldable pub sizeAt : (ℕ → Row) → ℕ → ℕ → ℕ
@@ -59,7 +60,7 @@ kindFault f n = ifTrue (isListed (f n .kind)) (both (hasExpression (f n .kind)) 
 -- "a target that is no statement of the same function"
 unfoldable pub targetFault : (ℕ → Row) → ℕ → ℕ → Bool
 targetFault f c n =
-    both (oneOf (hasTarget (f n .kind)) (eqb (f n .kind) 10))
+    both (oneOf (hasTarget (f n .kind)) (eqb (f n .kind) kind.goto))
     (not (both (inFunction f c n) (both (ltb (f n .a) c) (eqb (f (f n .a) .func) (f n .func)))))
 
 -- "a callee that is no function or has another parameter count"; a count of arguments past the row's slots
@@ -68,18 +69,18 @@ calleeFault f c n =
     both (isCall (f n .kind) (f n .expr))
     (not
     (both (ltb (f n .callee) c)
-    (both (eqb (f (f n .callee) .kind) 1) (both (eqb (f (f n .callee) .b) (f n .count)) (leb (f n .count) operandSlots)))))
+    (both (eqb (f (f n .callee) .kind) kind.function) (both (eqb (f (f n .callee) .b) (f n .count)) (leb (f n .count) operandSlots)))))
 
 -- "a function's frame size below 3 + parameters"
 unfoldable pub sizeFault : (ℕ → Row) → ℕ → Bool
-sizeFault f n = both (eqb (f n .kind) 1) (ltb (f n .a) (frameHead + f n .b))
+sizeFault f n = both (eqb (f n .kind) kind.function) (ltb (f n .a) (frameHead + f n .b))
 
 -- the last word that a row itself names: destination of `let` and `set`, a block's saved auto top, the last let of a `block` row
 unfoldable pub ownWord : Row → ℕ
-ownWord r = ifEq (r .kind) 3 (r .a + r .b) (r .a)
+ownWord r = ifEq (r .kind) kind.block (r .a + r .b) (r .a)
 
 unfoldable pub hasWord : ℕ → Bool
-hasWord k = ifLt k 3 false (ltb k 7)
+hasWord k = ifLt k kind.block false (ltb k kind.setAt)
 
 -- "a parameter, local or block word at or past its function's frame size"; those of operands are in `operandsFault`
 unfoldable pub wordFault : (ℕ → Row) → ℕ → ℕ → Bool
@@ -91,7 +92,7 @@ operandsFault f c d n = someOf (operandFault (sizeAt f c n) d) (f n .operands)
 
 unfoldable pub addressFault : (ℕ → Row) → ℕ → ℕ → ℕ → Bool
 addressFault f c d n =
-    both (eqb (f n .kind) 7) (oneOf (not (addressListed (f n .address))) (operandFault (sizeAt f c n) d (f n .address)))
+    both (eqb (f n .kind) kind.setAt) (oneOf (not (addressListed (f n .address))) (operandFault (sizeAt f c n) d (f n .address)))
 
 -- row n of c rows is broken, d being the data's length
 unfoldable pub rowFault : (ℕ → Row) → ℕ → ℕ → ℕ → Bool
@@ -112,8 +113,8 @@ unfoldable pub labelFault : (ℕ → Row) → ℕ → ℕ → Label → Bool
 labelFault f c d l =
     oneOf (ltb nameBytes (l .size))
     (ifTrue (isData (l .kind)) (ltb d (l .number))
-    (ifTrue (isFunctionLabel (l .kind)) (not (both (ltb (l .number) c) (eqb (f (l .number) .kind) 1)))
-    (ifEq (l .kind) 5 (leb c (l .number)) true)))
+    (ifTrue (isFunctionLabel (l .kind)) (not (both (ltb (l .number) c) (eqb (f (l .number) .kind) kind.function)))
+    (ifEq (l .kind) placeLabel (leb c (l .number)) true)))
 
 -- a count past its table
 unfoldable pub countFault : Tables → Bool

@@ -6,6 +6,7 @@ use mathlib.Core.Bool.{Bool}
 use lib.Dec.{ltb, leb, eqb}
 use Rattle.base_prelude.specs.Choice.{ifEq, ifTrue}
 use Rattle.base_limits.specs.Limits.{blockDepth}
+use Rattle.lang_kinds.specs.Kinds as kind
 use Rattle.prog_tables.specs.Layout.{frameHead}
 use Rattle.prog_tables.specs.Tests.{both, oneOf, someBelow, countBelow, greatestBelow}
 use Rattle.prog_tables.specs.Statement.{Row}
@@ -17,11 +18,11 @@ isIn f k s i = both (eqb (f i .kind) k) (eqb (f i .scope) s)
 
 -- the lets of frame s before row n; its own lets are those of all rows
 unfoldable pub letsBefore : (ℕ → Row) → ℕ → ℕ → ℕ
-letsBefore f s n = countBelow (isIn f 5 s) n
+letsBefore f s n = countBelow (isIn f kind.letLocal s) n
 
 -- one plus the need of a block, where row i is a block directly in frame s; `need` gives that of a block
 unfoldable pub blockNeed : (ℕ → Row) → ℕ → (ℕ → ℕ) → ℕ → ℕ
-blockNeed f s need i = ifTrue (isIn f 3 s i) (suc (need i)) 0
+blockNeed f s need i = ifTrue (isIn f kind.block s i) (suc (need i)) 0
 
 -- "A frame needs one word per own `let`, plus the greatest, over its direct blocks, of one plus that block's need (0 without
 -- blocks)": of frame s in c rows, with at most `depth` frames one in the other
@@ -45,7 +46,7 @@ frameSize f c s = frameHead + f s .b + needOf f c frameDepth s
 unfoldable pub firstLet : (ℕ → Row) → ℕ → ℕ → ℕ → ℕ
 firstLet f c zero s = 0
 firstLet f c (suc fuel) s =
-    ifEq (f s .kind) 3 (suc (firstLet f c fuel (f s .scope) + letsBefore f (f s .scope) c)) (frameHead + f s .b)
+    ifEq (f s .kind) kind.block (suc (firstLet f c fuel (f s .scope) + letsBefore f (f s .scope) c)) (frameHead + f s .b)
 
 -- the word in which block row s saves the auto top: behind all lets of the frame outside, also those that stand after the block
 unfoldable pub blockWord : (ℕ → Row) → ℕ → ℕ → ℕ
@@ -59,7 +60,7 @@ letWord f c n = firstLet f c frameDepth (f n .scope) + letsBefore f (f n .scope)
 
 -- the let at row i is in scope in frame s
 unfoldable pub letSeen : (ℕ → Row) → ℕ → ℕ → Bool
-letSeen f s i = both (eqb (f i .kind) 5) (encloses f frameDepth (f i .scope) s)
+letSeen f s i = both (eqb (f i .kind) kind.letLocal) (encloses f frameDepth (f i .scope) s)
 
 -- w is the word of one of p parameters
 unfoldable pub isParameter : ℕ → ℕ → Bool

@@ -7,7 +7,8 @@ use lib.Dec.{eqb}
 use lib.ListN.{getD, take, drop}
 use Rattle.base_prelude.specs.Choice.{ifEq}
 use Rattle.base_limits.specs.Limits.{nameBytes}
-use Rattle.prog_tables.specs.Layout.{labelRow}
+use Rattle.prog_tables.specs.LabelRow as label
+use Rattle.prog_tables.specs.Layout.{labelRow, dataLabel, exportedData, functionLabel, exportedFunction}
 use Rattle.prog_tables.specs.Statement.{Row, rowAt}
 
 pub record Label : Type 0 where
@@ -23,18 +24,18 @@ unfoldable pub labelAt : List ℕ → List ℕ → ℕ → Label
 labelAt t names n =
     record {
       kind = getD t (n * labelRow) 0;
-      number = getD t (n * labelRow + 1) 0;
-      size = getD t (n * labelRow + 3) 0;
-      name = take (getD t (n * labelRow + 3) 0) (drop (n * nameBytes) names);
+      number = getD t (n * labelRow + label.number) 0;
+      size = getD t (n * labelRow + label.size) 0;
+      name = take (getD t (n * labelRow + label.size) 0) (drop (n * nameBytes) names);
     }
 
 -- data, exported or not
 unfoldable pub isData : ℕ → Bool
-isData k = ifEq k 1 true (eqb k 2)
+isData k = ifEq k dataLabel true (eqb k exportedData)
 
 -- a function, exported or not
 unfoldable pub isFunctionLabel : ℕ → Bool
-isFunctionLabel k = ifEq k 3 true (eqb k 4)
+isFunctionLabel k = ifEq k functionLabel true (eqb k exportedFunction)
 
 -- the tables of a program, and the bytes of its data
 pub record Tables : Type 0 where

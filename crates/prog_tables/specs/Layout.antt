@@ -4,7 +4,11 @@
 use mathlib.Core.Path.{_≡_, refl}
 use Prim.Native.Nat.{ℕ, _*_}
 use Rattle.base_limits.specs.Limits.{statements, labels, nameBytes}
+use Rattle.lang_words.specs.Numbers as op
+use Rattle.prog_tables.specs.StatementRow as row
+use Rattle.prog_tables.specs.LabelRow as label
 use Rattle.prog_tables.specs.declared.Sizes.{Sizes}
+use Rattle.prog_tables.specs.declared.Numbers.{Numbers}
 
 -- words of a statement row
 abbrev pub statementRow : ℕ
@@ -66,10 +70,34 @@ abbrev pub callExpression : ℕ
 callExpression = 2
 
 abbrev pub firstOperator : ℕ
-firstOperator = 33
+firstOperator = op.add
 
 abbrev pub lastOperator : ℕ
-lastOperator = 51
+lastOperator = op.xor
+
+-- operand kinds; each has its `@` form
+abbrev pub noOperand : ℕ
+noOperand = 0
+
+abbrev pub constantOperand : ℕ
+constantOperand = 1
+
+-- a local's frame word
+abbrev pub localOperand : ℕ
+localOperand = 2
+
+-- a data label's address
+abbrev pub addressOperand : ℕ
+addressOperand = 3
+
+abbrev pub atConstant : ℕ
+atConstant = 4
+
+abbrev pub atLocal : ℕ
+atLocal = 5
+
+abbrev pub atAddress : ℕ
+atAddress = 6
 
 -- label kinds
 abbrev pub dataLabel : ℕ
@@ -86,3 +114,44 @@ exportedFunction = 4
 
 abbrev pub placeLabel : ℕ
 placeLabel = 5
+
+-- the words of rows and the numbers above, as `all_numbers` gives them
+unfoldable pub numbersOf : Numbers
+numbersOf =
+    record {
+      «frame_head» = frameHead;
+      «row_kind» = row.kind;
+      «row_func» = row.func;
+      «row_scope» = row.scope;
+      «row_up» = row.up;
+      «row_a» = row.a;
+      «row_b» = row.b;
+      «row_expr» = row.expr;
+      «row_callee» = row.callee;
+      «row_count» = row.count;
+      «row_address» = row.address;
+      «row_operands» = row.operands;
+      «row_token» = row.token;
+      «row_next» = row.next;
+      «label_kind» = label.kind;
+      «label_number» = label.number;
+      «label_unused» = label.unused;
+      «label_size» = label.size;
+      «no_expression» = noExpression;
+      plain = plain;
+      «call_expression» = callExpression;
+      «first_operator» = firstOperator;
+      «last_operator» = lastOperator;
+      «no_operand» = noOperand;
+      «constant_operand» = constantOperand;
+      «local_operand» = localOperand;
+      «address_operand» = addressOperand;
+      «at_constant» = atConstant;
+      «at_local» = atLocal;
+      «at_address» = atAddress;
+      «data_label» = dataLabel;
+      «exported_data» = exportedData;
+      «function_label» = functionLabel;
+      «exported_function» = exportedFunction;
+      «place_label» = placeLabel;
+    }

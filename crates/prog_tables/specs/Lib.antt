@@ -1,3 +1,5 @@
+pub mod StatementRow
+pub mod LabelRow
 pub mod Layout
 pub mod Tests
 pub mod Statement

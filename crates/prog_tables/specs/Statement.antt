@@ -6,8 +6,10 @@ use mathlib.Core.List.{List, [], _∷_}
 use lib.Dec.{ltb, eqb}
 use lib.ListN.{getD, take}
 use Rattle.base_prelude.specs.Choice.{ifLt, ifEq, ifTrue}
+use Rattle.lang_kinds.specs.Kinds as kind
 use Rattle.lang_words.specs.Words.{leastOperands}
-use Rattle.prog_tables.specs.Layout.{statementRow, plain, callExpression, firstOperator, lastOperator, operandSlots}
+use Rattle.prog_tables.specs.StatementRow as row
+use Rattle.prog_tables.specs.Layout.{statementRow, plain, callExpression, firstOperator, lastOperator, operandSlots, noOperand, constantOperand, localOperand, addressOperand, atConstant, atLocal, atAddress}
 use Rattle.prog_tables.specs.declared.Operand.{Operand}
 use Rattle.prog_tables.specs.declared.Operand.the-variants.{Constant, Local, Address, AtConstant, AtLocal, AtAddress, Unlisted}
 
@@ -16,21 +18,21 @@ use Rattle.prog_tables.specs.declared.Operand.the-variants.{Constant, Lo
 -- "An operand is an integer, a name, or `@` and one of these": a kind and a number
 unfoldable pub operandOf : ℕ → ℕ → Operand
 operandOf k v =
-    ifEq k 1 (Constant v)
-    (ifEq k 2 (Local v)
-    (ifEq k 3 (Address v)
-    (ifEq k 4 (AtConstant v)
-    (ifEq k 5 (AtLocal v)
-    (ifEq k 6 (AtAddress v) Unlisted)))))
+    ifEq k constantOperand (Constant v)
+    (ifEq k localOperand (Local v)
+    (ifEq k addressOperand (Address v)
+    (ifEq k atConstant (AtConstant v)
+    (ifEq k atLocal (AtLocal v)
+    (ifEq k atAddress (AtAddress v) Unlisted)))))
 
 unfoldable pub operandKind : Operand → ℕ
-operandKind (Constant v) = 1
-operandKind (Local v) = 2
-operandKind (Address v) = 3
-operandKind (AtConstant v) = 4
-operandKind (AtLocal v) = 5
-operandKind (AtAddress v) = 6
-operandKind Unlisted = 0
+operandKind (Constant v) = constantOperand
+operandKind (Local v) = localOperand
+operandKind (Address v) = addressOperand
+operandKind (AtConstant v) = atConstant
+operandKind (AtLocal v) = atLocal
+operandKind (AtAddress v) = atAddress
+operandKind Unlisted = noOperand
 
 unfoldable pub operandNumber : Operand → ℕ
 operandNumber (Constant v) = v
@@ -45,18 +47,18 @@ operandNumber Unlisted = 0
 
 -- `let`, `set`, `set @` and `return` have an expression
 unfoldable pub hasExpression : ℕ → Bool
-hasExpression k = ifLt k 5 false (ifLt k 8 true (eqb k 13))
+hasExpression k = ifLt k kind.letLocal false (ifLt k kind.setByte true (eqb k kind.return))
 
 -- ifeq, ifge, ifgt, ifle, iflt, ifne
 unfoldable pub isTest : ℕ → Bool
-isTest k = ifLt k 14 false (ltb k 20)
+isTest k = ifLt k kind.ifeq false (ltb k kind.else)
 
 unfoldable pub isOperator : ℕ → Bool
 isOperator e = ifLt e firstOperator false (ltb e (suc lastOperator))
 
 -- the row of kind k with expression kind e calls a function
 unfoldable pub isCall : ℕ → ℕ → Bool
-isCall k e = ifEq k 11 true (ifEq k 12 true (ifTrue (hasExpression k) (eqb e callExpression) false))
+isCall k e = ifEq k kind.call true (ifEq k kind.tailCall true (ifTrue (hasExpression k) (eqb e callExpression) false))
 
 -- operands of an expression of kind e; n arguments where it is a call
 unfoldable pub expressionUses : ℕ → ℕ → ℕ
@@ -68,8 +70,8 @@ usedBy k e n =
     ifTrue (hasExpression k) (expressionUses e n)
     (ifTrue (isCall k e) n
     (ifTrue (isTest k) 2
-    (ifEq k 8 3
-    (ifEq k 9 3 0))))
+    (ifEq k kind.setByte 3
+    (ifEq k kind.setWord 3 0))))
 
 -- ---- rows
 
@@ -96,10 +98,10 @@ pub record Row : Type 0 where
 unfoldable pub operandAt : List ℕ → ℕ → Operand
 operandAt t i = operandOf (getD t i 0) (getD t (i + 1) 0)
 
--- the eight operand slots of the row whose first word is at a place
+-- the eight operand slots, of two words each, of the row whose first word is at a place
 unfoldable pub slots : List ℕ → ℕ → List Operand
 slots t at =
-    operandAt t (at + 11) ∷ operandAt t (at + 13) ∷ operandAt t (at + 15) ∷ operandAt t (at + 17) ∷ operandAt t (at + 19) ∷ operandAt t (at + 21)
+    operandAt t (at + row.operands) ∷ operandAt t (at + 13) ∷ operandAt t (at + 15) ∷ operandAt t (at + 17) ∷ operandAt t (at + 19) ∷ operandAt t (at + 21)
     ∷ operandAt t (at + 23) ∷ operandAt t (at + 25) ∷ []
 
 -- the row whose first word is at a place; words past the end are 0
@@ -107,16 +109,16 @@ unfoldable pub rowFrom : List ℕ → ℕ → Row
 rowFrom t at =
     record {
       kind = getD t at 0;
-      func = getD t (at + 1) 0;
-      scope = getD t (at + 2) 0;
-      up = getD t (at + 3) 0;
-      a = getD t (at + 4) 0;
-      b = getD t (at + 5) 0;
-      expr = getD t (at + 6) 0;
-      callee = getD t (at + 7) 0;
-      count = getD t (at + 8) 0;
-      address = operandAt t (at + 9);
-      operands = take (usedBy (getD t at 0) (getD t (at + 6) 0) (getD t (at + 8) 0)) (slots t at);
+      func = getD t (at + row.func) 0;
+      scope = getD t (at + row.scope) 0;
+      up = getD t (at + row.up) 0;
+      a = getD t (at + row.a) 0;
+      b = getD t (at + row.b) 0;
+      expr = getD t (at + row.expr) 0;
+      callee = getD t (at + row.callee) 0;
+      count = getD t (at + row.count) 0;
+      address = operandAt t (at + row.address);
+      operands = take (usedBy (getD t at 0) (getD t (at + row.expr) 0) (getD t (at + row.count) 0)) (slots t at);
     }
 
 -- the row of 27 words

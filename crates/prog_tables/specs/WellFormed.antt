@@ -12,8 +12,9 @@ use Rattle.base_prelude.specs.Choice.{ifTrue}
 use Rattle.base_prelude.specs.Lists.{sameList}
 use Rattle.base_limits.specs.Limits as limits
 use Rattle.base_limits.specs.Limits.{nameBytes, dataBytes, parameters, locals, blockDepth}
+use Rattle.lang_kinds.specs.Kinds as kind
 use Rattle.lang_words.specs.Words.{numberOf}
-use Rattle.prog_tables.specs.Layout.{statementRow, labelRow}
+use Rattle.prog_tables.specs.Layout.{statementRow, labelRow, placeLabel}
 use Rattle.prog_tables.specs.Tests.{both, oneOf, given, all, allOf, allBelow, someBelow}
 use Rattle.prog_tables.specs.Statement.{Row, hasExpression, isTest, isCall, usedBy}
 use Rattle.prog_tables.specs.Label.{Label, Tables, rows, labelsOf, isData, isFunctionLabel}
@@ -27,7 +28,7 @@ use Rattle.prog_tables.specs.declared.Operand.the-variants.{Constant, Lo
 
 -- "blocks nested 16 deep"
 unfoldable pub shallow : (ℕ → Row) → ℕ → Bool
-shallow f n = given (eqb (f n .kind) 3) (leb (depthOf f frameDepth n) blockDepth)
+shallow f n = given (eqb (f n .kind) kind.block) (leb (depthOf f frameDepth n) blockDepth)
 
 -- "each test's and `else`'s target the one 01 gives"
 unfoldable pub aimed : (ℕ → Row) → ℕ → ℕ → Bool
@@ -40,12 +41,12 @@ labelled g l p v = someBelow (λ i. both (p (g i .kind)) (eqb (g i .number) v)) 
 -- "`goto` takes a statement's label in the same function and innermost block."
 unfoldable pub jumps : (ℕ → Row) → ℕ → (ℕ → Label) → ℕ → ℕ → Bool
 jumps f c g l n =
-    given (eqb (f n .kind) 10)
+    given (eqb (f n .kind) kind.goto)
     (all
     (ltb (f n .a) c
     ∷ eqb (f (f n .a) .func) (f n .func)
     ∷ eqb (f (f n .a) .scope) (f n .scope)
-    ∷ labelled g l (λ k. eqb k 5) (f n .a)
+    ∷ labelled g l (λ k. eqb k placeLabel) (f n .a)
     ∷ []))
 
 -- "`call` and `tail-call` take a function label with its parameter count."
@@ -54,7 +55,7 @@ calls f c g l n =
     given (isCall (f n .kind) (f n .expr))
     (all
     (ltb (f n .callee) c
-    ∷ eqb (f (f n .callee) .kind) 1
+    ∷ eqb (f (f n .callee) .kind) kind.function
     ∷ eqb (f (f n .callee) .b) (f n .count)
     ∷ leb (f n .count) parameters
     ∷ labelled g l isFunctionLabel (f n .callee)
@@ -62,7 +63,7 @@ calls f c g l n =
 
 -- `set-byte`, `set-word`, calls, tests, and what has an expression
 unfoldable pub hasOperands : ℕ → Bool
-hasOperands k = oneOf (hasExpression k) (oneOf (isTest k) (both (leb 8 k) (both (leb k 12) (not (eqb k 10)))))
+hasOperands k = oneOf (hasExpression k) (oneOf (isTest k) (both (leb kind.setByte k) (both (leb k kind.tailCall) (not (eqb k kind.goto)))))
 
 -- an expression of a listed kind; as many operands as its operator, call or statement takes
 unfoldable pub shaped : (ℕ → Row) → ℕ → Bool
@@ -86,26 +87,26 @@ operandsGood f g l n = allOf (operandGood f g l n) (f n .operands)
 
 -- the operand behind the `@` of `set @`
 unfoldable pub addressGood : (ℕ → Row) → (ℕ → Label) → ℕ → ℕ → Bool
-addressGood f g l n = given (eqb (f n .kind) 7) (both (addressListed (f n .address)) (operandGood f g l n (f n .address)))
+addressGood f g l n = given (eqb (f n .kind) kind.setAt) (both (addressListed (f n .address)) (operandGood f g l n (f n .address)))
 
 -- "`set` takes a local."
 unfoldable pub setsLocal : (ℕ → Row) → ℕ → Bool
-setsLocal f n = given (eqb (f n .kind) 6) (inScope f n (f n .a))
+setsLocal f n = given (eqb (f n .kind) kind.set) (inScope f n (f n .a))
 
 -- a let's word, a block's word with its lets and the locals before it, the same word at its `end block`, a function's frame size
 unfoldable pub framed : (ℕ → Row) → ℕ → ℕ → Bool
 framed f c n =
     all
-    (given (eqb (f n .kind) 5) (eqb (f n .a) (letWord f c n))
-    ∷ given (eqb (f n .kind) 3)
+    (given (eqb (f n .kind) kind.letLocal) (eqb (f n .a) (letWord f c n))
+    ∷ given (eqb (f n .kind) kind.block)
     (both (eqb (f n .a) (blockWord f c n)) (both (eqb (f n .b) (letsBefore f n c)) (eqb (f n .callee) (localsAt f n))))
-    ∷ given (eqb (f n .kind) 4) (eqb (f n .a) (blockWord f c (f n .scope)))
-    ∷ given (eqb (f n .kind) 1) (eqb (f n .a) (frameSize f c n))
+    ∷ given (eqb (f n .kind) kind.endBlock) (eqb (f n .a) (blockWord f c (f n .scope)))
+    ∷ given (eqb (f n .kind) kind.function) (eqb (f n .a) (frameSize f c n))
     ∷ [])
 
 -- "parameters and arguments 8; locals in scope 64, parameters and shadowed ones included": at each `let` one may come to those in scope
 unfoldable pub fewLocals : (ℕ → Row) → ℕ → Bool
-fewLocals f n = both (given (eqb (f n .kind) 1) (leb (f n .b) parameters)) (given (eqb (f n .kind) 5) (ltb (localsAt f n) locals))
+fewLocals f n = both (given (eqb (f n .kind) kind.function) (leb (f n .b) parameters)) (given (eqb (f n .kind) kind.letLocal) (ltb (localsAt f n) locals))
 
 -- the tests of statement n, in the order of proofs/Each
 unfoldable pub rowTests : (ℕ → Row) → ℕ → (ℕ → Label) → ℕ → ℕ → List Bool
@@ -131,8 +132,8 @@ unfoldable pub names : (ℕ → Row) → ℕ → ℕ → Label → Bool
 names f c d l =
     ifTrue (isData (l .kind)) (leb (l .number) d)
     (both (ltb (l .number) c)
-    (ifTrue (isFunctionLabel (l .kind)) (eqb (f (l .number) .kind) 1)
-    (all (eqb (l .kind) 5 ∷ not (eqb (f (l .number) .kind) 1) ∷ not (followsJump f (l .number)) ∷ []))))
+    (ifTrue (isFunctionLabel (l .kind)) (eqb (f (l .number) .kind) kind.function)
+    (all (eqb (l .kind) placeLabel ∷ not (eqb (f (l .number) .kind) kind.function) ∷ not (followsJump f (l .number)) ∷ []))))
 
 -- "a name 64 decoded bytes", "none empty or reserved"
 unfoldable pub nameGood : Label → Bool

@@ -1,8 +1,10 @@
 // What a program is: rows of statements and labels, operands.
+use lang_kinds::Kind;
+use lang_words::Word;
 ghost use mathlib.Core.Path.{_≡_};
 ghost use Prim.Native.Nat.{_<_};
 ghost use lib.ListN.{getD};
-ghost use Rattle.prog_tables.specs.Layout.{sizesOf};
+ghost use Rattle.prog_tables.specs.Layout.{sizesOf, numbersOf};
 ghost use Rattle.prog_tables.specs.Statement.{operandOf, hasExpression, isTest, isOperator, isCall, expressionUses, usedBy, operandAt, rowAt};
 
 // An operand: a constant, a local's word, a data address, or the word at one of these. Unlisted is any other kind.
@@ -31,6 +33,9 @@ impl Table {
     pub const LABEL_WORDS: usize = 1024;
 
     pub const NAME_TABLE: usize = 16384;
+
+    // Frame words before the parameters.
+    pub const FRAME_HEAD: u32 = 3;
 }
 
 // Every constant of the type.
@@ -57,17 +62,193 @@ pub fn all_sizes() -> Sizes
     }
 }
 
+// The words of a statement row.
+pub struct StatementRow {}
+
+impl StatementRow {
+    pub const KIND: usize = 0;
+
+    pub const FUNC: usize = 1;
+
+    pub const SCOPE: usize = 2;
+
+    pub const UP: usize = 3;
+
+    pub const A: usize = 4;
+
+    pub const B: usize = 5;
+
+    pub const EXPR: usize = 6;
+
+    pub const CALLEE: usize = 7;
+
+    pub const COUNT: usize = 8;
+
+    pub const ADDRESS: usize = 9;
+
+    pub const OPERANDS: usize = 11;
+
+    // In a skeleton row.
+    pub const TOKEN: usize = 9;
+
+    pub const NEXT: usize = 10;
+}
+
+// The words of a label row.
+pub struct LabelRow {}
+
+impl LabelRow {
+    pub const KIND: usize = 0;
+
+    pub const NUMBER: usize = 1;
+
+    pub const UNUSED: usize = 2;
+
+    pub const SIZE: usize = 3;
+}
+
+// Expression kinds: none, one operand alone, a call; an operator has its number among the words.
+pub struct ExpressionKind {}
+
+impl ExpressionKind {
+    pub const NONE: u32 = 0;
+
+    pub const PLAIN: u32 = 1;
+
+    pub const CALL: u32 = 2;
+
+    pub const FIRST_OPERATOR: u32 = Word::ADD;
+
+    pub const LAST_OPERATOR: u32 = Word::XOR;
+}
+
+// Operand kinds.
+pub struct OperandKind {}
+
+impl OperandKind {
+    pub const NONE: u32 = 0;
+
+    pub const CONSTANT: u32 = 1;
+
+    pub const LOCAL: u32 = 2;
+
+    pub const ADDRESS: u32 = 3;
+
+    pub const AT_CONSTANT: u32 = 4;
+
+    pub const AT_LOCAL: u32 = 5;
+
+    pub const AT_ADDRESS: u32 = 6;
+}
+
+// Label kinds.
+pub struct LabelKind {}
+
+impl LabelKind {
+    pub const DATA: u32 = 1;
+
+    pub const EXPORTED_DATA: u32 = 2;
+
+    pub const FUNCTION: u32 = 3;
+
+    pub const EXPORTED_FUNCTION: u32 = 4;
+
+    pub const PLACE: u32 = 5;
+}
+
+// The words of rows and the numbers in them.
+pub struct Numbers {
+    pub frame_head: u32,
+    pub row_kind: usize,
+    pub row_func: usize,
+    pub row_scope: usize,
+    pub row_up: usize,
+    pub row_a: usize,
+    pub row_b: usize,
+    pub row_expr: usize,
+    pub row_callee: usize,
+    pub row_count: usize,
+    pub row_address: usize,
+    pub row_operands: usize,
+    pub row_token: usize,
+    pub row_next: usize,
+    pub label_kind: usize,
+    pub label_number: usize,
+    pub label_unused: usize,
+    pub label_size: usize,
+    pub no_expression: u32,
+    pub plain: u32,
+    pub call_expression: u32,
+    pub first_operator: u32,
+    pub last_operator: u32,
+    pub no_operand: u32,
+    pub constant_operand: u32,
+    pub local_operand: u32,
+    pub address_operand: u32,
+    pub at_constant: u32,
+    pub at_local: u32,
+    pub at_address: u32,
+    pub data_label: u32,
+    pub exported_data: u32,
+    pub function_label: u32,
+    pub exported_function: u32,
+    pub place_label: u32,
+}
+
+// The constants are the numbers of specs/Layout, specs/StatementRow and specs/LabelRow.
+pub fn all_numbers() -> Numbers
+    ensures { λ r. ⌜ r ≡ numbersOf ⌝ }
+{
+    Numbers {
+        frame_head: Table::FRAME_HEAD,
+        row_kind: StatementRow::KIND,
+        row_func: StatementRow::FUNC,
+        row_scope: StatementRow::SCOPE,
+        row_up: StatementRow::UP,
+        row_a: StatementRow::A,
+        row_b: StatementRow::B,
+        row_expr: StatementRow::EXPR,
+        row_callee: StatementRow::CALLEE,
+        row_count: StatementRow::COUNT,
+        row_address: StatementRow::ADDRESS,
+        row_operands: StatementRow::OPERANDS,
+        row_token: StatementRow::TOKEN,
+        row_next: StatementRow::NEXT,
+        label_kind: LabelRow::KIND,
+        label_number: LabelRow::NUMBER,
+        label_unused: LabelRow::UNUSED,
+        label_size: LabelRow::SIZE,
+        no_expression: ExpressionKind::NONE,
+        plain: ExpressionKind::PLAIN,
+        call_expression: ExpressionKind::CALL,
+        first_operator: ExpressionKind::FIRST_OPERATOR,
+        last_operator: ExpressionKind::LAST_OPERATOR,
+        no_operand: OperandKind::NONE,
+        constant_operand: OperandKind::CONSTANT,
+        local_operand: OperandKind::LOCAL,
+        address_operand: OperandKind::ADDRESS,
+        at_constant: OperandKind::AT_CONSTANT,
+        at_local: OperandKind::AT_LOCAL,
+        at_address: OperandKind::AT_ADDRESS,
+        data_label: LabelKind::DATA,
+        exported_data: LabelKind::EXPORTED_DATA,
+        function_label: LabelKind::FUNCTION,
+        exported_function: LabelKind::EXPORTED_FUNCTION,
+        place_label: LabelKind::PLACE,
+    }
+}
+
 // The operand of a kind and a number.
 pub fn operand_of(k: u32, v: u32) -> Operand
     ensures { λ r. ⌜ r ≡ operandOf k v ⌝ }
 {
     match k {
-        1 => Operand::Constant(v),
-        2 => Operand::Local(v),
-        3 => Operand::Address(v),
-        4 => Operand::AtConstant(v),
-        5 => Operand::AtLocal(v),
-        6 => Operand::AtAddress(v),
+        OperandKind::CONSTANT => Operand::Constant(v),
+        OperandKind::LOCAL => Operand::Local(v),
+        OperandKind::ADDRESS => Operand::Address(v),
+        OperandKind::AT_CONSTANT => Operand::AtConstant(v),
+        OperandKind::AT_LOCAL => Operand::AtLocal(v),
+        OperandKind::AT_ADDRESS => Operand::AtAddress(v),
         _ => Operand::Unlisted,
     }
 }
@@ -91,89 +272,89 @@ pub fn operand_at(t: &[u32], i: usize) -> Operand
 pub fn kind_at(t: &[u32], n: u32) -> u32
     ensures { λ r. ⌜ r ≡ rowAt (now (t .entry)) n .kind ⌝ }
 {
-    word_at(t, n as usize * 27)
+    word_at(t, n as usize * Table::STATEMENT_ROW)
 }
 
 // The frame that a row stands in.
 pub fn scope_at(t: &[u32], n: u32) -> u32
     ensures { λ r. ⌜ r ≡ rowAt (now (t .entry)) n .scope ⌝ }
 {
-    word_at(t, n as usize * 27 + 2)
+    word_at(t, n as usize * Table::STATEMENT_ROW + StatementRow::SCOPE)
 }
 
 // The function that a row stands in.
 pub fn func_at(t: &[u32], n: u32) -> u32
     ensures { λ r. ⌜ r ≡ rowAt (now (t .entry)) n .func ⌝ }
 {
-    word_at(t, n as usize * 27 + 1)
+    word_at(t, n as usize * Table::STATEMENT_ROW + StatementRow::FUNC)
 }
 
 // What is open around a row, its number plus one.
 pub fn up_at(t: &[u32], n: u32) -> u32
     ensures { λ r. ⌜ r ≡ rowAt (now (t .entry)) n .up ⌝ }
 {
-    word_at(t, n as usize * 27 + 3)
+    word_at(t, n as usize * Table::STATEMENT_ROW + StatementRow::UP)
 }
 
 // The target, word or size of a row.
 pub fn a_at(t: &[u32], n: u32) -> u32
     ensures { λ r. ⌜ r ≡ rowAt (now (t .entry)) n .a ⌝ }
 {
-    word_at(t, n as usize * 27 + 4)
+    word_at(t, n as usize * Table::STATEMENT_ROW + StatementRow::A)
 }
 
 // The parameters of a function row.
 pub fn parameters_at(t: &[u32], n: u32) -> u32
     ensures { λ r. ⌜ r ≡ rowAt (now (t .entry)) n .b ⌝ }
 {
-    word_at(t, n as usize * 27 + 5)
+    word_at(t, n as usize * Table::STATEMENT_ROW + StatementRow::B)
 }
 
 // Whether a kind is that of a test.
 pub fn is_test(k: u32) -> bool
     ensures { λ r. ⌜ r ≡ isTest k ⌝ }
 {
-    if k < 14 {
+    if k < Kind::IFEQ {
         return false;
     }
-    k < 20
+    k < Kind::ELSE
 }
 
 // Whether a row of this kind has an expression.
 pub fn has_expression(k: u32) -> bool
     ensures { λ r. ⌜ r ≡ hasExpression k ⌝ }
 {
-    if k < 5 {
+    if k < Kind::LET {
         return false;
     }
-    if k < 8 {
+    if k < Kind::SET_BYTE {
         return true;
     }
-    k == 13
+    k == Kind::RETURN
 }
 
 // Whether an expression kind is an operator.
 pub fn is_operator(e: u32) -> bool
     ensures { λ r. ⌜ r ≡ isOperator e ⌝ }
 {
-    if e < 33 {
+    if e < Word::ADD {
         return false;
     }
-    e < 52
+    e < Word::PAST_WORDS
 }
 
 // Whether a row calls a function.
 pub fn is_call(k: u32, e: u32) -> bool
     ensures { λ r. ⌜ r ≡ isCall k e ⌝ }
 {
-    if k == 11 {
+    if k == Kind::CALL {
         return true;
     }
-    if k == 12 {
+    if k == Kind::TAIL_CALL {
         return true;
     }
     if has_expression(k) {
-        return e == 2;
+        return e == ExpressionKind::CALL;
     }
     false
 }
@@ -182,20 +363,20 @@ pub fn is_call(k: u32, e: u32) -> bool
 pub fn expression_uses(e: u32, n: u32) -> u32
     ensures { λ r. ⌜ r ≡ expressionUses e n ⌝ }
 {
-    if e == 1 {
+    if e == ExpressionKind::PLAIN {
         return 1;
     }
-    if e == 2 {
+    if e == ExpressionKind::CALL {
         return n;
     }
     if is_operator(e) {
-        if e == 36 {
+        if e == Word::AUTO_BYTES {
             return 1;
         }
-        if e == 37 {
+        if e == Word::AUTO_WORDS {
             return 1;
         }
-        if e == 44 {
+        if e == Word::NOT {
             return 1;
         }
         return 2;
@@ -216,10 +397,10 @@ pub fn used_by(k: u32, e: u32, n: u32) -> u32
     if is_test(k) {
         return 2;
     }
-    if k == 8 {
+    if k == Kind::SET_BYTE {
         return 3;
     }
-    if k == 9 {
+    if k == Kind::SET_WORD {
         return 3;
     }
     0
@@ -229,26 +410,26 @@ pub fn used_by(k: u32, e: u32, n: u32) -> u32
 pub fn expression_at(t: &[u32], n: u32) -> u32
     ensures { λ r. ⌜ r ≡ rowAt (now (t .entry)) n .expr ⌝ }
 {
-    word_at(t, n as usize * 27 + 6)
+    word_at(t, n as usize * Table::STATEMENT_ROW + StatementRow::EXPR)
 }
 
 // The callee of a row.
 pub fn callee_at(t: &[u32], n: u32) -> u32
     ensures { λ r. ⌜ r ≡ rowAt (now (t .entry)) n .callee ⌝ }
 {
-    word_at(t, n as usize * 27 + 7)
+    word_at(t, n as usize * Table::STATEMENT_ROW + StatementRow::CALLEE)
 }
 
 // The count of operands or arguments of a row.
 pub fn count_at(t: &[u32], n: u32) -> u32
     ensures { λ r. ⌜ r ≡ rowAt (now (t .entry)) n .count ⌝ }
 {
-    word_at(t, n as usize * 27 + 8)
+    word_at(t, n as usize * Table::STATEMENT_ROW + StatementRow::COUNT)
 }
 
 // The address operand of a row.
 pub fn address_at(t: &[u32], n: u32) -> Operand
     ensures { λ r. ⌜ r ≡ rowAt (now (t .entry)) n .address ⌝ }
 {
-    operand_at(t, n as usize * 27 + 9)
+    operand_at(t, n as usize * Table::STATEMENT_ROW + StatementRow::ADDRESS)
 }

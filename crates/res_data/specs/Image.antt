@@ -9,6 +9,8 @@ use Rattle.base_prelude.specs.Walk.{Step, go, stop, walk}
 use Rattle.base_limits.specs.Width.{bytesOf}
 use Rattle.base_limits.specs.declared.Width.{Width}
 use Rattle.base_word.specs.Bytes.{wordBytes}
+use Rattle.lang_kinds.specs.Kinds as kind
+use Rattle.lang_kinds.specs.TokenRow as field
 use Rattle.lex_spelling.specs.Text.{stringAt}
 use Rattle.parse_lines.specs.Tokens.{tokenWord, valueAt}
 use Rattle.parse_lines.specs.Units.{unitAt}
@@ -22,9 +24,9 @@ use Rattle.res_data.specs.declared.Next.the-variants.{On, Full, Over}
 -- `byte` "stored modulo 256", `word` "little-endian", `string` its decoded bytes; the zeros of an `align` are the buffer's own
 unfoldable pub lineBytes : Width → List ℕ → List ℕ → Span → ℕ → List ℕ
 lineBytes w s t u k =
-    ifEq k 29 (valueAt t (u .word + 1) % 256 ∷ [])
-    (ifEq k 30 (wordBytes (bytesOf w) (valueAt t (u .word + 1)))
-    (ifEq k 31 (stringAt s (tokenWord t (u .word + 1) 1 + 1))
+    ifEq k kind.byte (valueAt t (u .word + 1) % 256 ∷ [])
+    (ifEq k kind.word (wordBytes (bytesOf w) (valueAt t (u .word + 1)))
+    (ifEq k kind.string (stringAt s (tokenWord t (u .word + 1) field.first + 1))
     []))
 
 -- bytes written over a buffer from a place on, as many as there is room for

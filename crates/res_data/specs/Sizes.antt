@@ -8,6 +8,8 @@ use Rattle.base_prelude.specs.Fault.{none}
 use Rattle.base_prelude.specs.Walk.{Step, go, stop, walk}
 use Rattle.base_limits.specs.Width.{bytesOf, dataLimit}
 use Rattle.base_limits.specs.declared.Width.{Width}
+use Rattle.lang_kinds.specs.Kinds as kind
+use Rattle.lang_kinds.specs.Grounds as ground
 use Rattle.parse_lines.specs.Tokens.{valueAt, keyAt}
 use Rattle.parse_lines.specs.Units.{unitAt}
 use Rattle.parse_lines.specs.Lines.{lineKind}
@@ -30,15 +32,15 @@ fillOf n len = ifEq n 0 0 ((n - len % n) % n)
 
 -- "it fills with zeros in data, does nothing between functions"
 unfoldable pub alignSize : Width → List ℕ → Span → ℕ → ℕ → ℕ
-alignSize w t u section len = ifLt section 2 0 (fillOf (alignOf w t u) len)
+alignSize w t u section len = ifLt section ground.dataSection 0 (fillOf (alignOf w t u) len)
 
 -- bytes that a line of kind k in a section adds behind len bytes: `byte` one, `word` those of a word, `string` its decoded bytes
 unfoldable pub sizeOf : Width → List ℕ → Span → ℕ → ℕ → ℕ → ℕ
 sizeOf w t u k section len =
-    ifEq k 29 1
-    (ifEq k 30 (bytesOf w)
-    (ifEq k 31 (valueAt t (u .word + 1))
-    (ifEq k 28 (alignSize w t u section len)
+    ifEq k kind.byte 1
+    (ifEq k kind.word (bytesOf w)
+    (ifEq k kind.string (valueAt t (u .word + 1))
+    (ifEq k kind.align (alignSize w t u section len)
     0)))
 
 -- behind a unit that adds some bytes
@@ -52,11 +54,11 @@ addLine w u k more s = ifLt (dataLimit w - s .size) more (Full (u .word)) (On (c
 -- the unit u, whose line is of kind k: over at the source's end and at the token `end`
 unfoldable pub nextOf : Width → List ℕ → ℕ → Span → ℕ → Cursor → Next
 nextOf w t end u k s =
-    ifEq k 0 Over (ifLt (u .word) end (addLine w u k (sizeOf w t u k (s .section) (s .size)) s) Over)
+    ifEq k kind.edge Over (ifLt (u .word) end (addLine w u k (sizeOf w t u k (s .section) (s .size)) s) Over)
 
 -- "Sections of one name are joined in source order; data starts at address 0"
 abbrev pub firstCursor : Cursor
-firstCursor = record { at = 0; section = 0; size = 0 }
+firstCursor = record { at = 0; section = ground.beforeSections; size = 0 }
 
 -- what a unit means for the count of bytes
 abbrev pub measured : Cursor → Next → Step Cursor Measured

@@ -1,5 +1,8 @@
 // The data image: how long data is, where each line of it stands, and its bytes.
 use base_limits::Width;
+use lang_kinds::Ground;
+use lang_kinds::Kind;
+use lang_kinds::TokenRow;
 use parse_lines::Span;
 ghost use mathlib.Core.Path.{_≡_};
 ghost use Prim.Native.Nat.{_+_, _-_, _≤_, _<_};
@@ -54,7 +57,7 @@ fn align_size(w: Width, t: &[u32], u: Span, section: u32, len: u32) -> u32
     requires { ⌜ u .word < 4294967295 ⌝ }
     ensures { λ r. ⌜ r ≡ alignSize w (now (t .entry)) u section len ⌝ }
 {
-    if section < 2 {
+    if section < Ground::DATA_SECTION {
         return 0;
     }
     fill_of(align_of(w, t, u), len)
@@ -64,16 +67,16 @@ fn size_of(w: Width, t: &[u32], u: Span, k: u32, section: u32, len: u32) -> u32
     requires { ⌜ u .word < 4294967295 ⌝ }
     ensures { λ r. ⌜ r ≡ sizeOf w (now (t .entry)) u k section len ⌝ }
 {
-    if k == 29 {
+    if k == Kind::BYTE {
         return 1;
     }
-    if k == 30 {
+    if k == Kind::WORD {
         return base_limits::bytes_of(w);
     }
-    if k == 31 {
+    if k == Kind::STRING {
         return parse_lines::value_at(t, u.word + 1);
     }
-    if k == 28 {
+    if k == Kind::ALIGN {
         return align_size(w, t, u, section, len);
     }
     0
@@ -113,7 +116,7 @@ fn next_of(w: Width, t: &[u32], end: u32, u: Span, k: u32, s: Cursor) -> Next
     requires { ⌜ u .word < 4294967295 ⌝ }
     ensures { λ r. ⌜ r ≡ nextOf w (now (t .entry)) end u k s ⌝ }
 {
-    if k == 0 {
+    if k == Kind::EDGE {
         return Next::Over;
     }
     if u.word < end {
@@ -156,7 +159,7 @@ fn first_cursor() -> Cursor
 {
     Cursor {
         at: 0,
-        section: 0,
+        section: Ground::BEFORE_SECTIONS,
         size: 0,
     }
 }
@@ -189,11 +192,11 @@ fn write_line(w: Width, s: &[u8], t: &[u32], u: Span, k: u32, out: &mut [u8])
     requires { ⌜ u .word < 4294967295 ⌝ }
     ensures { λ _. ⌜ now (out .exit) ≡ overlay (lineBytes w (now (s .entry)) (now (t .entry)) u k) (now (out .entry)) ⌝ }
 {
-    if k == 29 {
+    if k == Kind::BYTE {
         write_number(1, parse_lines::value_at(t, u.word + 1), out);
         return;
     }
-    if k == 30 {
+    if k == Kind::WORD {
         write_number(
             base_limits::bytes_of(w) as usize,
             parse_lines::value_at(t, u.word + 1),
@@ -201,8 +204,8 @@ fn write_line(w: Width, s: &[u8], t: &[u32], u: Span, k: u32, out: &mut [u8])
         );
         return;
     }
-    if k == 31 {
-        let first = parse_lines::token_word(t, u.word + 1, 1);
+    if k == Kind::STRING {
+        let first = parse_lines::token_word(t, u.word + 1, TokenRow::FIRST);
         lex_spelling::copy_text(true, s, first as usize + 1, out);
     }
 }

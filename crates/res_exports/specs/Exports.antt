@@ -11,6 +11,7 @@ use Rattle.base_prelude.specs.Choice.{ifLt, ifEq, ifTrue}
 use Rattle.base_prelude.specs.Fault.{none}
 use Rattle.base_prelude.specs.Lists.{zeros}
 use Rattle.base_prelude.specs.Walk.{Step, go, stop, walk}
+use Rattle.lang_kinds.specs.Kinds as kind
 use Rattle.parse_lines.specs.Tokens.{keyAt}
 use Rattle.parse_lines.specs.Units.{unitAt}
 use Rattle.parse_lines.specs.Lines.{lineKind}
@@ -28,11 +29,11 @@ use Rattle.res_exports.specs.declared.Going.the-variants.{On, Over}
 
 -- "data definition, group or function": `align` and exports are passed over
 unfoldable pub isDefinition : ℕ → Bool
-isDefinition k = ifEq k 1 true (ifLt k 29 false (ltb k 33))
+isDefinition k = ifEq k kind.function true (ifLt k kind.byte false (ltb k kind.endGroup))
 
 -- the source's end, or a `section`
 unfoldable pub endsSearch : ℕ → Bool
-endsSearch k = ifEq k 0 true (ifLt k 25 false (ltb k 27))
+endsSearch k = ifEq k kind.edge true (ifLt k kind.sectionData false (ltb k kind.export))
 
 -- no unit: it has no labels
 abbrev pub nowhere : Span
@@ -108,11 +109,11 @@ judgedBy same t n y l uses i j x = exported (min (x .fault) (exportFault same t 
 -- the line whose unit is u
 unfoldable pub exportPart : (ℕ → ℕ → Bool) → List ℕ → ℕ → List ℕ → ℕ → List ℕ → Span → ℕ → Exported → Exported
 exportPart same t n y l uses u k x =
-    ifEq k 27 (judgedBy same t n y l uses (u .word + 1) (carriedBy same y l (definitionFrom t (u .next) .first) (definitionFrom t (u .next) .word) (u .word + 1)) x) x
+    ifEq k kind.export (judgedBy same t n y l uses (u .word + 1) (carriedBy same y l (definitionFrom t (u .next) .first) (definitionFrom t (u .next) .word) (u .word + 1)) x) x
 
 unfoldable pub exportOn : (ℕ → ℕ → Bool) → List ℕ → ℕ → List ℕ → ℕ → List ℕ → Span → ℕ → World → Step World Exported
 exportOn same t n y l uses u k x =
-    ifEq k 0 (stop (exported (x .state .best) (x .flags)))
+    ifEq k kind.edge (stop (exported (x .state .best) (x .flags)))
     (go
     (world (exports (u .next) (exportPart same t n y l uses u k (exported (x .state .best) (x .flags)) .fault))
     (exportPart same t n y l uses u k (exported (x .state .best) (x .flags)) .flags)))

@@ -1,4 +1,5 @@
 // Exports: which label each one exports, and the refusals 10, 11 and 17 at its name.
+use lang_kinds::Kind;
 use parse_lines::Span;
 ghost use mathlib.Core.Path.{_≡_};
 ghost use Prim.Native.Nat.{_+_, _-_, _≤_, _<_, min};
@@ -32,25 +33,25 @@ pub enum Going {
 fn is_definition(k: u32) -> bool
     ensures { λ r. ⌜ r ≡ isDefinition k ⌝ }
 {
-    if k == 1 {
+    if k == Kind::FUNCTION {
         return true;
     }
-    if k < 29 {
+    if k < Kind::BYTE {
         return false;
     }
-    k < 33
+    k < Kind::END_GROUP
 }
 
 fn ends_search(k: u32) -> bool
     ensures { λ r. ⌜ r ≡ endsSearch k ⌝ }
 {
-    if k == 0 {
+    if k == Kind::EDGE {
         return true;
     }
-    if k < 25 {
+    if k < Kind::SECTION_DATA {
         return false;
     }
-    k < 27
+    k < Kind::EXPORT
 }
 
 fn seek_on(u: Span, k: u32) -> Seek
@@ -194,7 +195,7 @@ fn export_part(
     requires { ⌜ (length (now t) ≡ 32768) × (u .word ≤ 4097) × (u .next ≤ 4097) ⌝ }
     ensures { λ r. ⌜ exported r (now (flags .exit)) ≡ exportPart (sameNumber (now (t .entry))) (now (t .entry)) n (now (y .entry)) l (now (uses .entry)) u k (exported best (now (flags .entry))) ⌝ }
 {
-    if k == 27 {
+    if k == Kind::EXPORT {
         let d = find_definition(t, u.next);
         let j = carried_by(t, y, l, d.first, d.word, u.word + 1);
         return judge_export(t, n, y, l, uses, flags, u.word + 1, j, best);
@@ -216,7 +217,7 @@ fn export_turn(
 {
     let u = parse_lines::unit_at(t, s.at);
     let k = parse_lines::line_kind(t, u.word);
-    if k == 0 {
+    if k == Kind::EDGE {
         return Going::Over(s.best);
     }
     let best = export_part(t, n, y, l, uses, flags, u, k, s.best);

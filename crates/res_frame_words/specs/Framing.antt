@@ -5,6 +5,7 @@ use mathlib.Core.List.{List}
 use lib.ListN.{set}
 use Rattle.base_prelude.specs.Choice.{ifEq, ifTrue}
 use Rattle.base_prelude.specs.Lists.{zeros}
+use Rattle.lang_kinds.specs.Kinds as kind
 use Rattle.prog_tables.specs.Statement.{Row}
 use Rattle.prog_tables.specs.Nesting.{hasTarget, targetOf}
 use Rattle.prog_tables.specs.Frames.{frameSize, blockWord, letWord}
@@ -13,10 +14,10 @@ use Rattle.prog_tables.specs.Frames.{frameSize, blockWord, letWord}
 -- `else` or an else-if jump its target
 unfoldable pub valueOf : (ℕ → Row) → ℕ → ℕ → ℕ
 valueOf f c n =
-    ifEq (f n .kind) 1 (frameSize f c n)
-    (ifEq (f n .kind) 3 (blockWord f c n)
-    (ifEq (f n .kind) 4 (blockWord f c (f n .scope))
-    (ifEq (f n .kind) 5 (letWord f c n)
+    ifEq (f n .kind) kind.function (frameSize f c n)
+    (ifEq (f n .kind) kind.block (blockWord f c n)
+    (ifEq (f n .kind) kind.endBlock (blockWord f c (f n .scope))
+    (ifEq (f n .kind) kind.letLocal (letWord f c n)
     (ifTrue (hasTarget (f n .kind)) (targetOf f c n) 0))))
 
 -- table words have 32 bits

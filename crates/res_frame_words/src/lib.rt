@@ -1,4 +1,5 @@
 // The word that nesting and frames give each row of the statement table.
+use lang_kinds::Kind;
 ghost use mathlib.Core.Path.{_≡_};
 ghost use Prim.Native.Nat.{_≤_, _<_};
 ghost use lib.ListN.{length};
@@ -21,16 +22,16 @@ fn value_of(k: &[u32], c: u32, n: u32) -> u64
     ensures { λ r. ⌜ r ≡ valueOf (rowAt (now (k .entry))) c n ⌝ }
 {
     let kind = prog_tables::kind_at(k, n);
-    if kind == 1 {
+    if kind == Kind::FUNCTION {
         return size_of(k, c, n);
     }
-    if kind == 3 {
+    if kind == Kind::BLOCK {
         return prog_frames::block_word(k, c, n);
     }
-    if kind == 4 {
+    if kind == Kind::END_BLOCK {
         return prog_frames::block_word(k, c, prog_tables::scope_at(k, n));
     }
-    if kind == 5 {
+    if kind == Kind::LET {
         return prog_frames::let_word(k, c, n);
     }
     if prog_faults::has_target(kind) {

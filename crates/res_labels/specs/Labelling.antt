@@ -6,13 +6,15 @@ use lib.ListN.{take, drop, getD}
 use Rattle.base_prelude.specs.Choice.{ifEq}
 use Rattle.base_prelude.specs.Lists.{overlay}
 use Rattle.base_limits.specs.declared.Width.{Width}
+use Rattle.lang_kinds.specs.TokenRow as field
+use Rattle.prog_tables.specs.Layout.{labelRow, dataLabel, exportedData, functionLabel, exportedFunction}
 use Rattle.lex_spelling.specs.Text.{nameAt}
 use Rattle.parse_lines.specs.Tokens.{tokenWord, valueAt}
 use Rattle.res_data.specs.Sizes.{addressOf}
 
 -- word f of label row j of the outline: 0 its token, 1 its kind, 2 what it names
 unfoldable pub outlineWord : List ℕ → ℕ → ℕ → ℕ
-outlineWord y j f = getD y (j * 4 + f) 0
+outlineWord y j f = getD y (j * labelRow + f) 0
 
 -- 1 where label j is exported
 unfoldable pub flagAt : List ℕ → ℕ → ℕ
@@ -20,14 +22,14 @@ flagAt flags j = getD flags j 0
 
 -- 1 data, 3 function, 5 place; exported data is 2, an exported function 4
 unfoldable pub exportedKind : ℕ → ℕ
-exportedKind kind = ifEq kind 1 2 (ifEq kind 3 4 kind)
+exportedKind kind = ifEq kind dataLabel exportedData (ifEq kind functionLabel exportedFunction kind)
 
 unfoldable pub finalKind : ℕ → ℕ → ℕ
 finalKind kind flag = ifEq flag 1 (exportedKind kind) kind
 
 -- "address or statement number from 0": row n + 1 of the outline is statement n
 unfoldable pub finalNumber : Width → List ℕ → ℕ → ℕ → ℕ
-finalNumber w t kind number = ifEq kind 1 (addressOf w t number) (number - 1)
+finalNumber w t kind number = ifEq kind dataLabel (addressOf w t number) (number - 1)
 
 -- the row of label j: kind, number, 0, bytes of the name
 unfoldable pub labelWords : Width → List ℕ → List ℕ → List ℕ → ℕ → List ℕ
@@ -40,7 +42,7 @@ labelWords w t y flags j =
 
 -- words as row j of the label table
 unfoldable pub putWords : List ℕ → ℕ → List ℕ → List ℕ
-putWords out j words = take (j * 4) out ++ words ++ drop (j * 4 + 4) out
+putWords out j words = take (j * labelRow) out ++ words ++ drop (j * labelRow + labelRow) out
 
 -- rows from j on, so many of them
 unfoldable pub labelsFrom : ℕ → Width → List ℕ → List ℕ → List ℕ → ℕ → List ℕ → List ℕ
@@ -53,7 +55,7 @@ labelTable w t y flags l out = labelsFrom l w t y flags 0 out
 
 -- the decoded name of label j
 unfoldable pub labelName : List ℕ → List ℕ → List ℕ → ℕ → List ℕ
-labelName s t y j = nameAt s (tokenWord t (outlineWord y j 0) 1)
+labelName s t y j = nameAt s (tokenWord t (outlineWord y j 0) field.first)
 
 -- bytes over the front of the 64 bytes of row j
 unfoldable pub putName : List ℕ → ℕ → List ℕ → List ℕ

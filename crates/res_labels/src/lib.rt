@@ -1,5 +1,9 @@
 // The label table and the name table.
 use base_limits::Width;
+use lang_kinds::TokenRow;
+use prog_tables::LabelKind;
+use prog_tables::LabelRow;
+use prog_tables::Table;
 ghost use mathlib.Core.Path.{_≡_};
 ghost use mathlib.Core.List.{[], _∷_};
 ghost use Prim.Native.Nat.{_+_, _*_, _≤_, _<_};
@@ -11,7 +15,7 @@ fn outline_word(y: &[u32], j: u32, f: usize) -> u32
     requires { ⌜ f < 4 ⌝ }
     ensures { λ r. ⌜ r ≡ outlineWord (now (y .entry)) j f ⌝ }
 {
-    let at = j as usize * 4 + f;
+    let at = j as usize * Table::LABEL_ROW + f;
     if at < y.len() { y[at] } else { 0 }
 }
 
@@ -25,11 +29,11 @@ fn flag_at(flags: &[u32], j: u32) -> u32
 fn exported_kind(kind: u32) -> u32
     ensures { λ r. ⌜ r ≡ exportedKind kind ⌝ }
 {
-    if kind == 1 {
-        return 2;
+    if kind == LabelKind::DATA {
+        return LabelKind::EXPORTED_DATA;
     }
-    if kind == 3 {
-        return 4;
+    if kind == LabelKind::FUNCTION {
+        return LabelKind::EXPORTED_FUNCTION;
     }
     kind
 }
@@ -47,7 +51,7 @@ fn final_number(w: Width, t: &[u32], kind: u32, number: u32) -> u32
     requires { ⌜ length (now t) ≡ 32768 ⌝ }
     ensures { λ r. ⌜ r ≡ finalNumber w (now (t .entry)) kind number ⌝ }
 {
-    if kind == 1 {
+    if kind == LabelKind::DATA {
         return res_data::address_of(w, t, number);
     }
     if number < 1 {
@@ -60,11 +64,11 @@ fn put_words(out: &mut [u32], j: u32, kind: u32, number: u32, size: u32)
     requires { ⌜ j * 4 + 4 ≤ length (now out) ⌝ }
     ensures { λ _. ⌜ now (out .exit) ≡ putWords (now (out .entry)) j (kind ∷ number ∷ 0 ∷ size ∷ []) ⌝ }
 {
-    let at = j as usize * 4;
+    let at = j as usize * Table::LABEL_ROW;
     out[at] = kind;
-    out[at + 1] = number;
-    out[at + 2] = 0;
-    out[at + 3] = size;
+    out[at + LabelRow::NUMBER] = number;
+    out[at + LabelRow::UNUSED] = 0;
+    out[at + LabelRow::SIZE] = size;
 }
 
 fn write_row(w: Width, t: &[u32], y: &[u32], flags: &[u32], j: u32, out: &mut [u32])
@@ -92,7 +96,7 @@ fn write_name(s: &[u8], t: &[u32], y: &[u32], j: u32, names: &mut [u8])
     requires { ⌜ j * 64 + 64 ≤ length (now names) ⌝ }
     ensures { λ _. ⌜ now (names .exit) ≡ putName (now (names .entry)) j (labelName (now (s .entry)) (now (t .entry)) (now (y .entry)) j) ⌝ }
 {
-    let first = parse_lines::token_word(t, outline_word(y, j, 0), 1);
+    let first = parse_lines::token_word(t, outline_word(y, j, 0), TokenRow::FIRST);
     let from = j as usize * 64;
     let end = from + 64;
     lex_spelling::copy_text(false, s, first as usize, &mut names[from..end]);

@@ -8,7 +8,10 @@ use lib.ListN.{length, getD, set}
 use Rattle.base_prelude.specs.Choice.{ifLt, ifEq, ifTrue}
 use Rattle.base_prelude.specs.Fault.{none}
 use Rattle.base_prelude.specs.Lists.{zeros}
+use Rattle.lang_kinds.specs.Kinds as kind
+use Rattle.lang_kinds.specs.Tokens as token
 use Rattle.parse_lines.specs.Tokens.{kindAt, keyAt}
+use Rattle.prog_tables.specs.Layout.{dataLabel, functionLabel, placeLabel}
 use Rattle.prog_tables.specs.Tests.{firstFrom}
 use Rattle.prog_tables.specs.Statement.{Row, rowAt}
 use Rattle.res_scope.specs.Lines.{firstToken, endToken, labelToken, labelKind, labelStatement}
@@ -22,7 +25,7 @@ use Rattle.res_scope.specs.declared.Parts.{Parts}
 
 -- "A value is a local or a data label (its address)": label j
 unfoldable pub dataFault : List ℕ → ℕ → List ℕ → ℕ → ℕ → ℕ
-dataFault t n y i j = ifEq (labelKind y j) 1 none (keyAt t n i 11)
+dataFault t n y i j = ifEq (labelKind y j) dataLabel none (keyAt t n i 11)
 
 unfoldable pub valueFault : List ℕ → ℕ → List ℕ → ℕ → Meaning → ℕ
 valueFault t n y i (Let m) = none
@@ -40,7 +43,7 @@ setFault t n i Unknown = keyAt t n i 10
 -- "`call` and `tail-call` take a function label with its parameter count": label j, with so many arguments
 unfoldable pub functionFault : List ℕ → ℕ → List ℕ → List ℕ → ℕ → ℕ → ℕ → ℕ
 functionFault t n k y i count j =
-    ifEq (labelKind y j) 3
+    ifEq (labelKind y j) functionLabel
     (ifEq (rowAt k (labelStatement y j) .b) count none (keyAt t n i 13))
     (keyAt t n i 11)
 
@@ -53,7 +56,7 @@ calleeFault t n k y i count Unknown = keyAt t n i 10
 -- "`goto` takes a statement's label in the same function and innermost block": label j, at row r
 unfoldable pub placeFault : List ℕ → ℕ → List ℕ → List ℕ → ℕ → ℕ → ℕ → ℕ
 placeFault t n k y r i j =
-    ifEq (labelKind y j) 5
+    ifEq (labelKind y j) placeLabel
     (ifEq (rowAt k (labelStatement y j) .func) (rowAt k r .func)
     (ifEq (rowAt k (labelStatement y j) .scope) (rowAt k r .scope) none (keyAt t n i 11))
     (keyAt t n i 11))
@@ -73,7 +76,7 @@ parameterTaken same k f i = ifLt (parameterOf same k f i) (endToken k f) true fa
 unfoldable pub localTaken : (ℕ → ℕ → Bool) → List ℕ → ℕ → ℕ → ℕ → Bool
 localTaken same k s r i =
     ifLt (firstFrom (letHere same k s i) (r - s) s) r true
-    (ifEq (rowAt k s .kind) 1 (parameterTaken same k s i) false)
+    (ifEq (rowAt k s .kind) kind.function (parameterTaken same k s i) false)
 
 unfoldable pub letFault : (ℕ → ℕ → Bool) → List ℕ → ℕ → List ℕ → ℕ → ℕ → ℕ
 letFault same t n k r i = ifTrue (localTaken same k (rowAt k r .scope) r i) (keyAt t n i 12) none
@@ -114,8 +117,8 @@ judged i fault m x = naming (min (x .fault) fault) (useOf i m (x .uses))
 -- an operand with a name: a symbol, or `@` and one
 unfoldable pub valuePart : (ℕ → ℕ → Bool) → List ℕ → ℕ → List ℕ → List ℕ → ℕ → ℕ → ℕ → Naming → Naming
 valuePart same t n k y l r i x =
-    ifEq (kindAt t i) 3 (judged i (valueFault t n y i (meaningOf same k y l r i)) (meaningOf same k y l r i) x)
-    (ifEq (kindAt t i) 5 (judged i (valueFault t n y i (meaningOf same k y l r i)) (meaningOf same k y l r i) x)
+    ifEq (kindAt t i) token.symbol (judged i (valueFault t n y i (meaningOf same k y l r i)) (meaningOf same k y l r i) x)
+    (ifEq (kindAt t i) token.atSymbol (judged i (valueFault t n y i (meaningOf same k y l r i)) (meaningOf same k y l r i) x)
     x)
 
 -- operands from token i on, so many
@@ -141,17 +144,17 @@ parametersFault (suc left) same t n k r q best = parametersFault left same t n k
 
 -- the names of a function's line, and of a let
 unfoldable pub declaredFault : (ℕ → ℕ → Bool) → List ℕ → ℕ → List ℕ → ℕ → ℕ → ℕ → ℕ
-declaredFault same t n k r kind best =
-    ifEq kind 1 (parametersFault (endToken k r - (firstToken k r + 1)) same t n k r (firstToken k r + 1) best)
-    (ifEq kind 5 (min best (letFault same t n k r (firstToken k r + 1)))
+declaredFault same t n k r sort best =
+    ifEq sort kind.function (parametersFault (endToken k r - (firstToken k r + 1)) same t n k r (firstToken k r + 1) best)
+    (ifEq sort kind.letLocal (min best (letFault same t n k r (firstToken k r + 1)))
     best)
 
 -- the name behind the magic word: of `set`, of `set @`, of `goto`
 unfoldable pub headPart : (ℕ → ℕ → Bool) → List ℕ → ℕ → List ℕ → List ℕ → ℕ → ℕ → ℕ → Naming → Naming
-headPart same t n k y l r kind x =
-    ifEq kind 6 (setPart same t n k y l r (firstToken k r + 1) x)
-    (ifEq kind 7 (valuePart same t n k y l r (firstToken k r + 1) x)
-    (ifEq kind 10 (gotoPart same t n k y l r (firstToken k r + 1) x)
+headPart same t n k y l r sort x =
+    ifEq sort kind.set (setPart same t n k y l r (firstToken k r + 1) x)
+    (ifEq sort kind.setAt (valuePart same t n k y l r (firstToken k r + 1) x)
+    (ifEq sort kind.goto (gotoPart same t n k y l r (firstToken k r + 1) x)
     x))
 
 -- the rest: the function that is called, then the operands

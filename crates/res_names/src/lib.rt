@@ -1,4 +1,7 @@
 // The rules on names: unknown names, wrong kinds, second names, argument counts; and the first use of each label.
+use lang_kinds::Kind;
+use lang_kinds::Token;
+use prog_tables::LabelKind;
 use res_scope::Meaning;
 use res_scope::Parts;
 ghost use mathlib.Core.Path.{_≡_};
@@ -14,7 +17,7 @@ const NONE: u64 = 1099511627776;
 fn data_fault(t: &[u32], n: u32, y: &[u32], i: u32, j: u32) -> u64
     ensures { λ r. ⌜ r ≡ dataFault (now (t .entry)) n (now (y .entry)) i j ⌝ }
 {
-    if res_scope::label_kind(y, j) == 1 {
+    if res_scope::label_kind(y, j) == LabelKind::DATA {
         return NONE;
     }
     parse_lines::key_at(t, n, i, 11)
@@ -45,7 +48,7 @@ fn set_fault(t: &[u32], n: u32, i: u32, m: Meaning) -> u64
 fn function_fault(t: &[u32], n: u32, k: &[u32], y: &[u32], i: u32, count: u32, j: u32) -> u64
     ensures { λ r. ⌜ r ≡ functionFault (now (t .entry)) n (now (k .entry)) (now (y .entry)) i count j ⌝ }
 {
-    if res_scope::label_kind(y, j) == 3 {
+    if res_scope::label_kind(y, j) == LabelKind::FUNCTION {
         if prog_tables::parameters_at(k, res_scope::label_statement(y, j)) == count {
             return NONE;
         }
@@ -68,7 +71,7 @@ fn callee_fault(t: &[u32], n: u32, k: &[u32], y: &[u32], i: u32, count: u32, m: 
 fn place_fault(t: &[u32], n: u32, k: &[u32], y: &[u32], r: u32, i: u32, j: u32) -> u64
     ensures { λ x. ⌜ x ≡ placeFault (now (t .entry)) n (now (k .entry)) (now (y .entry)) r i j ⌝ }
 {
-    if res_scope::label_kind(y, j) == 5 {
+    if res_scope::label_kind(y, j) == LabelKind::PLACE {
         let m = res_scope::label_statement(y, j);
         if prog_tables::func_at(k, m) == prog_tables::func_at(k, r) {
             if prog_tables::scope_at(k, m) == prog_tables::scope_at(k, r) {
@@ -110,7 +113,7 @@ fn is_local_taken(t: &[u32], k: &[u32], s: u32, r: u32, i: u32) -> bool
     if m < r {
         return true;
     }
-    if prog_tables::kind_at(k, s) == 1 {
+    if prog_tables::kind_at(k, s) == Kind::FUNCTION {
         return is_parameter_taken(t, k, s, i);
     }
     false
@@ -207,10 +210,10 @@ fn value_part(
     ensures { λ x. ⌜ naming x (now (u .exit)) ≡ valuePart (sameNumber (now (t .entry))) (now (t .entry)) n (now (k .entry)) (now (y .entry)) l r i (naming best (now (u .entry))) ⌝ }
 {
     let kind = parse_lines::kind_at(t, i);
-    if kind == 3 {
+    if kind == Token::SYMBOL {
         return value_name(t, n, k, y, l, u, r, i, best);
     }
-    if kind == 5 {
+    if kind == Token::AT_SYMBOL {
         return value_name(t, n, k, y, l, u, r, i, best);
     }
     best
@@ -313,10 +316,10 @@ fn declared_fault(t: &[u32], n: u32, k: &[u32], r: u32, kind: u32, best: u64) ->
     ensures { λ x. ⌜ x ≡ declaredFault (sameNumber (now (t .entry))) (now (t .entry)) n (now (k .entry)) r kind best ⌝ }
 {
     let i = res_scope::first_token(k, r) + 1;
-    if kind == 1 {
+    if kind == Kind::FUNCTION {
         return parameters_fault(t, n, k, r, i, res_scope::end_token(k, r), best);
     }
-    if kind == 5 {
+    if kind == Kind::LET {
         return base_prelude::least(best, let_fault(t, n, k, r, i));
     }
     best
@@ -336,13 +339,13 @@ fn head_part(
     ensures { λ x. ⌜ naming x (now (u .exit)) ≡ headPart (sameNumber (now (t .entry))) (now (t .entry)) n (now (k .entry)) (now (y .entry)) l r kind (naming best (now (u .entry))) ⌝ }
 {
     let i = res_scope::first_token(k, r) + 1;
-    if kind == 6 {
+    if kind == Kind::SET {
         return set_part(t, n, k, y, l, u, r, i, best);
     }
-    if kind == 7 {
+    if kind == Kind::SET_AT {
         return value_part(t, n, k, y, l, u, r, i, best);
     }
-    if kind == 10 {
+    if kind == Kind::GOTO {
         return goto_part(t, n, k, y, l, u, r, i, best);
     }
     best

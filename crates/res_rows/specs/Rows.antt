@@ -5,8 +5,11 @@ use mathlib.Core.Bool.{Bool}
 use mathlib.Core.List.{List, [], _∷_, _++_}
 use lib.ListN.{length, getD, take, drop}
 use Rattle.base_prelude.specs.Choice.{ifLt, ifEq}
+use Rattle.lang_kinds.specs.Kinds as kind
+use Rattle.lang_kinds.specs.Tokens as token
 use Rattle.parse_lines.specs.Tokens.{kindAt, valueAt}
-use Rattle.prog_tables.specs.Layout.{statementRow, operandSlots}
+use Rattle.prog_tables.specs.LabelRow as label
+use Rattle.prog_tables.specs.Layout.{statementRow, operandSlots, labelRow, frameHead}
 use Rattle.prog_tables.specs.Statement.{Row, operandKind, operandNumber, rowAt, encode}
 use Rattle.prog_tables.specs.Frames.{letsBefore, localsAt}
 use Rattle.prog_tables.specs.declared.Operand.{Operand}
@@ -25,7 +28,7 @@ use Rattle.res_rows.specs.declared.Head.{Head}
 
 -- label j in the final table: the address of data, else the statement
 unfoldable pub labelNumber : List ℕ → ℕ → ℕ
-labelNumber z j = getD z (j * 4 + 1) 0
+labelNumber z j = getD z (j * labelRow + label.number) 0
 
 -- the word of the let at row m
 unfoldable pub wordOfLet : List ℕ → ℕ → ℕ
@@ -33,7 +36,7 @@ wordOfLet w m = getD w m 0
 
 -- "3 on the parameters": the word of parameter j; table words have 32 bits
 unfoldable pub wordOfParameter : ℕ → ℕ
-wordOfParameter j = (3 + j) % 4294967296
+wordOfParameter j = (frameHead + j) % 4294967296
 
 -- a local's word
 unfoldable pub localWord : List ℕ → Meaning → ℕ
@@ -68,25 +71,25 @@ atOperand w z Unknown = Unlisted
 -- a token without a name: an integer or a substitute, or `@` and one of these, of a value
 unfoldable pub constantOperand : ℕ → ℕ → Operand
 constantOperand kind v =
-    ifEq kind 7 (Constant v)
-    (ifEq kind 4 (Constant v)
-    (ifEq kind 8 (AtConstant v)
-    (ifEq kind 6 (AtConstant v) Unlisted)))
+    ifEq kind token.integer (Constant v)
+    (ifEq kind token.substitute (Constant v)
+    (ifEq kind token.atInteger (AtConstant v)
+    (ifEq kind token.atSubstitute (AtConstant v) Unlisted)))
 
 -- the operand that token i writes
 unfoldable pub tokenOperand : (ℕ → ℕ → Bool) → List ℕ → List ℕ → List ℕ → ℕ → List ℕ → List ℕ → ℕ → ℕ → Operand
 tokenOperand same t k y l w z r i =
-    ifEq (kindAt t i) 3 (plainOperand w z (meaningOf same k y l r i))
-    (ifEq (kindAt t i) 5 (atOperand w z (meaningOf same k y l r i))
+    ifEq (kindAt t i) token.symbol (plainOperand w z (meaningOf same k y l r i))
+    (ifEq (kindAt t i) token.atSymbol (atOperand w z (meaningOf same k y l r i))
     (constantOperand (kindAt t i) (valueAt t i)))
 
 -- `set @`: what is behind the `@` is the address
 unfoldable pub addressConstant : ℕ → ℕ → Operand
-addressConstant kind v = ifEq kind 8 (Constant v) (ifEq kind 6 (Constant v) Unlisted)
+addressConstant kind v = ifEq kind token.atInteger (Constant v) (ifEq kind token.atSubstitute (Constant v) Unlisted)
 
 unfoldable pub addressOperand : (ℕ → ℕ → Bool) → List ℕ → List ℕ → List ℕ → ℕ → List ℕ → List ℕ → ℕ → ℕ → Operand
 addressOperand same t k y l w z r i =
-    ifEq (kindAt t i) 5 (plainOperand w z (meaningOf same k y l r i)) (addressConstant (kindAt t i) (valueAt t i))
+    ifEq (kindAt t i) token.atSymbol (plainOperand w z (meaningOf same k y l r i)) (addressConstant (kindAt t i) (valueAt t i))
 
 -- so many operands from token i on
 unfoldable pub operandsFrom : ℕ → (ℕ → ℕ → Bool) → List ℕ → List ℕ → List ℕ → ℕ → List ℕ → List ℕ → ℕ → ℕ → List Operand
@@ -105,24 +108,24 @@ operandWords o = operandKind o ∷ operandNumber o ∷ []
 
 -- `set`: the local's word; `goto`: the statement; else the frame word
 unfoldable pub aOf : (ℕ → ℕ → Bool) → List ℕ → List ℕ → ℕ → List ℕ → List ℕ → ℕ → ℕ → ℕ → ℕ
-aOf same k y l w z r kind i =
-    ifEq kind 6 (localWord w (meaningOf same k y l r i))
-    (ifEq kind 10 (labelTarget z (meaningOf same k y l r i))
+aOf same k y l w z r sort i =
+    ifEq sort kind.set (localWord w (meaningOf same k y l r i))
+    (ifEq sort kind.goto (labelTarget z (meaningOf same k y l r i))
     (getD w r 0))
 
 -- parameters of a function, own lets of a block, in c rows
 unfoldable pub bOf : List ℕ → ℕ → ℕ → ℕ → ℕ
-bOf k c r kind = ifEq kind 1 (rowAt k r .b) (ifEq kind 3 (letsBefore (rowAt k) r c) 0)
+bOf k c r sort = ifEq sort kind.function (rowAt k r .b) (ifEq sort kind.block (letsBefore (rowAt k) r c) 0)
 
 -- of a block the locals in scope before it; else the function that token i names, 0 for no token
 unfoldable pub calleeOf : (ℕ → ℕ → Bool) → List ℕ → List ℕ → ℕ → List ℕ → ℕ → ℕ → ℕ → ℕ
-calleeOf same k y l z r kind i =
-    ifEq kind 3 (localsAt (rowAt k) r % 4294967296)
+calleeOf same k y l z r sort i =
+    ifEq sort kind.block (localsAt (rowAt k) r % 4294967296)
     (ifEq i 0 0 (labelTarget z (meaningOf same k y l r i)))
 
 -- the operand behind the `@` of `set @`
 unfoldable pub addressOf : (ℕ → ℕ → Bool) → List ℕ → List ℕ → List ℕ → ℕ → List ℕ → List ℕ → ℕ → ℕ → ℕ → Operand
-addressOf same t k y l w z r kind i = ifEq kind 7 (addressOperand same t k y l w z r i) Unlisted
+addressOf same t k y l w z r sort i = ifEq sort kind.setAt (addressOperand same t k y l w z r i) Unlisted
 
 -- ---- rows
 

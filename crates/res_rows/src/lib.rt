@@ -1,5 +1,11 @@
 // The rows of the statement table, from the skeleton, the frame words, the final label table, and what each name means.
+use lang_kinds::Kind;
+use lang_kinds::Token;
+use prog_tables::LabelRow;
 use prog_tables::Operand;
+use prog_tables::OperandKind;
+use prog_tables::StatementRow;
+use prog_tables::Table;
 use res_scope::Meaning;
 use res_scope::Parts;
 ghost use mathlib.Core.Path.{_≡_};
@@ -27,7 +33,7 @@ struct Head {
 fn label_number(z: &[u32], j: u32) -> u32
     ensures { λ x. ⌜ x ≡ labelNumber (now (z .entry)) j ⌝ }
 {
-    prog_tables::word_at(z, j as usize * 4 + 1)
+    prog_tables::word_at(z, j as usize * Table::LABEL_ROW + LabelRow::NUMBER)
 }
 
 fn word_of_let(w: &[u32], m: u32) -> u32
@@ -89,16 +95,16 @@ fn at_operand(w: &[u32], z: &[u32], m: Meaning) -> Operand
 fn constant_operand(kind: u32, v: u32) -> Operand
     ensures { λ x. ⌜ x ≡ constantOperand kind v ⌝ }
 {
-    if kind == 7 {
+    if kind == Token::INTEGER {
         return Operand::Constant(v);
     }
-    if kind == 4 {
+    if kind == Token::SUBSTITUTE {
         return Operand::Constant(v);
     }
-    if kind == 8 {
+    if kind == Token::AT_INTEGER {
         return Operand::AtConstant(v);
     }
-    if kind == 6 {
+    if kind == Token::AT_SUBSTITUTE {
         return Operand::AtConstant(v);
     }
     Operand::Unlisted
@@ -117,10 +123,10 @@ fn token_operand(
     ensures { λ x. ⌜ x ≡ tokenOperand (sameNumber (now (t .entry))) (now (t .entry)) (now (k .entry)) (now (y .entry)) l (now (w .entry)) (now (z .entry)) r i ⌝ }
 {
     let kind = parse_lines::kind_at(t, i);
-    if kind == 3 {
+    if kind == Token::SYMBOL {
         return plain_operand(w, z, res_scope::meaning_of(t, k, y, l, r, i));
     }
-    if kind == 5 {
+    if kind == Token::AT_SYMBOL {
         return at_operand(w, z, res_scope::meaning_of(t, k, y, l, r, i));
     }
     constant_operand(kind, parse_lines::value_at(t, i))
@@ -129,10 +135,10 @@ fn token_operand(
 fn address_constant(kind: u32, v: u32) -> Operand
     ensures { λ x. ⌜ x ≡ addressConstant kind v ⌝ }
 {
-    if kind == 8 {
+    if kind == Token::AT_INTEGER {
         return Operand::Constant(v);
     }
-    if kind == 6 {
+    if kind == Token::AT_SUBSTITUTE {
         return Operand::Constant(v);
     }
     Operand::Unlisted
@@ -151,7 +157,7 @@ fn address_operand(
     ensures { λ x. ⌜ x ≡ addressOperand (sameNumber (now (t .entry))) (now (t .entry)) (now (k .entry)) (now (y .entry)) l (now (w .entry)) (now (z .entry)) r i ⌝ }
 {
     let kind = parse_lines::kind_at(t, i);
-    if kind == 5 {
+    if kind == Token::AT_SYMBOL {
         return plain_operand(w, z, res_scope::meaning_of(t, k, y, l, r, i));
     }
     address_constant(kind, parse_lines::value_at(t, i))
@@ -170,10 +176,10 @@ fn a_of(
 ) -> u32
     ensures { λ x. ⌜ x ≡ aOf (sameNumber (now (t .entry))) (now (k .entry)) (now (y .entry)) l (now (w .entry)) (now (z .entry)) r kind i ⌝ }
 {
-    if kind == 6 {
+    if kind == Kind::SET {
         return local_word(w, res_scope::meaning_of(t, k, y, l, r, i));
     }
-    if kind == 10 {
+    if kind == Kind::GOTO {
         return label_target(z, res_scope::meaning_of(t, k, y, l, r, i));
     }
     prog_tables::word_at(w, r as usize)
@@ -182,10 +188,10 @@ fn a_of(
 fn b_of(k: &[u32], c: u32, r: u32, kind: u32) -> u32
     ensures { λ x. ⌜ x ≡ bOf (now (k .entry)) c r kind ⌝ }
 {
-    if kind == 1 {
+    if kind == Kind::FUNCTION {
         return prog_tables::parameters_at(k, r);
     }
-    if kind == 3 {
+    if kind == Kind::BLOCK {
         return prog_frames::lets_before(k, r, c);
     }
     0
@@ -194,7 +200,7 @@ fn b_of(k: &[u32], c: u32, r: u32, kind: u32) -> u32
 fn callee_of(t: &[u32], k: &[u32], y: &[u32], l: u32, z: &[u32], r: u32, kind: u32, i: u32) -> u32
     ensures { λ x. ⌜ x ≡ calleeOf (sameNumber (now (t .entry))) (now (k .entry)) (now (y .entry)) l (now (z .entry)) r kind i ⌝ }
 {
-    if kind == 3 {
+    if kind == Kind::BLOCK {
         return (prog_frames::locals_at(k, r) % 4294967296) as u32;
     }
     if i == 0 {
@@ -216,7 +222,7 @@ fn address_of(
 ) -> Operand
     ensures { λ x. ⌜ x ≡ addressOf (sameNumber (now (t .entry))) (now (t .entry)) (now (k .entry)) (now (y .entry)) l (now (w .entry)) (now (z .entry)) r kind i ⌝ }
 {
-    if kind == 7 {
+    if kind == Kind::SET_AT {
         return address_operand(t, k, y, l, w, z, r, i);
     }
     Operand::Unlisted
@@ -226,12 +232,12 @@ fn operand_kind(o: Operand) -> u32
     ensures { λ x. ⌜ x ≡ operandKind o ⌝ }
 {
     match o {
-        Operand::Constant(_) => 1,
-        Operand::Local(_) => 2,
-        Operand::Address(_) => 3,
-        Operand::AtConstant(_) => 4,
-        Operand::AtLocal(_) => 5,
-        Operand::AtAddress(_) => 6,
+        Operand::Constant(_) => OperandKind::CONSTANT,
+        Operand::Local(_) => OperandKind::LOCAL,
+        Operand::Address(_) => OperandKind::ADDRESS,
+        Operand::AtConstant(_) => OperandKind::AT_CONSTANT,
+        Operand::AtLocal(_) => OperandKind::AT_LOCAL,
+        Operand::AtAddress(_) => OperandKind::AT_ADDRESS,
         Operand::Unlisted => 0,
     }
 }
@@ -298,15 +304,15 @@ fn put_head(out: &mut [u32], at: usize, h: Head)
     ensures { λ _. ⌜ now (out .exit) ≡ putWords (now (out .entry)) at (headWords h) ⌝ }
 {
     out[at] = h.kind;
-    out[at + 1] = h.func;
-    out[at + 2] = h.scope;
-    out[at + 3] = h.up;
-    out[at + 4] = h.a;
-    out[at + 5] = h.b;
-    out[at + 6] = h.expr;
-    out[at + 7] = h.callee;
-    out[at + 8] = h.count;
-    out[at + 9] = h.form;
+    out[at + StatementRow::FUNC] = h.func;
+    out[at + StatementRow::SCOPE] = h.scope;
+    out[at + StatementRow::UP] = h.up;
+    out[at + StatementRow::A] = h.a;
+    out[at + StatementRow::B] = h.b;
+    out[at + StatementRow::EXPR] = h.expr;
+    out[at + StatementRow::CALLEE] = h.callee;
+    out[at + StatementRow::COUNT] = h.count;
+    out[at + StatementRow::ADDRESS] = h.form;
     out[at + 10] = h.address;
 }
 
@@ -416,11 +422,23 @@ fn put_parts(
     requires { ⌜ (first ≤ 4097) × (r * 27 + 27 ≤ length (now out)) ⌝ }
     ensures { λ _. ⌜ now (out .exit) ≡ putRow (now (out .entry)) r (rowWith (sameNumber (now (t .entry))) (now (t .entry)) (now (k .entry)) (now (y .entry)) l (now (w .entry)) (now (z .entry)) c r kind first next p) ⌝ }
 {
-    let at = r as usize * 27;
+    let at = r as usize * Table::STATEMENT_ROW;
     let h = head_of(t, k, y, l, w, z, c, r, kind, first, next, p);
     put_head(out, at, h);
     let count = count_from(next, p.first);
-    put_slots(t, k, y, l, w, z, r, p.first, count, out, at + 11);
+    put_slots(
+        t,
+        k,
+        y,
+        l,
+        w,
+        z,
+        r,
+        p.first,
+        count,
+        out,
+        at + StatementRow::OPERANDS,
+    );
 }
 
 fn write_row(

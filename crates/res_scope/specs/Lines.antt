@@ -3,25 +3,27 @@
 use Prim.Native.Nat.{ℕ, _+_, _*_, _-_, min}
 use mathlib.Core.List.{List}
 use lib.ListN.{getD}
+use Rattle.prog_tables.specs.StatementRow as row
+use Rattle.prog_tables.specs.Layout.{statementRow, labelRow}
 
 -- the magic word's token of statement n, and the token behind its line; no token has a number above 4,096
 unfoldable pub firstToken : List ℕ → ℕ → ℕ
-firstToken k n = min (getD k (n * 27 + 9) 0) 4097
+firstToken k n = min (getD k (n * statementRow + row.token) 0) 4097
 
 unfoldable pub endToken : List ℕ → ℕ → ℕ
-endToken k n = min (getD k (n * 27 + 10) 0) 4097
+endToken k n = min (getD k (n * statementRow + row.next) 0) 4097
 
 -- label j: its token, its kind (1 data, 3 function, 5 place), and what it names
 unfoldable pub labelToken : List ℕ → ℕ → ℕ
-labelToken y j = getD y (j * 4) 0
+labelToken y j = getD y (j * labelRow) 0
 
 unfoldable pub labelKind : List ℕ → ℕ → ℕ
-labelKind y j = getD y (j * 4 + 1) 0
+labelKind y j = getD y (j * labelRow + 1) 0
 
 -- in data the token of the magic word
 unfoldable pub labelWord : List ℕ → ℕ → ℕ
-labelWord y j = getD y (j * 4 + 2) 0
+labelWord y j = getD y (j * labelRow + 2) 0
 
 -- else the statement
 unfoldable pub labelStatement : List ℕ → ℕ → ℕ
-labelStatement y j = getD y (j * 4 + 2) 0 - 1
+labelStatement y j = getD y (j * labelRow + 2) 0 - 1

@@ -6,6 +6,9 @@ use mathlib.Core.Bool.{Bool, true, false}
 use mathlib.Core.List.{List}
 use lib.Dec.{eqb, ltb}
 use Rattle.base_prelude.specs.Choice.{pick, ifLt, ifEq, ifTrue}
+use Rattle.lang_kinds.specs.Kinds as kind
+use Rattle.lang_kinds.specs.Tokens as token
+use Rattle.lang_kinds.specs.TokenRow as field
 use Rattle.parse_lines.specs.Tokens.{tokenWord, kindAt}
 use Rattle.prog_tables.specs.Tests.{both, firstFrom}
 use Rattle.prog_tables.specs.Statement.{Row, rowAt}
@@ -17,11 +20,11 @@ use Rattle.res_scope.specs.declared.Meaning.the-variants.{Let, Parameter
 
 -- a token with a name: a label, a symbol, a substitute, or `@` and one of the last two
 unfoldable pub hasName : List ℕ → ℕ → Bool
-hasName t i = ifLt (kindAt t i) 2 false (ltb (kindAt t i) 7)
+hasName t i = ifLt (kindAt t i) token.label false (ltb (kindAt t i) token.integer)
 
 -- two tokens have one name, by the numbers of their names
 unfoldable pub sameNumber : List ℕ → ℕ → ℕ → Bool
-sameNumber t i j = ifTrue (hasName t i) (ifTrue (hasName t j) (eqb (tokenWord t i 4) (tokenWord t j 4)) false) false
+sameNumber t i j = ifTrue (hasName t i) (ifTrue (hasName t j) (eqb (tokenWord t i field.name) (tokenWord t j field.name)) false) false
 
 -- the last of `left` numbers from a base on that passes, plus one; 0 without any
 unfoldable pub lastFrom : (ℕ → Bool) → ℕ → ℕ → ℕ
@@ -31,13 +34,13 @@ lastFrom p (suc left) base = pick (p (base + left)) (suc (base + left)) (lastFro
 -- row m is a let of the name of token i, in a frame around frame s
 unfoldable pub letNamed : (ℕ → ℕ → Bool) → List ℕ → ℕ → ℕ → ℕ → Bool
 letNamed same k s i m =
-    ifEq (rowAt k m .kind) 5
+    ifEq (rowAt k m .kind) kind.letLocal
     (ifTrue (same (firstToken k m + 1) i) (encloses (rowAt k) frameDepth (rowAt k m .scope) s) false)
     false
 
 -- row m is a let of that name in frame s itself
 unfoldable pub letHere : (ℕ → ℕ → Bool) → List ℕ → ℕ → ℕ → ℕ → Bool
-letHere same k s i m = ifTrue (isIn (rowAt k) 5 s m) (same (firstToken k m + 1) i) false
+letHere same k s i m = ifTrue (isIn (rowAt k) kind.letLocal s m) (same (firstToken k m + 1) i) false
 
 abbrev pub labelNamed : (ℕ → ℕ → Bool) → List ℕ → ℕ → ℕ → Bool
 labelNamed same y i j = same (labelToken y j) i

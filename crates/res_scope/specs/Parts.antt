@@ -6,6 +6,9 @@ use mathlib.Core.Bool.{Bool, true, false}
 use mathlib.Core.List.{List}
 use lib.Dec.{ltb}
 use Rattle.base_prelude.specs.Choice.{ifLt, ifEq, ifTrue}
+use Rattle.lang_kinds.specs.Kinds as kind
+use Rattle.lang_words.specs.Numbers as word
+use Rattle.prog_tables.specs.Layout.{noExpression, plain, callExpression}
 use Rattle.parse_lines.specs.Tokens.{wordAt}
 use Rattle.parse_shapes.specs.Shapes.{isName, isOperator}
 use Rattle.res_scope.specs.declared.Parts.{Parts}
@@ -16,34 +19,34 @@ parts expr callee first = record { expr = expr; callee = callee; first = first }
 -- an expression that starts with a symbol: `call`, an operator, or one operand
 unfoldable pub symbolParts : ℕ → ℕ → Parts
 symbolParts w i =
-    ifEq w 14 (parts 2 (i + 1) (i + 2))
+    ifEq w word.call (parts callExpression (i + 1) (i + 2))
     (ifTrue (isOperator w) (parts w 0 (i + 1))
-    (parts 1 0 i))
+    (parts plain 0 i))
 
 -- "an expression is an operand, or an operator with operands"
 unfoldable pub expressionParts : List ℕ → ℕ → Parts
-expressionParts t i = ifTrue (isName t i) (symbolParts (wordAt t i) i) (parts 1 0 i)
+expressionParts t i = ifTrue (isName t i) (symbolParts (wordAt t i) i) (parts plain 0 i)
 
 -- `return` with an expression, or bare
 unfoldable pub returnParts : List ℕ → ℕ → ℕ → Parts
-returnParts t i next = ifLt i next (expressionParts t i) (parts 0 0 next)
+returnParts t i next = ifLt i next (expressionParts t i) (parts noExpression 0 next)
 
 -- set-byte and set-word, and the tests: operands alone
 unfoldable pub listsOperands : ℕ → Bool
-listsOperands kind = ifLt kind 8 false (ifLt kind 10 true (ifLt kind 14 false (ltb kind 20)))
+listsOperands k = ifLt k kind.setByte false (ifLt k kind.goto true (ifLt k kind.ifeq false (ltb k kind.else)))
 
 -- statements without an expression; `call` and `tail-call` name a function first
 unfoldable pub plainParts : ℕ → ℕ → ℕ → Parts
-plainParts kind i next =
-    ifTrue (listsOperands kind) (parts 0 0 (i + 1))
-    (ifEq kind 11 (parts 0 (i + 1) (i + 2))
-    (ifEq kind 12 (parts 0 (i + 1) (i + 2))
-    (parts 0 0 next)))
+plainParts k i next =
+    ifTrue (listsOperands k) (parts noExpression 0 (i + 1))
+    (ifEq k kind.call (parts noExpression (i + 1) (i + 2))
+    (ifEq k kind.tailCall (parts noExpression (i + 1) (i + 2))
+    (parts noExpression 0 next)))
 
 -- of a statement of a kind whose magic word is token i
 unfoldable pub partsOf : List ℕ → ℕ → ℕ → ℕ → Parts
-partsOf t kind i next =
-    ifEq kind 13 (returnParts t (i + 1) next)
-    (ifLt kind 5 (parts 0 0 next)
-    (ifLt kind 8 (expressionParts t (i + 2))
-    (plainParts kind i next)))
+partsOf t k i next =
+    ifEq k kind.return (returnParts t (i + 1) next)
+    (ifLt k kind.letLocal (parts noExpression 0 next)
+    (ifLt k kind.setByte (expressionParts t (i + 2))
+    (plainParts k i next)))

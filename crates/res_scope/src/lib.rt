@@ -1,4 +1,11 @@
 // What a name means at a statement: the let, parameter or label that has it; and the parts of a statement.
+use lang_kinds::Kind;
+use lang_kinds::Token;
+use lang_kinds::TokenRow;
+use lang_words::Word;
+use prog_tables::ExpressionKind;
+use prog_tables::StatementRow;
+use prog_tables::Table;
 ghost use mathlib.Core.Path.{_≡_};
 ghost use Prim.Native.Nat.{_+_, _-_, _≤_, _<_, min};
 ghost use Rattle.prog_tables.specs.Statement.{rowAt};
@@ -32,35 +39,35 @@ fn clamp(i: u32) -> u32
 pub fn first_token(k: &[u32], n: u32) -> u32
     ensures { λ r. ⌜ r ≡ firstToken (now (k .entry)) n ⌝ }
 {
-    clamp(prog_tables::word_at(k, n as usize * 27 + 9))
+    clamp(prog_tables::word_at(k, n as usize * Table::STATEMENT_ROW + StatementRow::TOKEN))
 }
 
 // The token behind a statement's line.
 pub fn end_token(k: &[u32], n: u32) -> u32
     ensures { λ r. ⌜ r ≡ endToken (now (k .entry)) n ⌝ }
 {
-    clamp(prog_tables::word_at(k, n as usize * 27 + 10))
+    clamp(prog_tables::word_at(k, n as usize * Table::STATEMENT_ROW + StatementRow::NEXT))
 }
 
 // The token of a label.
 pub fn label_token(y: &[u32], j: u32) -> u32
     ensures { λ r. ⌜ r ≡ labelToken (now (y .entry)) j ⌝ }
 {
-    prog_tables::word_at(y, j as usize * 4)
+    prog_tables::word_at(y, j as usize * Table::LABEL_ROW)
 }
 
 // The kind of a label.
 pub fn label_kind(y: &[u32], j: u32) -> u32
     ensures { λ r. ⌜ r ≡ labelKind (now (y .entry)) j ⌝ }
 {
-    prog_tables::word_at(y, j as usize * 4 + 1)
+    prog_tables::word_at(y, j as usize * Table::LABEL_ROW + 1)
 }
 
 // The token of the magic word that a label of data names.
 pub fn label_word(y: &[u32], j: u32) -> u32
     ensures { λ r. ⌜ r ≡ labelWord (now (y .entry)) j ⌝ }
 {
-    prog_tables::word_at(y, j as usize * 4 + 2)
+    prog_tables::word_at(y, j as usize * Table::LABEL_ROW + 2)
 }
 
 fn less_one(n: u32) -> u32
@@ -76,17 +83,17 @@ fn less_one(n: u32) -> u32
 pub fn label_statement(y: &[u32], j: u32) -> u32
     ensures { λ r. ⌜ r ≡ labelStatement (now (y .entry)) j ⌝ }
 {
-    less_one(prog_tables::word_at(y, j as usize * 4 + 2))
+    less_one(prog_tables::word_at(y, j as usize * Table::LABEL_ROW + 2))
 }
 
 fn has_name(t: &[u32], i: u32) -> bool
     ensures { λ r. ⌜ r ≡ hasName (now (t .entry)) i ⌝ }
 {
     let kind = parse_lines::kind_at(t, i);
-    if kind < 2 {
+    if kind < Token::LABEL {
         return false;
     }
-    kind < 7
+    kind < Token::INTEGER
 }
 
 // Whether two tokens have one name.
@@ -95,7 +102,8 @@ pub fn same_name(t: &[u32], i: u32, j: u32) -> bool
 {
     if has_name(t, i) {
         if has_name(t, j) {
-            return parse_lines::token_word(t, i, 4) == parse_lines::token_word(t, j, 4);
+            return parse_lines::token_word(t, i, TokenRow::NAME)
+                == parse_lines::token_word(t, j, TokenRow::NAME);
         }
         return false;
     }
@@ -106,7 +114,7 @@ fn let_named(t: &[u32], k: &[u32], s: u32, i: u32, m: u32) -> bool
     ensures { λ r. ⌜ r ≡ letNamed (sameNumber (now (t .entry))) (now (k .entry)) s i m ⌝ }
 {
     let kind = prog_tables::kind_at(k, m);
-    if kind == 5 {
+    if kind == Kind::LET {
         let token = first_token(k, m);
         if same_name(t, token + 1, i) {
             return prog_frames::is_around(k, 17, prog_tables::scope_at(k, m), s);
@@ -119,7 +127,7 @@ fn let_named(t: &[u32], k: &[u32], s: u32, i: u32, m: u32) -> bool
 fn let_here(t: &[u32], k: &[u32], s: u32, i: u32, m: u32) -> bool
     ensures { λ r. ⌜ r ≡ letHere (sameNumber (now (t .entry))) (now (k .entry)) s i m ⌝ }
 {
-    if prog_frames::is_in(k, 5, s, m) {
+    if prog_frames::is_in(k, Kind::LET, s, m) {
         let token = first_token(k, m);
         return same_name(t, token + 1, i);
     }
@@ -221,9 +229,9 @@ fn symbol_parts(w: u32, i: u32) -> Parts
     requires { ⌜ i ≤ 4100 ⌝ }
     ensures { λ r. ⌜ r ≡ symbolParts w i ⌝ }
 {
-    if w == 14 {
+    if w == Word::CALL {
         return Parts {
-            expr: 2,
+            expr: ExpressionKind::CALL,
             callee: i + 1,
             first: i + 2,
         };
@@ -236,7 +244,7 @@ fn symbol_parts(w: u32, i: u32) -> Parts
         };
     }
     Parts {
-        expr: 1,
+        expr: ExpressionKind::PLAIN,
         callee: 0,
         first: i,
     }
@@ -250,7 +258,7 @@ fn expression_parts(t: &[u32], i: u32) -> Parts
         return symbol_parts(parse_lines::word_at(t, i), i);
     }
     Parts {
-        expr: 1,
+        expr: ExpressionKind::PLAIN,
         callee: 0,
         first: i,
     }
@@ -260,7 +268,7 @@ fn no_parts(next: u32) -> Parts
     ensures { λ r. ⌜ r ≡ parts 0 0 next ⌝ }
 {
     Parts {
-        expr: 0,
+        expr: ExpressionKind::NONE,
         callee: 0,
         first: next,
     }
@@ -279,16 +287,16 @@ fn return_parts(t: &[u32], i: u32, next: u32) -> Parts
 fn lists_operands(kind: u32) -> bool
     ensures { λ r. ⌜ r ≡ listsOperands kind ⌝ }
 {
-    if kind < 8 {
+    if kind < Kind::SET_BYTE {
         return false;
     }
-    if kind < 10 {
+    if kind < Kind::GOTO {
         return true;
     }
-    if kind < 14 {
+    if kind < Kind::IFEQ {
         return false;
     }
-    kind < 20
+    kind < Kind::ELSE
 }
 
 fn call_parts(i: u32) -> Parts
@@ -296,7 +304,7 @@ fn call_parts(i: u32) -> Parts
     ensures { λ r. ⌜ r ≡ parts 0 (i + 1) (i + 2) ⌝ }
 {
     Parts {
-        expr: 0,
+        expr: ExpressionKind::NONE,
         callee: i + 1,
         first: i + 2,
     }
@@ -309,10 +317,10 @@ fn plain_parts(kind: u32, i: u32, next: u32) -> Parts
     if lists_operands(kind) {
         return no_parts(i + 1);
     }
-    if kind == 11 {
+    if kind == Kind::CALL {
         return call_parts(i);
     }
-    if kind == 12 {
+    if kind == Kind::TAIL_CALL {
         return call_parts(i);
     }
     no_parts(next)
@@ -323,13 +331,13 @@ pub fn parts_of(t: &[u32], kind: u32, i: u32, next: u32) -> Parts
     requires { ⌜ i ≤ 4097 ⌝ }
     ensures { λ r. ⌜ r ≡ partsOf (now (t .entry)) kind i next ⌝ }
 {
-    if kind == 13 {
+    if kind == Kind::RETURN {
         return return_parts(t, i + 1, next);
     }
-    if kind < 5 {
+    if kind < Kind::LET {
         return no_parts(next);
     }
-    if kind < 8 {
+    if kind < Kind::SET_BYTE {
         return expression_parts(t, i + 2);
     }
     plain_parts(kind, i, next)

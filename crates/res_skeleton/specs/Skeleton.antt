@@ -6,14 +6,16 @@ use mathlib.Core.List.{List, [], _∷_, _++_}
 use lib.ListN.{getD, take, drop}
 use Rattle.base_prelude.specs.Choice.{ifEq}
 use Rattle.base_prelude.specs.Lists.{zeros}
+use Rattle.lang_kinds.specs.Kinds as kind
 use Rattle.parse_units.specs.Outline.{rowAt}
 use Rattle.parse_units.specs.declared.Row.{Row}
+use Rattle.prog_tables.specs.StatementRow as row
 use Rattle.prog_tables.specs.Layout.{statementRow, statementWords}
 use Rattle.res_skeleton.specs.declared.SkeletonRow.{SkeletonRow}
 
 -- the parameters of a function are its operands; no other row has any
 unfoldable pub parametersOf : ℕ → ℕ → ℕ
-parametersOf kind operands = ifEq kind 1 operands 0
+parametersOf k operands = ifEq k kind.function operands 0
 
 -- a row of the outline; rows of functions and frames count from 1 there, statements from 0 (0 stays 0)
 unfoldable pub bare : Row → SkeletonRow
@@ -38,7 +40,7 @@ wordsOf r = r .kind ∷ r .func ∷ r .scope ∷ r .up ∷ 0 ∷ r .b ∷ 0 ∷ 
 
 -- row n of a table whose words are 0 there
 unfoldable pub putRow : List ℕ → ℕ → SkeletonRow → List ℕ
-putRow k n r = take (n * statementRow) k ++ wordsOf r ++ drop (n * statementRow + 11) k
+putRow k n r = take (n * statementRow) k ++ wordsOf r ++ drop (n * statementRow + row.operands) k
 
 -- statements 0 to c - 1 of the outline x, in the table k
 unfoldable pub rowsIn : List ℕ → List ℕ → ℕ → List ℕ
@@ -51,8 +53,8 @@ skeletonOf x c = rowsIn (zeros statementWords) x c
 
 -- the first token of statement n
 unfoldable pub tokenOf : List ℕ → ℕ → ℕ
-tokenOf k n = getD k (n * statementRow + 9) 0
+tokenOf k n = getD k (n * statementRow + row.token) 0
 
 -- the token behind its line
 unfoldable pub nextOf : List ℕ → ℕ → ℕ
-nextOf k n = getD k (n * statementRow + 10) 0
+nextOf k n = getD k (n * statementRow + row.next) 0

@@ -1,4 +1,7 @@
 // The skeleton of the statement table: what nesting alone gives each row, and the tokens of its line.
+use lang_kinds::Kind;
+use prog_tables::StatementRow;
+use prog_tables::Table;
 ghost use mathlib.Core.Path.{_≡_};
 ghost use Prim.Native.Nat.{_+_, _*_, _-_, _≤_, _<_};
 ghost use lib.ListN.{length};
@@ -28,7 +31,7 @@ fn less_one(n: u32) -> u32
 fn parameters_of(kind: u32, operands: u32) -> u32
     ensures { λ r. ⌜ r ≡ parametersOf kind operands ⌝ }
 {
-    if kind == 1 {
+    if kind == Kind::FUNCTION {
         return operands;
     }
     0
@@ -53,18 +56,18 @@ fn put_row(k: &mut [u32], n: u32, r: SkeletonRow)
     requires { ⌜ (n < 1024) × (length (now k) ≡ 27648) ⌝ }
     ensures { λ _. ⌜ now (k .exit) ≡ putRow (now (k .entry)) n r ⌝ }
 {
-    let w = n as usize * 27;
+    let w = n as usize * Table::STATEMENT_ROW;
     k[w] = r.kind;
-    k[w + 1] = r.func;
-    k[w + 2] = r.scope;
-    k[w + 3] = r.up;
-    k[w + 4] = 0;
-    k[w + 5] = r.b;
-    k[w + 6] = 0;
-    k[w + 7] = 0;
-    k[w + 8] = 0;
-    k[w + 9] = r.token;
-    k[w + 10] = r.next;
+    k[w + StatementRow::FUNC] = r.func;
+    k[w + StatementRow::SCOPE] = r.scope;
+    k[w + StatementRow::UP] = r.up;
+    k[w + StatementRow::A] = 0;
+    k[w + StatementRow::B] = r.b;
+    k[w + StatementRow::EXPR] = 0;
+    k[w + StatementRow::CALLEE] = 0;
+    k[w + StatementRow::COUNT] = 0;
+    k[w + StatementRow::TOKEN] = r.token;
+    k[w + StatementRow::NEXT] = r.next;
 }
 
 fn put_statement(x: &[u32], n: u32, k: &mut [u32])
@@ -99,12 +102,12 @@ pub fn make_skeleton(x: &[u32], c: u32, k: &mut [u32])
 pub fn token_of(k: &[u32], n: u32) -> u32
     ensures { λ r. ⌜ r ≡ tokenOf (now (k .entry)) n ⌝ }
 {
-    prog_tables::word_at(k, n as usize * 27 + 9)
+    prog_tables::word_at(k, n as usize * Table::STATEMENT_ROW + StatementRow::TOKEN)
 }
 
 // The token behind its line.
 pub fn next_of(k: &[u32], n: u32) -> u32
     ensures { λ r. ⌜ r ≡ nextOf (now (k .entry)) n ⌝ }
 {
-    prog_tables::word_at(k, n as usize * 27 + 10)
+    prog_tables::word_at(k, n as usize * Table::STATEMENT_ROW + StatementRow::NEXT)
 }

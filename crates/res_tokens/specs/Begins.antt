@@ -4,6 +4,8 @@ use Prim.Native.Nat.{ℕ, zero, suc, _+_, _*_}
 use mathlib.Core.List.{List, _++_}
 use lib.ListN.{take, drop, set}
 use Rattle.base_prelude.specs.Choice.{ifLt}
+use Rattle.base_limits.specs.Limits.{tokenRow}
+use Rattle.lang_kinds.specs.TokenRow as field
 use Rattle.res_scope.specs.Lines.{firstToken}
 
 -- the first m words of t over the front of a buffer
@@ -13,7 +15,7 @@ copied t m out = take m t ++ drop m out
 -- "Token rows say which statement they begin": statement r of the skeleton k begins at its first token, of n tokens. Word 7 holds its
 -- number plus one, as 0 says that the token begins none
 unfoldable pub beginPut : List ℕ → ℕ → ℕ → List ℕ → List ℕ
-beginPut k n r out = ifLt (firstToken k r) n (set out (firstToken k r * 8 + 7) (r + 1)) out
+beginPut k n r out = ifLt (firstToken k r) n (set out (firstToken k r * tokenRow + field.statement) (r + 1)) out
 
 -- statements 0 to c - 1
 unfoldable pub beginsBelow : ℕ → List ℕ → ℕ → List ℕ → List ℕ
@@ -22,4 +24,4 @@ beginsBelow (suc r) k n out = beginPut k n r (beginsBelow r k n out)
 
 -- n rows of t, and the c statements that they begin; what is behind them in the buffer is as it was
 unfoldable pub tokenTable : List ℕ → List ℕ → ℕ → ℕ → List ℕ → List ℕ
-tokenTable t k c n out = beginsBelow c k n (copied t (n * 8) out)
+tokenTable t k c n out = beginsBelow c k n (copied t (n * tokenRow) out)

@@ -1,4 +1,6 @@
 // The lent token table: the tokens' rows, and which statement each token begins.
+use base_limits::Machine;
+use lang_kinds::TokenRow;
 ghost use mathlib.Core.Path.{_≡_};
 ghost use Prim.Native.Nat.{_*_, _≤_, _<_};
 ghost use lib.ListN.{length};
@@ -21,7 +23,7 @@ fn put_begin(k: &[u32], n: u32, r: u32, out: &mut [u32])
 {
     let i = res_scope::first_token(k, r);
     if i < n {
-        out[i as usize * 8 + 7] = r + 1;
+        out[i as usize * Machine::TOKEN_ROW + TokenRow::STATEMENT] = r + 1;
     }
 }
 
@@ -41,6 +43,6 @@ pub fn write_tokens(t: &[u32], k: &[u32], c: u32, n: u32, out: &mut [u32])
     requires { ⌜ (n * 8 ≤ length (now out)) × (n ≤ 4096) × (length (now t) ≡ 32768) ⌝ }
     ensures { λ _. ⌜ now (out .exit) ≡ tokenTable (now (t .entry)) (now (k .entry)) c n (now (out .entry)) ⌝ }
 {
-    copy_words(t, n as usize * 8, out);
+    copy_words(t, n as usize * Machine::TOKEN_ROW, out);
     put_begins(k, c, n, out);
 }

@@ -6,6 +6,8 @@ use mathlib.Core.Bool.{Bool}
 use mathlib.Core.List.{List, [], _∷_, _++_}
 use lib.ListN.{length}
 use Rattle.base_prelude.specs.Choice.{ifEq}
+use Rattle.lang_kinds.specs.Kinds as kind
+use Rattle.lang_kinds.specs.Tokens as token
 use Rattle.parse_lines.specs.Tokens.{kindAt}
 use Rattle.parse_lines.specs.Units.{unitAt}
 use Rattle.parse_lines.specs.Lines.{lineKind}
@@ -29,8 +31,8 @@ labelFaults (suc left) same t n y l j = labelFault same t n y l j ∷ labelFault
 -- an operand with a name: a symbol, or `@` and one
 unfoldable pub operandFault : (ℕ → ℕ → Bool) → List ℕ → ℕ → List ℕ → List ℕ → ℕ → ℕ → ℕ → List ℕ
 operandFault same t n k y l r i =
-    ifEq (kindAt t i) 3 (valueFault t n y i (meaningOf same k y l r i) ∷ [])
-    (ifEq (kindAt t i) 5 (valueFault t n y i (meaningOf same k y l r i) ∷ [])
+    ifEq (kindAt t i) token.symbol (valueFault t n y i (meaningOf same k y l r i) ∷ [])
+    (ifEq (kindAt t i) token.atSymbol (valueFault t n y i (meaningOf same k y l r i) ∷ [])
     [])
 
 -- operands from token i on, so many
@@ -49,17 +51,17 @@ parameterFaults (suc left) same t n k r q = parameterFault same t n k r q ∷ pa
 
 -- the names that a function's line and a let declare
 unfoldable pub declaredFaults : (ℕ → ℕ → Bool) → List ℕ → ℕ → List ℕ → ℕ → ℕ → List ℕ
-declaredFaults same t n k r kind =
-    ifEq kind 1 (parameterFaults (endToken k r - (firstToken k r + 1)) same t n k r (firstToken k r + 1))
-    (ifEq kind 5 (letFault same t n k r (firstToken k r + 1) ∷ [])
+declaredFaults same t n k r sort =
+    ifEq sort kind.function (parameterFaults (endToken k r - (firstToken k r + 1)) same t n k r (firstToken k r + 1))
+    (ifEq sort kind.letLocal (letFault same t n k r (firstToken k r + 1) ∷ [])
     [])
 
 -- the name behind the magic word: of `set`, of `set @`, of `goto`
 unfoldable pub headFaults : (ℕ → ℕ → Bool) → List ℕ → ℕ → List ℕ → List ℕ → ℕ → ℕ → ℕ → ℕ → List ℕ
-headFaults same t n k y l r kind i =
-    ifEq kind 6 (setFault t n i (meaningOf same k y l r i) ∷ [])
-    (ifEq kind 7 (operandFault same t n k y l r i)
-    (ifEq kind 10 (gotoFault t n k y r i (meaningOf same k y l r i) ∷ [])
+headFaults same t n k y l r sort i =
+    ifEq sort kind.set (setFault t n i (meaningOf same k y l r i) ∷ [])
+    (ifEq sort kind.setAt (operandFault same t n k y l r i)
+    (ifEq sort kind.goto (gotoFault t n k y r i (meaningOf same k y l r i) ∷ [])
     []))
 
 -- the rest: the function that is called, then the operands
@@ -87,7 +89,7 @@ allNameFaults same t n k y l c = labelFaults l same t n y l 0 ++ statementsFault
 -- the line whose unit is u
 unfoldable pub lineFaults : (ℕ → ℕ → Bool) → List ℕ → ℕ → List ℕ → ℕ → List ℕ → Span → ℕ → List ℕ
 lineFaults same t n y l uses u k =
-    ifEq k 27
+    ifEq k kind.export
     (exportFault same t n y l uses (u .word + 1) (carriedBy same y l (definitionFrom t (u .next) .first) (definitionFrom t (u .next) .word) (u .word + 1)) ∷ [])
     []
 
@@ -95,7 +97,7 @@ lineFaults same t n y l uses u k =
 unfoldable pub exportFaultsFrom : ℕ → (ℕ → ℕ → Bool) → List ℕ → ℕ → List ℕ → ℕ → List ℕ → ℕ → List ℕ
 exportFaultsFrom zero same t n y l uses at = []
 exportFaultsFrom (suc left) same t n y l uses at =
-    ifEq (lineKind t (unitAt t at .word)) 0 []
+    ifEq (lineKind t (unitAt t at .word)) kind.edge []
     (lineFaults same t n y l uses (unitAt t at) (lineKind t (unitAt t at .word)) ++ exportFaultsFrom left same t n y l uses (unitAt t at .next))
 
 unfoldable pub exportFaults : (ℕ → ℕ → Bool) → List ℕ → ℕ → List ℕ → ℕ → List ℕ → List ℕ

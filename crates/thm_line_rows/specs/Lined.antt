@@ -5,6 +5,7 @@ use Prim.Native.Nat.{ℕ, _+_, _≤_}
 use mathlib.Core.List.{List}
 use Rattle.base_prelude.specs.Fault.{none}
 use Rattle.base_limits.specs.declared.Width.{Width}
+use Rattle.lang_kinds.specs.Kinds as kind
 use Rattle.lang_kinds.specs.Nesting.{rowsOf, kindOfWord}
 use Rattle.parse_lines.specs.Tokens.{wordAt}
 use Rattle.parse_lines.specs.Units.{unitAt}
@@ -25,10 +26,10 @@ pub record Line (w : Width) (t : List ℕ) (n : ℕ) (u : Span) (k : ℕ) : Type
 
 -- a row of a kind from token i to before token e, with so many operand tokens, is made of the unit u whose line has kind k: the
 -- whole line, or of an `else if..` line the jump or the test
-pub data MadeOf (t : List ℕ) (u : Span) (k : ℕ) (kind i e operands : ℕ) : Type 0 where
-  whole : rowsOf k ≡ 1 → kind ≡ k → i ≡ u .word → e ≡ u .next → operands ≡ operandCount u → MadeOf t u k kind i e operands
-  jump : k ≡ 21 → kind ≡ 21 → i ≡ u .word → e ≡ u .word + 1 → operands ≡ 0 → MadeOf t u k kind i e operands
-  test : k ≡ 21 → kind ≡ kindOfWord (wordAt t (u .word + 1)) → i ≡ u .word + 1 → e ≡ u .next → operands ≡ 2 → MadeOf t u k kind i e operands
+pub data MadeOf (t : List ℕ) (u : Span) (k : ℕ) (sort i e operands : ℕ) : Type 0 where
+  whole : rowsOf k ≡ 1 → sort ≡ k → i ≡ u .word → e ≡ u .next → operands ≡ operandCount u → MadeOf t u k sort i e operands
+  jump : k ≡ kind.elseIf → sort ≡ kind.elseIf → i ≡ u .word → e ≡ u .word + 1 → operands ≡ 0 → MadeOf t u k sort i e operands
+  test : k ≡ kind.elseIf → sort ≡ kindOfWord (wordAt t (u .word + 1)) → i ≡ u .word + 1 → e ≡ u .next → operands ≡ 2 → MadeOf t u k sort i e operands
 
 -- such a row has its line
 pub record Lined (w : Width) (t : List ℕ) (n : ℕ) (kind i e operands : ℕ) : Type 0 where

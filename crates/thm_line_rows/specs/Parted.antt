@@ -4,7 +4,9 @@ use mathlib.Core.Path.{_≡_}
 use mathlib.Core.Bool.{true, false}
 use mathlib.Core.List.{List}
 use Prim.Native.Nat.{ℕ, _-_, _≤_, _<_}
+use Rattle.lang_kinds.specs.Tokens as token
 use Rattle.parse_lines.specs.Tokens.{kindAt}
+use Rattle.prog_tables.specs.Layout.{noExpression}
 use Rattle.prog_tables.specs.Statement.{hasExpression, isCall, usedBy}
 use Rattle.prog_tables.specs.Faults.{expressionListed}
 use Rattle.prog_tables.specs.WellFormed.{hasOperands}
@@ -20,9 +22,9 @@ pub record Parted (t : List ℕ) (kind i e : ℕ) (p : Parts) : Type 0 where
   pub few : e - p .first ≤ 8
   -- the kind of its expression
   pub listed : hasExpression kind ≡ true → expressionListed kind (p .expr) ≡ true
-  pub plain : hasExpression kind ≡ false → p .expr ≡ 0
+  pub plain : hasExpression kind ≡ false → p .expr ≡ noExpression
   -- a symbol, a substitute, an integer, or `@` and one of these
-  pub operands : (j : ℕ) → p .first ≤ j → j < e → (3 ≤ kindAt t j) × (kindAt t j < 9)
+  pub operands : (j : ℕ) → p .first ≤ j → j < e → (token.symbol ≤ kindAt t j) × (kindAt t j < token.string)
   -- a row that calls names a function, no other row does
-  pub called : isCall kind (p .expr) ≡ true → (i < p .callee) × (p .callee < e) × (kindAt t (p .callee) ≡ 3)
+  pub called : isCall kind (p .expr) ≡ true → (i < p .callee) × (p .callee < e) × (kindAt t (p .callee) ≡ token.symbol)
   pub uncalled : isCall kind (p .expr) ≡ false → p .callee ≡ 0

@@ -7,7 +7,8 @@ use native.Mathlib.Omega.{arith}
 use borrow.Author.Tests.{eqb-true, eq-eqb, ltb-true}
 use lib.Dec.{eqb, ltb, leb}
 use Rattle.base_prelude.proofs.Choice.{either, true-false, ifTrue-yes, ifTrue-no, ifEq-no, ifLt-yes}
-use Rattle.lang_kinds.specs.Nesting.{range, statementIn, standsIn, enters, leaves, groundOf}
+use Rattle.lang_kinds.specs.Grounds as ground
+use Rattle.lang_kinds.specs.Nesting.{span, statementIn, standsIn, enters, leaves, groundOf}
 use Rattle.lang_kinds.specs.declared.Range.{Range}
 use Rattle.prog_tables.specs.Tests.{both}
 use Rattle.prog_tables.specs.Statement.{Row, isTest}
@@ -20,7 +21,7 @@ unfolding isTest
 test-between k =
     either (λ (b : Bool). b ≡ true → (14 ≤ k) × (k < 20)) k 14 false (ltb k 20) (λ _ e. true-false (sym e)) (λ l e. (l, ltb-true k 20 e))
 
-test-range : (k : ℕ) → isTest k ≡ true → standsIn k ≡ range 4 8
+test-range : (k : ℕ) → isTest k ≡ true → standsIn k ≡ span ground.inFunction ground.inElseArm
 unfolding standsIn statementIn
 test-range k h =
     let b = test-between k h in

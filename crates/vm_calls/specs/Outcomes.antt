@@ -9,6 +9,8 @@ use Rattle.base_prelude.specs.Choice.{ifTrue}
 use Rattle.base_limits.specs.declared.Width.{Width}
 use Rattle.base_limits.specs.declared.Width.the-variants.{Bits32}
 use Rattle.base_limits.specs.declared.Machine.{Machine}
+use Rattle.prog_tables.specs.StatementRow as row
+use Rattle.prog_tables.specs.Layout.{statementRow, noExpression, callExpression}
 use Rattle.prog_tables.specs.Statement.{Row, operandAt, rowAt, hasExpression, usedBy}
 use Rattle.prog_tables.specs.Faults.{expressionListed}
 use Rattle.vm_definitions.specs.Operands.{Words, words, bad, readOf}
@@ -74,7 +76,7 @@ settingWord w f c x = setWordBy w f c x (argumentsOf w f c x)
 
 -- the operand in slot i of row n, read in the frame at s
 abbrev pub slotRead : List ℕ → ℕ → List ℕ → ℕ → List ℕ → ℕ → Read
-slotRead t n st s m i = readOf Bits32 st s m (operandAt t (n * 27 + 11 + i * 2))
+slotRead t n st s m i = readOf Bits32 st s m (operandAt t (n * statementRow + row.operands + i * 2))
 
 -- k words, where all were read
 abbrev pub wordsIn : Bool → List ℕ → ℕ → Words
@@ -86,8 +88,8 @@ wordsIn b ws k = ifTrue b (words (take k ws)) bad
 pub record Expressed (r : Row) : Type 0 where
   pub has : hasExpression (r .kind) ≡ true
   pub listed : expressionListed (r .kind) (r .expr) ≡ true
-  pub some : r .expr ≡ 0 → ⊥
-  pub plain : r .expr ≡ 2 → ⊥
+  pub some : r .expr ≡ noExpression → ⊥
+  pub plain : r .expr ≡ callExpression → ⊥
 
 -- a call to one of c rows; its operands are its arguments
 pub record Calls (r : Row) (c : ℕ) : Type 0 where

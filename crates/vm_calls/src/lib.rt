@@ -1,7 +1,10 @@
 // Calls and returns: arguments, new frames, the way a value is handed back; and the answers that statements give.
 use base_limits::Machine;
 use base_limits::State;
+use lang_kinds::Kind;
 use prog_tables::Operand;
+use prog_tables::StatementRow;
+use prog_tables::Table;
 use vm_definitions::Broken;
 use vm_definitions::Landing;
 use vm_definitions::Outcome;
@@ -97,7 +100,10 @@ pub fn slot_at(t: &[u32], n: u32, i: u32) -> Operand
     requires { ⌜ i < 8 ⌝ }
     ensures { λ r. ⌜ r ≡ operandAt (now (t .entry)) (n * 27 + 11 + i * 2) ⌝ }
 {
-    prog_tables::operand_at(t, n as usize * 27 + 11 + i as usize * 2)
+    prog_tables::operand_at(
+        t,
+        n as usize * Table::STATEMENT_ROW + StatementRow::OPERANDS + i as usize * 2,
+    )
 }
 
 // The value of the row's expression, which is no call.
@@ -311,7 +317,7 @@ fn hand_to(
     ensures { λ o. ⌜ left o (now (st .exit)) (now (m .exit)) ≡ after (handingTo v i s q) (now (t .entry)) c r (now (st .entry)) (now (m .entry)) ⌝ }
 {
     let k = prog_tables::kind_at(t, i);
-    if k == 7 {
+    if k == Kind::SET_AT {
         let a = vm_operands::number_in(st, s, prog_tables::address_at(t, i));
         if vm_operands::has_word(m.len(), a) {
             vm_memory::put_word(m, a, v);
@@ -319,7 +325,7 @@ fn hand_to(
         }
         return stop(r, 32);
     }
-    if k == 11 {
+    if k == Kind::CALL {
         return count_one(q);
     }
     let x = prog_tables::a_at(t, i);

@@ -10,6 +10,7 @@ use Rattle.base_limits.specs.Limits.{stackWords}
 use Rattle.base_limits.specs.Width.{memoryLimit}
 use Rattle.base_limits.specs.declared.Width.{Width}
 use Rattle.base_limits.specs.declared.Machine.{Machine}
+use Rattle.lang_kinds.specs.Kinds as kind
 use Rattle.prog_tables.specs.Tests.{both, oneOf, given, all, someBelow}
 use Rattle.prog_tables.specs.Statement.{Row, isCall}
 use Rattle.prog_tables.specs.Label.{Tables, rows, labelsOf}
@@ -40,7 +41,7 @@ orElse Somewhere x = Somewhere
 
 -- "a next statement on a `function` line or in no function"
 unfoldable pub nextBad : (ℕ → Row) → ℕ → ℕ → Bool
-nextBad f c n = oneOf (eqb (f n .kind) 1) (not (inFunction f c n))
+nextBad f c n = oneOf (eqb (f n .kind) kind.function) (not (inFunction f c n))
 
 -- "a frame that doesn't end at the stack in use or lies past the lent stack", turned round: s words
 unfoldable pub frameEnds : (ℕ → Row) → ℕ → Machine → ℕ → Bool
@@ -66,8 +67,8 @@ recordGood w f c m r st =
     ∷ leb m (memoryLimit w)
     ∷ leb (length st) stackWords
     ∷ headGood w f c st (r .frame)
-    ∷ given (eqb (f (r .next) .kind) 4) (leb (getD st (r .frame + f (r .next) .a) 0) m)
-    ∷ given (eqb (f (r .next) .kind) 12) (leb (topAtEntry st (r .frame)) m)
+    ∷ given (eqb (f (r .next) .kind) kind.endBlock) (leb (getD st (r .frame + f (r .next) .a) 0) m)
+    ∷ given (eqb (f (r .next) .kind) kind.tailCall) (leb (topAtEntry st (r .frame)) m)
     ∷ given (isReturn (f (r .next))) (leavesGood w f c m st (suc (r .frame)) (r .frame))
     ∷ [])
 

@@ -9,6 +9,8 @@ use lib.ListN.{getD, length}
 use Rattle.base_prelude.specs.Choice.{ifLt, ifEq, ifTrue}
 use Rattle.base_limits.specs.Width.{bitsOf, bytesOf}
 use Rattle.base_limits.specs.declared.Width.{Width}
+use Rattle.lang_kinds.specs.Kinds as kind
+use Rattle.lang_words.specs.Numbers as op
 use Rattle.prog_tables.specs.Tests.{both, oneOf}
 use Rattle.prog_tables.specs.Statement.{Row, hasExpression, isCall}
 use Rattle.prog_tables.specs.declared.Operand.{Operand}
@@ -64,36 +66,36 @@ wordOf w st s m o = ifTrue (isAt o) (loadOf w m (numberIn st s o)) (numberIn st 
 -- what operator e meets with words x and y
 unfoldable pub operatorMeets : Width → ℕ → ℕ → ℕ → ℕ → List Meeting
 operatorMeets w top e x y =
-    ifEq e 35 (shiftsBy y ∷ [])
-    (ifEq e 36 (reservesTo (roundUp w top + x) ∷ [])
-    (ifEq e 37 (reservesTo (roundUp w top + bytesOf w * x) ∷ [])
-    (ifEq e 38 (shiftsBy y ∷ [])
-    (ifEq e 39 (divides x y ∷ [])
-    (ifEq e 40 (byteAt (byteAddress w x y) ∷ [])
-    (ifEq e 41 (wordAt (wordAddress w x y) ∷ [])
-    (ifEq e 42 (leavesOver y ∷ [])
-    (ifEq e 46 (shiftsBy y ∷ [])
-    (ifEq e 47 (shiftsBy y ∷ [])
-    (ifEq e 48 (shiftsBy y ∷ [])
-    (ifEq e 49 (shiftsBy y ∷ []) [])))))))))))
+    ifEq e op.asr (shiftsBy y ∷ [])
+    (ifEq e op.autoBytes (reservesTo (roundUp w top + x) ∷ [])
+    (ifEq e op.autoWords (reservesTo (roundUp w top + bytesOf w * x) ∷ [])
+    (ifEq e op.bsr (shiftsBy y ∷ [])
+    (ifEq e op.div (divides x y ∷ [])
+    (ifEq e op.getByte (byteAt (byteAddress w x y) ∷ [])
+    (ifEq e op.getWord (wordAt (wordAddress w x y) ∷ [])
+    (ifEq e op.modulo (leavesOver y ∷ [])
+    (ifEq e op.rol (shiftsBy y ∷ [])
+    (ifEq e op.ror (shiftsBy y ∷ [])
+    (ifEq e op.shl (shiftsBy y ∷ [])
+    (ifEq e op.shr (shiftsBy y ∷ []) [])))))))))))
 
 -- the stack words with the new frame of row r, which calls: "that sum with the new frame, for a tail call less the old one"; `sum`
 -- the words of all open functions, `last` those of the last, g the frame size of the function called
 unfoldable pub withFrame : ℕ → ℕ → ℕ → Row → ℕ
-withFrame sum last g r = ifEq (r .kind) 12 (sum - last + g) (sum + g)
+withFrame sum last g r = ifEq (r .kind) kind.tailCall (sum - last + g) (sum + g)
 
 -- behind its operands
 unfoldable pub behindOperands : Width → ℕ → ℕ → ℕ → ℕ → Row → ℕ → ℕ → List Meeting
 behindOperands w top sum last g r x y =
     ifTrue (isCall (r .kind) (r .expr)) (stacksTo (withFrame sum last g r) ∷ [])
     (ifTrue (hasExpression (r .kind)) (operatorMeets w top (r .expr) x y)
-    (ifEq (r .kind) 8 (byteAt (byteAddress w x y) ∷ [])
-    (ifEq (r .kind) 9 (wordAt (wordAddress w x y) ∷ []) [])))
+    (ifEq (r .kind) kind.setByte (byteAt (byteAddress w x y) ∷ [])
+    (ifEq (r .kind) kind.setWord (wordAt (wordAddress w x y) ∷ []) [])))
 
 -- the words it touches while it reads: the address of `set @`, then the operands
 unfoldable pub readsOf : Row → World → List Meeting
 readsOf r x =
-    ifEq (r .kind) 7 (wordAt (numberIn (x .stack) (x .machine .frame) (r .address)) ∷ []) []
+    ifEq (r .kind) kind.setAt (wordAt (numberIn (x .stack) (x .machine .frame) (r .address)) ∷ []) []
     ++ touched (x .stack) (x .machine .frame) (r .operands)
 
 -- all, in reading order

@@ -11,6 +11,8 @@ use Rattle.lang_words.specs.Words.{leastOperands}
 use Rattle.base_word.specs.Word.{addOf, subOf, mulOf, divOf, modOf, andOf, orOf, xorOf, notOf, shlOf, shrOf, bsrOf, asrOf, rolOf, rorOf, eqOf, geOf, gtOf, leOf, ltOf, neOf}
 use Rattle.base_word.specs.declared.Answer.{Answer}
 use Rattle.base_word.specs.declared.Answer.the-variants.{Word, Division, Shift}
+use Rattle.lang_kinds.specs.Kinds as kind
+use Rattle.lang_words.specs.Numbers as op
 use Rattle.prog_tables.specs.Layout.{plain}
 use Rattle.prog_tables.specs.declared.Operand.{Operand}
 use Rattle.prog_tables.specs.declared.Operand.the-variants.{Unlisted}
@@ -49,27 +51,27 @@ fetched top Bad = Stop 32
 unfoldable pub byteOf : List ℕ → ℕ → ℕ → Worked
 byteOf m top a = ifTrue (byteGood (length m) a) (Value (getD m a 0) top) (Stop 32)
 
--- operator e of x, and of y where it takes two
+-- operator e of x, and of y where it takes two; the last is `xor`
 unfoldable pub applied : Width → List ℕ → ℕ → ℕ → ℕ → ℕ → Worked
 applied w m top e x y =
-    ifEq e 33 (Value (addOf (bitsOf w) x y) top)
-    (ifEq e 34 (Value (andOf (bitsOf w) x y) top)
-    (ifEq e 35 (answered top (asrOf (bitsOf w) x y))
-    (ifEq e 36 (reserved w (length m) top x)
-    (ifEq e 37 (reserved w (length m) top (bytesOf w * x))
-    (ifEq e 38 (answered top (bsrOf (bitsOf w) x y))
-    (ifEq e 39 (answered top (divOf (bitsOf w) x y))
-    (ifEq e 40 (byteOf m top (byteAddress w x y))
-    (ifEq e 41 (fetched top (fetchOf w m (wordAddress w x y)))
-    (ifEq e 42 (answered top (modOf (bitsOf w) x y))
-    (ifEq e 43 (Value (mulOf (bitsOf w) x y) top)
-    (ifEq e 44 (Value (notOf (bitsOf w) x) top)
-    (ifEq e 45 (Value (orOf (bitsOf w) x y) top)
-    (ifEq e 46 (answered top (rolOf (bitsOf w) x y))
-    (ifEq e 47 (answered top (rorOf (bitsOf w) x y))
-    (ifEq e 48 (answered top (shlOf (bitsOf w) x y))
-    (ifEq e 49 (answered top (shrOf (bitsOf w) x y))
-    (ifEq e 50 (Value (subOf (bitsOf w) x y) top)
+    ifEq e op.add (Value (addOf (bitsOf w) x y) top)
+    (ifEq e op.and (Value (andOf (bitsOf w) x y) top)
+    (ifEq e op.asr (answered top (asrOf (bitsOf w) x y))
+    (ifEq e op.autoBytes (reserved w (length m) top x)
+    (ifEq e op.autoWords (reserved w (length m) top (bytesOf w * x))
+    (ifEq e op.bsr (answered top (bsrOf (bitsOf w) x y))
+    (ifEq e op.div (answered top (divOf (bitsOf w) x y))
+    (ifEq e op.getByte (byteOf m top (byteAddress w x y))
+    (ifEq e op.getWord (fetched top (fetchOf w m (wordAddress w x y)))
+    (ifEq e op.modulo (answered top (modOf (bitsOf w) x y))
+    (ifEq e op.mul (Value (mulOf (bitsOf w) x y) top)
+    (ifEq e op.not (Value (notOf (bitsOf w) x) top)
+    (ifEq e op.or (Value (orOf (bitsOf w) x y) top)
+    (ifEq e op.rol (answered top (rolOf (bitsOf w) x y))
+    (ifEq e op.ror (answered top (rorOf (bitsOf w) x y))
+    (ifEq e op.shl (answered top (shlOf (bitsOf w) x y))
+    (ifEq e op.shr (answered top (shrOf (bitsOf w) x y))
+    (ifEq e op.sub (Value (subOf (bitsOf w) x y) top)
     (Value (xorOf (bitsOf w) x y) top))))))))))))))))))
 
 -- operand i of a row
@@ -86,12 +88,12 @@ evalOf w st s m top e os =
 
 -- ---- tests
 
--- "Tests are signed": ifeq, ifge, ifgt, ifle, iflt, ifne
+-- "Tests are signed"; the last is `ifne`
 unfoldable pub holds : Width → ℕ → ℕ → ℕ → Bool
 holds w k x y =
-    ifEq k 14 (eqOf (bitsOf w) x y)
-    (ifEq k 15 (geOf (bitsOf w) x y)
-    (ifEq k 16 (gtOf (bitsOf w) x y)
-    (ifEq k 17 (leOf (bitsOf w) x y)
-    (ifEq k 18 (ltOf (bitsOf w) x y)
+    ifEq k kind.ifeq (eqOf (bitsOf w) x y)
+    (ifEq k kind.ifge (geOf (bitsOf w) x y)
+    (ifEq k kind.ifgt (gtOf (bitsOf w) x y)
+    (ifEq k kind.ifle (leOf (bitsOf w) x y)
+    (ifEq k kind.iflt (ltOf (bitsOf w) x y)
     (neOf (bitsOf w) x y)))))

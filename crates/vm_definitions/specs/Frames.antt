@@ -8,6 +8,7 @@ use lib.ListN.{getD, length, replicate}
 use Rattle.base_prelude.specs.Choice.{ifTrue}
 use Rattle.base_limits.specs.Width.{bitsOf}
 use Rattle.base_limits.specs.declared.Width.{Width}
+use Rattle.lang_kinds.specs.Kinds as kind
 use Rattle.prog_tables.specs.Layout.{frameHead, callExpression}
 use Rattle.prog_tables.specs.Tests.{both, oneOf}
 use Rattle.prog_tables.specs.Statement.{Row, hasExpression}
@@ -43,15 +44,15 @@ isFirst w st s = both (eqb s 0) (both (eqb (returnsTo st s) (mark w)) (eqb (call
 
 -- "`return call`"
 unfoldable pub isReturnCall : Row → Bool
-isReturnCall r = both (eqb (r .kind) 13) (eqb (r .expr) callExpression)
+isReturnCall r = both (eqb (r .kind) kind.return) (eqb (r .expr) callExpression)
 
 -- "a `return` without `call`, or `end function`"
 unfoldable pub isReturn : Row → Bool
-isReturn r = oneOf (eqb (r .kind) 2) (both (eqb (r .kind) 13) (ifTrue (eqb (r .expr) callExpression) false true))
+isReturn r = oneOf (eqb (r .kind) kind.endFunction) (both (eqb (r .kind) kind.return) (ifTrue (eqb (r .expr) callExpression) false true))
 
 -- "A call in any form": not the tail call, to which nothing returns
 unfoldable pub isCalling : Row → Bool
-isCalling r = oneOf (eqb (r .kind) 11) (both (hasExpression (r .kind)) (eqb (r .expr) callExpression))
+isCalling r = oneOf (eqb (r .kind) kind.call) (both (hasExpression (r .kind)) (eqb (r .expr) callExpression))
 
 -- ---- the way out
 

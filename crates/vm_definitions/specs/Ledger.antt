@@ -6,6 +6,7 @@ use mathlib.Core.Bool.{Bool, false}
 use mathlib.Core.Option.{Option, none, some}
 use mathlib.Core.List.{List, [], _∷_}
 use Rattle.base_prelude.specs.Choice.{ifEq, ifTrue}
+use Rattle.lang_kinds.specs.Kinds as kind
 use Rattle.prog_tables.specs.Statement.{Row}
 use Rattle.vm_definitions.specs.Frames.{isReturn, isCalling, isReturnCall}
 
@@ -44,7 +45,7 @@ replaced g (e ∷ es) = record { func = g; call = e .call } ∷ es
 unfoldable pub countedIn : (ℕ → Row) → ℕ → Ledger → Ledger
 countedIn f n es =
     ifTrue (isCalling (f n)) (record { func = f n .callee; call = some n } ∷ es)
-    (ifEq (f n .kind) 12 (replaced (f n .callee) es)
+    (ifEq (f n .kind) kind.tailCall (replaced (f n .callee) es)
     (ifTrue (isReturn (f n)) (popped f es) es))
 
 -- "An accepted start puts the started function alone in it."

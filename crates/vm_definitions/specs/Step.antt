@@ -13,6 +13,7 @@ use Rattle.base_limits.specs.declared.State.{State}
 use Rattle.base_limits.specs.declared.State.the-variants.{Running, Finished, Stopped}
 use Rattle.base_limits.specs.declared.Machine.{Machine}
 use Rattle.base_word.specs.Bytes.{wordBytes}
+use Rattle.lang_kinds.specs.Kinds as kind
 use Rattle.prog_tables.specs.Layout.{noExpression}
 use Rattle.prog_tables.specs.Tests.{both}
 use Rattle.prog_tables.specs.Statement.{Row, isTest}
@@ -171,7 +172,7 @@ module _ (w : Width) (f : ℕ → Row) (c : ℕ) (x : World) where
   -- a call in any form: that of `set @` judges its address first
   unfoldable pub callOf : Effect
   callOf =
-      ifEq (rowOf .kind) 7 (ifTrue (wordGood w (length (x .memory)) addressOf) (callBy argumentsOf) (stops 32))
+      ifEq (rowOf .kind) kind.setAt (ifTrue (wordGood w (length (x .memory)) addressOf) (callBy argumentsOf) (stops 32))
       (callBy argumentsOf)
 
   -- "`tail-call` reads all arguments, restores the auto top of entry and builds the new frame at the same start"
@@ -193,7 +194,7 @@ module _ (w : Width) (f : ℕ → Row) (c : ℕ) (x : World) where
   -- a value v handed to the call at row i, whose frame is at s: "a bare `call` drops it, `let` and `set` store it"
   unfoldable pub handedTo : ℕ → Row → ℕ → Machine → Effect
   handedTo v r s q =
-      ifEq (r .kind) 7
+      ifEq (r .kind) kind.setAt
       (ifTrue (wordGood w (length (x .memory)) (numberIn (x .stack) s (r .address)))
       (leaves
       (record {
@@ -202,7 +203,7 @@ module _ (w : Width) (f : ℕ → Row) (c : ℕ) (x : World) where
         memory = storeFrom (x .memory) (numberIn (x .stack) s (r .address)) (wordBytes (bytesOf w) v);
       }))
       (stops 32))
-      (ifEq (r .kind) 11 (leaves (record { machine = q; stack = x .stack; memory = x .memory }))
+      (ifEq (r .kind) kind.call (leaves (record { machine = q; stack = x .stack; memory = x .memory }))
       (leaves (record { machine = q; stack = set (x .stack) (s + r .a) v; memory = x .memory })))
 
   unfoldable pub handedBy : ℕ → Landing → Effect
@@ -216,7 +217,7 @@ module _ (w : Width) (f : ℕ → Row) (c : ℕ) (x : World) where
 
   -- "Bare `return` and `end function` return 0."
   unfoldable pub returnOf : Effect
-  returnOf = ifEq (rowOf .kind) 2 (returned (Value 0 0)) (ifEq (rowOf .expr) noExpression (returned (Value 0 0)) (returned workedOf))
+  returnOf = ifEq (rowOf .kind) kind.endFunction (returned (Value 0 0)) (ifEq (rowOf .expr) noExpression (returned (Value 0 0)) (returned workedOf))
 
   -- ---- the statement
 
@@ -225,15 +226,15 @@ module _ (w : Width) (f : ℕ → Row) (c : ℕ) (x : World) where
       ifTrue (isCalling rowOf) callOf
       (ifTrue (isReturn rowOf) returnOf
       (ifTrue (isTest (rowOf .kind)) testOf
-      (ifEq (rowOf .kind) 3 blockOf
-      (ifEq (rowOf .kind) 4 endBlockOf
-      (ifEq (rowOf .kind) 5 (assigned workedOf)
-      (ifEq (rowOf .kind) 6 (assigned workedOf)
-      (ifEq (rowOf .kind) 7 setAtOf
-      (ifEq (rowOf .kind) 8 (setByteBy argumentsOf)
-      (ifEq (rowOf .kind) 9 (setWordBy argumentsOf)
-      (ifEq (rowOf .kind) 12 (tailCallBy argumentsOf)
-      (ifEq (rowOf .kind) 22 (goesTo (suc (x .machine .next)))
+      (ifEq (rowOf .kind) kind.block blockOf
+      (ifEq (rowOf .kind) kind.endBlock endBlockOf
+      (ifEq (rowOf .kind) kind.letLocal (assigned workedOf)
+      (ifEq (rowOf .kind) kind.set (assigned workedOf)
+      (ifEq (rowOf .kind) kind.setAt setAtOf
+      (ifEq (rowOf .kind) kind.setByte (setByteBy argumentsOf)
+      (ifEq (rowOf .kind) kind.setWord (setWordBy argumentsOf)
+      (ifEq (rowOf .kind) kind.tailCall (tailCallBy argumentsOf)
+      (ifEq (rowOf .kind) kind.endIf (goesTo (suc (x .machine .next)))
       (goesTo (rowOf .a)))))))))))))
 
 -- ---- a step

@@ -10,6 +10,7 @@ use Rattle.base_limits.specs.Limits.{stackWords}
 use Rattle.base_limits.specs.Width.{memoryLimit}
 use Rattle.base_limits.specs.declared.Width.{Width}
 use Rattle.base_limits.specs.declared.Machine.{Machine}
+use Rattle.lang_kinds.specs.Kinds as kind
 use Rattle.prog_tables.specs.Tests.{both, oneOf, given, all}
 use Rattle.prog_tables.specs.Statement.{Row, isCall}
 use Rattle.prog_tables.specs.Faults.{inFunction, rowFault}
@@ -63,7 +64,7 @@ shapeGood w f c m r st =
 unfoldable pub keptGood : Width → (ℕ → Row) → ℕ → ℕ → ℕ → List ℕ → ℕ → Bool
 keptGood w f c m next st s =
     all
-    (given (eqb (f next .kind) 4) (leb (getD st (s + f next .a) 0) m)
-    ∷ given (eqb (f next .kind) 12) (leb (topAtEntry st s) m)
+    (given (eqb (f next .kind) kind.endBlock) (leb (getD st (s + f next .a) 0) m)
+    ∷ given (eqb (f next .kind) kind.tailCall) (leb (topAtEntry st s) m)
     ∷ given (isReturn (f next)) (leavesGood w f c m st (suc s) s)
     ∷ [])

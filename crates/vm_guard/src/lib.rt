@@ -1,5 +1,7 @@
 // Refusal 35 of a step, decided before an operand is read; and the way out of the frames that a return leaves.
 use base_limits::Machine;
+use lang_kinds::Kind;
+use prog_tables::ExpressionKind;
 use vm_definitions::Broken;
 use vm_definitions::Landing;
 ghost use mathlib.Core.Path.{_≡_};
@@ -19,8 +21,8 @@ pub fn is_return_call(t: &[u32], n: u32) -> bool
     ensures { λ r. ⌜ r ≡ isReturnCall (rowAt (now (t .entry)) n) ⌝ }
 {
     let k = prog_tables::kind_at(t, n);
-    if k == 13 {
-        return prog_tables::expression_at(t, n) == 2;
+    if k == Kind::RETURN {
+        return prog_tables::expression_at(t, n) == ExpressionKind::CALL;
     }
     false
 }
@@ -30,12 +32,12 @@ pub fn is_return(t: &[u32], n: u32) -> bool
     ensures { λ r. ⌜ r ≡ isReturn (rowAt (now (t .entry)) n) ⌝ }
 {
     let k = prog_tables::kind_at(t, n);
-    if k == 2 {
+    if k == Kind::END_FUNCTION {
         return true;
     }
-    if k == 13 {
+    if k == Kind::RETURN {
         let e = prog_tables::expression_at(t, n);
-        if e == 2 {
+        if e == ExpressionKind::CALL {
             return false;
         }
         return true;
@@ -48,11 +50,11 @@ pub fn is_calling(t: &[u32], n: u32) -> bool
     ensures { λ r. ⌜ r ≡ isCalling (rowAt (now (t .entry)) n) ⌝ }
 {
     let k = prog_tables::kind_at(t, n);
-    if k == 11 {
+    if k == Kind::CALL {
         return true;
     }
     if prog_tables::has_expression(k) {
-        return prog_tables::expression_at(t, n) == 2;
+        return prog_tables::expression_at(t, n) == ExpressionKind::CALL;
     }
     false
 }
@@ -201,7 +203,7 @@ fn next_bad(t: &[u32], c: u32, n: u32) -> bool
     ensures { λ r. ⌜ r ≡ nextBad (rowAt (now (t .entry))) c n ⌝ }
 {
     let k = prog_tables::kind_at(t, n);
-    if k == 1 {
+    if k == Kind::FUNCTION {
         return true;
     }
     if prog_faults::is_in_function(t, c, n) {
@@ -380,12 +382,12 @@ fn has_kept(t: &[u32], c: u32, m: usize, next: u32, st: &[u32], s: u32) -> bool
     ensures { λ x. ⌜ x ≡ keptGood Bits32 (rowAt (now (t .entry))) c m next (now (st .entry)) s ⌝ }
 {
     let k = prog_tables::kind_at(t, next);
-    if k == 4 {
+    if k == Kind::END_BLOCK {
         let a = prog_tables::a_at(t, next);
         let saved = prog_tables::word_at(st, s as usize + a as usize);
         return saved as usize <= m;
     }
-    if k == 12 {
+    if k == Kind::TAIL_CALL {
         let top = top_at(st, s);
         return top as usize <= m;
     }

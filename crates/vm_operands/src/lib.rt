@@ -1,5 +1,8 @@
 // Memory words, operands and expressions: each function is the definition of vm_definitions/specs at 32 bits.
 use base_word::Answer;
+use lang_kinds::Kind;
+use lang_words::Word as Operator;
+use prog_tables::ExpressionKind;
 use prog_tables::Operand;
 use vm_definitions::Read;
 use vm_definitions::Worked;
@@ -161,24 +164,24 @@ pub fn apply(e: u32, x: u32, y: u32, m: &[u8], top: u32) -> Worked
     ensures { λ r. ⌜ r ≡ applied Bits32 (now (m .entry)) top e x y ⌝ }
 {
     match e {
-        33 => with_top(base_word::add(x, y), top),
-        34 => with_top(base_word::and(x, y), top),
-        35 => from_answer(top, base_word::asr(x, y)),
-        36 => reserve(m.len(), top, x as u64),
-        37 => reserve(m.len(), top, 4 * x as u64),
-        38 => from_answer(top, base_word::bsr(x, y)),
-        39 => from_answer(top, base_word::div(x, y)),
-        40 => byte_at(m, top, byte_address(x, y)),
-        41 => from_read(top, fetch(m, word_address(x, y))),
-        42 => from_answer(top, base_word::rem(x, y)),
-        43 => with_top(base_word::mul(x, y), top),
-        44 => with_top(base_word::not(x), top),
-        45 => with_top(base_word::or(x, y), top),
-        46 => from_answer(top, base_word::rol(x, y)),
-        47 => from_answer(top, base_word::ror(x, y)),
-        48 => from_answer(top, base_word::shl(x, y)),
-        49 => from_answer(top, base_word::bsr(x, y)),
-        50 => with_top(base_word::sub(x, y), top),
+        Operator::ADD => with_top(base_word::add(x, y), top),
+        Operator::AND => with_top(base_word::and(x, y), top),
+        Operator::ASR => from_answer(top, base_word::asr(x, y)),
+        Operator::AUTO_BYTES => reserve(m.len(), top, x as u64),
+        Operator::AUTO_WORDS => reserve(m.len(), top, 4 * x as u64),
+        Operator::BSR => from_answer(top, base_word::bsr(x, y)),
+        Operator::DIV => from_answer(top, base_word::div(x, y)),
+        Operator::GET_BYTE => byte_at(m, top, byte_address(x, y)),
+        Operator::GET_WORD => from_read(top, fetch(m, word_address(x, y))),
+        Operator::MOD => from_answer(top, base_word::rem(x, y)),
+        Operator::MUL => with_top(base_word::mul(x, y), top),
+        Operator::NOT => with_top(base_word::not(x), top),
+        Operator::OR => with_top(base_word::or(x, y), top),
+        Operator::ROL => from_answer(top, base_word::rol(x, y)),
+        Operator::ROR => from_answer(top, base_word::ror(x, y)),
+        Operator::SHL => from_answer(top, base_word::shl(x, y)),
+        Operator::SHR => from_answer(top, base_word::bsr(x, y)),
+        Operator::SUB => with_top(base_word::sub(x, y), top),
         _ => with_top(base_word::xor(x, y), top),
     }
 }
@@ -199,7 +202,7 @@ pub fn eval(e: u32, a: Operand, b: Operand, st: &[u32], s: u32, m: &[u8], top: u
     ensures { λ r. ⌜ r ≡ evalOf Bits32 (now (st .entry)) s (now (m .entry)) top e (a ∷ b ∷ []) ⌝ }
 {
     let f = read_operand(st, s, m, a);
-    if e == 1 {
+    if e == ExpressionKind::PLAIN {
         return from_read(top, f);
     }
     let Read::Got(x) = f else {
@@ -220,11 +223,11 @@ pub fn test(k: u32, x: u32, y: u32) -> bool
     ensures { λ r. ⌜ r ≡ holds Bits32 k x y ⌝ }
 {
     match k {
-        14 => base_word::equal(x, y),
-        15 => base_word::greater_equal(x, y),
-        16 => base_word::greater(x, y),
-        17 => base_word::less_equal(x, y),
-        18 => base_word::less(x, y),
+        Kind::IFEQ => base_word::equal(x, y),
+        Kind::IFGE => base_word::greater_equal(x, y),
+        Kind::IFGT => base_word::greater(x, y),
+        Kind::IFLE => base_word::less_equal(x, y),
+        Kind::IFLT => base_word::less(x, y),
         _ => base_word::not_equal(x, y),
     }
 }

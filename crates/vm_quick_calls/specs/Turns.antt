@@ -7,12 +7,15 @@ use mathlib.Core.List.{List}
 use lib.Dec.{ltb, eqb}
 use lib.ListN.{getD, length, set, take}
 use Rattle.base_prelude.specs.Choice.{ifLt, ifEq, ifTrue}
+use Rattle.lang_kinds.specs.Kinds as kind
+use Rattle.prog_tables.specs.StatementRow as row
+use Rattle.prog_tables.specs.Layout.{statementRow, noExpression, callExpression, operandSlots}
 use Rattle.prog_tables.specs.Statement.{Row, operandAt, slots, rowAt}
 use Rattle.prog_tables.specs.Faults.{operandFault}
 use Rattle.prog_tables.specs.declared.Operand.{Operand}
 use Rattle.vm_definitions.specs.Access.{storeFrom}
 use Rattle.vm_definitions.specs.Operands.{Words, words, bad}
-use Rattle.vm_definitions.specs.Frames.{frameWords}
+use Rattle.vm_definitions.specs.Frames.{frameWords, returnsTo, callerFrame, topAtEntry}
 use Rattle.vm_definitions.specs.declared.Worked.{Worked}
 use Rattle.vm_definitions.specs.declared.Worked.the-variants.{Value, Stop}
 use Rattle.vm_quick_operands.specs.Fast.{goodRead, readEach, goodWork, sizeOf}
@@ -33,7 +36,7 @@ turned x st = record { move = x; stack = st }
 unfoldable pub goodFrom : List ℕ → ℕ → ℕ → ℕ → ℕ → ℕ → Bool
 goodFrom t at size d zero i = true
 goodFrom t at size d (suc left) i =
-    ifTrue (operandFault size d (operandAt t (at + 11 + i * 2))) false (goodFrom t at size d left (suc i))
+    ifTrue (operandFault size d (operandAt t (at + row.operands + i * 2))) false (goodFrom t at size d left (suc i))
 
 -- the frame size of function p, where it has k parameters; else 0
 unfoldable pub calleeSize : (ℕ → Row) → ℕ → ℕ → ℕ → ℕ
@@ -42,19 +45,19 @@ calleeSize f c p k = ifEq (f p .b) k (sizeOf f c p) 0
 -- a bare call; `let` and `set` of a local with a call, whose word is in the frame
 unfoldable pub callsLocal : (ℕ → Row) → ℕ → ℕ → Bool
 callsLocal f size n =
-    ifEq (f n .kind) 11 true
-    (ifEq (f n .expr) 2 (ifEq (f n .kind) 5 (ltb (f n .a) size) (ifEq (f n .kind) 6 (ltb (f n .a) size) false)) false)
+    ifEq (f n .kind) kind.call true
+    (ifEq (f n .expr) callExpression (ifEq (f n .kind) kind.letLocal (ltb (f n .a) size) (ifEq (f n .kind) kind.set (ltb (f n .a) size) false)) false)
 
 -- one of these, or `return call`
 unfoldable pub callsAny : (ℕ → Row) → ℕ → ℕ → Bool
-callsAny f size n = ifEq (f n .kind) 13 (eqb (f n .expr) 2) (callsLocal f size n)
+callsAny f size n = ifEq (f n .kind) kind.return (eqb (f n .expr) callExpression) (callsLocal f size n)
 
 -- row p, to which a value is handed, has a good callee and good arguments
 unfoldable pub callGood : List ℕ → ℕ → ℕ → ℕ → ℕ → Bool
 callGood t c d size p =
-    ifLt 8 (rowAt t p .count) false
+    ifLt operandSlots (rowAt t p .count) false
     (ifEq (calleeSize (rowAt t) c (rowAt t p .callee) (rowAt t p .count)) 0 false
-    (ifTrue (callsLocal (rowAt t) size p) (goodFrom t (p * 27) size d (rowAt t p .count) 0) false))
+    (ifTrue (callsLocal (rowAt t) size p) (goodFrom t (p * statementRow) size d (rowAt t p .count) 0) false))
 
 -- ---- calls
 
@@ -73,12 +76,12 @@ module _ (t : List ℕ) (d size : ℕ) (st : List ℕ) (s : ℕ) (m : List ℕ) 
 
   -- row n calls function p with k arguments; the new frame of z words starts at a place
   unfoldable pub entered : Turned
-  entered = ifLt (length st) (at + z) (turned Stays st) (enteredBy (goodAll size d st s m (take k (slots t (n * 27)))))
+  entered = ifLt (length st) (at + z) (turned Stays st) (enteredBy (goodAll size d st s m (take k (slots t (n * statementRow)))))
 
 -- row n calls its function, whose frame starts at a place
 unfoldable pub callTurn : List ℕ → ℕ → ℕ → ℕ → List ℕ → ℕ → List ℕ → ℕ → ℕ → ℕ → ℕ → ℕ → Turned
 callTurn t c d size st s m n at call below top =
-    ifLt 8 (rowAt t n .count) (turned Stays st)
+    ifLt operandSlots (rowAt t n .count) (turned Stays st)
     (ifLt (rowAt t n .callee) c
     (ifEq (calleeSize (rowAt t) c (rowAt t n .callee) (rowAt t n .count)) 0 (turned Stays st)
     (entered t d size st s m n at call below top (rowAt t n .callee) (rowAt t n .count) (calleeSize (rowAt t) c (rowAt t n .callee) (rowAt t n .count))))
@@ -87,35 +90,35 @@ callTurn t c d size st s m n at call below top =
 -- `tail-call` at row n: the new frame has the head of the frame in use, and its auto top of entry is restored
 unfoldable pub tailTurn : List ℕ → ℕ → ℕ → ℕ → List ℕ → ℕ → List ℕ → ℕ → Turned
 tailTurn t c d size st s m n =
-    ifLt (length m) (getD st (s + 2) 0) (turned Stays st)
-    (callTurn t c d size st s m n s (getD st s 0) (getD st (s + 1) 0) (getD st (s + 2) 0))
+    ifLt (length m) (topAtEntry st s) (turned Stays st)
+    (callTurn t c d size st s m n s (returnsTo st s) (callerFrame st s) (topAtEntry st s))
 
 -- ---- returns
 
 -- the value that row n returns: "Bare `return` and `end function` return 0."
 unfoldable pub resultOf : List ℕ → ℕ → ℕ → List ℕ → ℕ → List ℕ → ℕ → ℕ → Worked
 resultOf t d size st s m n top =
-    ifEq (rowAt t n .kind) 2 (Value 0 0)
-    (ifEq (rowAt t n .kind) 13 (ifEq (rowAt t n .expr) 0 (Value 0 0) (goodWork t (n * 27) size d st s m top)) (Stop 0))
+    ifEq (rowAt t n .kind) kind.endFunction (Value 0 0)
+    (ifEq (rowAt t n .kind) kind.return (ifEq (rowAt t n .expr) noExpression (Value 0 0) (goodWork t (n * statementRow) size d st s m top)) (Stop 0))
 
 -- a value for the call at row p, whose frame is at a place; the auto top of entry is restored
 unfoldable pub landed : (ℕ → Row) → List ℕ → ℕ → ℕ → ℕ → ℕ → ℕ → Turned
-landed f st s v p caller back = turned (To (suc p) caller s back) (ifEq (f p .kind) 11 st (set st (caller + f p .a) v))
+landed f st s v p caller back = turned (To (suc p) caller s back) (ifEq (f p .kind) kind.call st (set st (caller + f p .a) v))
 
 -- a value handed back from the frame at s to the call at row p, whose frame has z words; m bytes of memory
 unfoldable pub handTo : List ℕ → ℕ → ℕ → List ℕ → ℕ → ℕ → ℕ → ℕ → ℕ → Turned
 handTo t c d st s m v p z =
-    ifLt m (getD st (s + 2) 0) (turned Stays st)
-    (ifEq (getD st (s + 1) 0 + z) s
-    (ifTrue (callGood t c d z p) (landed (rowAt t) st s v p (getD st (s + 1) 0) (getD st (s + 2) 0)) (turned Stays st))
+    ifLt m (topAtEntry st s) (turned Stays st)
+    (ifEq (callerFrame st s + z) s
+    (ifTrue (callGood t c d z p) (landed (rowAt t) st s v p (callerFrame st s) (topAtEntry st s)) (turned Stays st))
     (turned Stays st))
 
 -- a value handed back from the frame at s
 unfoldable pub handTurn : List ℕ → ℕ → ℕ → List ℕ → ℕ → ℕ → ℕ → Turned
 handTurn t c d st s m v =
-    ifLt (getD st s 0) c
-    (ifEq (sizeOf (rowAt t) c (rowAt t (getD st s 0) .func)) 0 (turned Stays st)
-    (handTo t c d st s m v (getD st s 0) (sizeOf (rowAt t) c (rowAt t (getD st s 0) .func))))
+    ifLt (returnsTo st s) c
+    (ifEq (sizeOf (rowAt t) c (rowAt t (returnsTo st s) .func)) 0 (turned Stays st)
+    (handTo t c d st s m v (returnsTo st s) (sizeOf (rowAt t) c (rowAt t (returnsTo st s) .func))))
     (turned Stays st)
 
 module _ (t : List ℕ) (c d size : ℕ) (st : List ℕ) (s : ℕ) (m : List ℕ) (n top : ℕ) where
@@ -133,6 +136,6 @@ turnOf t c g d size st s used m n top =
     ifLt n c
     (ifEq (rowAt t n .func) g
     (ifTrue (callsAny (rowAt t) size n) (callTurn t c d size st s m n used n s top)
-    (ifEq (rowAt t n .kind) 12 (tailTurn t c d size st s m n) (returnTurn t c d size st s m n top)))
+    (ifEq (rowAt t n .kind) kind.tailCall (tailTurn t c d size st s m n) (returnTurn t c d size st s m n top)))
     (turned Stays st))
     (turned Stays st)

@@ -1,4 +1,9 @@
 // Calls and returns, each taken with few tests. What is not taken is left to the exact step.
+use lang_kinds::Kind;
+use prog_tables::ExpressionKind;
+use prog_tables::OperandKind;
+use prog_tables::StatementRow;
+use prog_tables::Table;
 use vm_definitions::Read;
 use vm_definitions::Worked;
 ghost use mathlib.Core.Path.{_≡_};
@@ -28,12 +33,12 @@ fn is_bad(t: &[u32], i: usize, d: u32, size: u32) -> bool
     let k = vm_quick_operands::peek(t, i);
     let v = vm_quick_operands::peek(t, i + 1);
     match k {
-        1 => false,
-        2 => size <= v,
-        3 => d < v,
-        4 => false,
-        5 => size <= v,
-        6 => d < v,
+        OperandKind::CONSTANT => false,
+        OperandKind::LOCAL => size <= v,
+        OperandKind::ADDRESS => d < v,
+        OperandKind::AT_CONSTANT => false,
+        OperandKind::AT_LOCAL => size <= v,
+        OperandKind::AT_ADDRESS => d < v,
         _ => true,
     }
 }
@@ -45,7 +50,7 @@ fn are_good(t: &[u32], at: usize, d: u32, size: u32, k: u32) -> bool
 {
     let mut i: u32 = 0;
     while i < k {
-        if is_bad(t, at + 11 + i as usize * 2, d, size) {
+        if is_bad(t, at + StatementRow::OPERANDS + i as usize * 2, d, size) {
             return false;
         }
         i += 1;
@@ -69,15 +74,15 @@ fn calls_local(t: &[u32], size: u32, n: u32) -> bool
     ensures { λ r. ⌜ r ≡ callsLocal (rowAt (now (t .entry))) size n ⌝ }
 {
     let k = prog_tables::kind_at(t, n);
-    if k == 11 {
+    if k == Kind::CALL {
         return true;
     }
     let e = prog_tables::expression_at(t, n);
-    if e == 2 {
+    if e == ExpressionKind::CALL {
         let a = prog_tables::a_at(t, n);
         return match k {
-            5 => a < size,
-            6 => a < size,
+            Kind::LET => a < size,
+            Kind::SET => a < size,
             _ => false,
         };
     }
@@ -89,8 +94,8 @@ fn calls_any(t: &[u32], size: u32, n: u32) -> bool
     ensures { λ r. ⌜ r ≡ callsAny (rowAt (now (t .entry))) size n ⌝ }
 {
     let k = prog_tables::kind_at(t, n);
-    if k == 13 {
-        return prog_tables::expression_at(t, n) == 2;
+    if k == Kind::RETURN {
+        return prog_tables::expression_at(t, n) == ExpressionKind::CALL;
     }
     calls_local(t, size, n)
 }
@@ -108,7 +113,7 @@ fn is_call_good(t: &[u32], c: u32, d: u32, size: u32, p: u32) -> bool
         return false;
     }
     if calls_local(t, size, p) {
-        return are_good(t, p as usize * 27, d, size, k);
+        return are_good(t, p as usize * Table::STATEMENT_ROW, d, size, k);
     }
     false
 }
@@ -131,7 +136,15 @@ fn read_arguments(
 {
     let mut i: u32 = 0;
     while i < k {
-        let x = vm_quick_operands::read(t, at + 11 + i as usize * 2, d, size, st, s, m);
+        let x = vm_quick_operands::read(
+            t,
+            at + StatementRow::OPERANDS + i as usize * 2,
+            d,
+            size,
+            st,
+            s,
+            m,
+        );
         let Read::Got(v) = x else {
             return false;
         };
@@ -188,7 +201,17 @@ fn enter(
         return Turn::Stays;
     }
     let mut words = [0u32; 8];
-    if read_arguments(t, n as usize * 27, k, d, size, st, s, m, &mut words) {
+    if read_arguments(
+        t,
+        n as usize * Table::STATEMENT_ROW,
+        k,
+        d,
+        size,
+        st,
+        s,
+        m,
+        &mut words,
+    ) {
         let to = k as usize;
         return push_frame(st, at, call, below, top, p, z, &words[0..to]);
     }
@@ -251,15 +274,24 @@ fn result(t: &[u32], d: u32, size: u32, st: &[u32], s: u32, m: &[u8], n: u32, to
     ensures { λ r. ⌜ r ≡ resultOf (now (t .entry)) d size (now (st .entry)) s (now (m .entry)) n top ⌝ }
 {
     let k = prog_tables::kind_at(t, n);
-    if k == 2 {
+    if k == Kind::END_FUNCTION {
         return Worked::Value { word: 0, top: 0 };
     }
-    if k == 13 {
+    if k == Kind::RETURN {
         let e = prog_tables::expression_at(t, n);
-        if e == 0 {
+        if e == ExpressionKind::NONE {
             return Worked::Value { word: 0, top: 0 };
         }
-        return vm_quick_operands::work(t, n as usize * 27, d, size, st, s, m, top);
+        return vm_quick_operands::work(
+            t,
+            n as usize * Table::STATEMENT_ROW,
+            d,
+            size,
+            st,
+            s,
+            m,
+            top,
+        );
     }
     Worked::Stop(0)
 }
@@ -270,7 +302,7 @@ fn land(t: &[u32], st: &mut [u32], s: u32, v: u32, p: u32, caller: u32, back: u3
     ensures { λ r. ⌜ turned r (now (st .exit)) ≡ landed (rowAt (now (t .entry))) (now (st .entry)) s v p caller back ⌝ }
 {
     let k = prog_tables::kind_at(t, p);
-    if k == 11 {
+    if k == Kind::CALL {
         return Turn::To {
             next: p + 1,
             frame: caller,
@@ -382,7 +414,7 @@ pub fn take_turn(
             return call_at(t, c, d, size, st, s, m, n, used, n, s, top);
         }
         let k = prog_tables::kind_at(t, n);
-        if k == 12 {
+        if k == Kind::TAIL_CALL {
             return tail_call(t, c, d, size, st, s, m, n);
         }
         return give_back(t, c, d, size, st, s, m, n, top);

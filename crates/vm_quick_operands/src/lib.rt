@@ -1,4 +1,9 @@
 // Operands, expressions and functions of rows, tested for 35 and read at once. What is not good gives no word, and is left to the exact step.
+use lang_kinds::Kind;
+use prog_tables::ExpressionKind;
+use prog_tables::OperandKind;
+use prog_tables::StatementRow;
+use prog_tables::Table;
 use vm_definitions::Read;
 use vm_definitions::Worked;
 ghost use mathlib.Core.Path.{_≡_};
@@ -31,27 +36,27 @@ pub fn read(t: &[u32], i: usize, d: u32, size: u32, st: &[u32], s: u32, m: &[u8]
     let k = peek(t, i);
     let v = peek(t, i + 1);
     match k {
-        1 => Read::Got(v),
-        2 => {
+        OperandKind::CONSTANT => Read::Got(v),
+        OperandKind::LOCAL => {
             if v < size {
                 return Read::Got(local(st, s, v));
             }
             Read::Bad
         }
-        3 => {
+        OperandKind::ADDRESS => {
             if v <= d {
                 return Read::Got(v);
             }
             Read::Bad
         }
-        4 => vm_operands::fetch(m, v),
-        5 => {
+        OperandKind::AT_CONSTANT => vm_operands::fetch(m, v),
+        OperandKind::AT_LOCAL => {
             if v < size {
                 return vm_operands::fetch(m, local(st, s, v));
             }
             Read::Bad
         }
-        6 => {
+        OperandKind::AT_ADDRESS => {
             if v <= d {
                 return vm_operands::fetch(m, v);
             }
@@ -76,11 +81,11 @@ fn work_one(
     requires { ⌜ (at + 27 ≤ length (now t)) × (s + size ≤ length (now st)) × (length (now m) ≤ 65536) ⌝ }
     ensures { λ r. ⌜ r ≡ oneRead (now (t .entry)) at size d (now (st .entry)) s (now (m .entry)) top e ⌝ }
 {
-    let f = read(t, at + 11, d, size, st, s, m);
+    let f = read(t, at + StatementRow::OPERANDS, d, size, st, s, m);
     let Read::Got(x) = f else {
         return Worked::Stop(32);
     };
-    if e == 1 {
+    if e == ExpressionKind::PLAIN {
         return Worked::Value { word: x, top: top };
     }
     vm_operands::apply(e, x, 0, m, top)
@@ -101,7 +106,7 @@ fn work_two(
     requires { ⌜ (at + 27 ≤ length (now t)) × (s + size ≤ length (now st)) × (length (now m) ≤ 65536) ⌝ }
     ensures { λ r. ⌜ r ≡ twoRead (now (t .entry)) at size d (now (st .entry)) s (now (m .entry)) top e ⌝ }
 {
-    let f = read(t, at + 11, d, size, st, s, m);
+    let f = read(t, at + StatementRow::OPERANDS, d, size, st, s, m);
     let Read::Got(x) = f else {
         return Worked::Stop(32);
     };
@@ -126,7 +131,7 @@ pub fn work(
     requires { ⌜ (at + 27 ≤ length (now t)) × (s + size ≤ length (now st)) × (length (now m) ≤ 65536) ⌝ }
     ensures { λ r. ⌜ r ≡ goodWork (now (t .entry)) at size d (now (st .entry)) s (now (m .entry)) top ⌝ }
 {
-    let e = peek(t, at + 6);
+    let e = peek(t, at + StatementRow::EXPR);
     let k = prog_tables::expression_uses(e, 0);
     if k == 1 {
         return work_one(t, at, e, d, size, st, s, m, top);
@@ -145,11 +150,11 @@ pub fn size_of(t: &[u32], c: u32, g: u32) -> u32
     if c <= g {
         return 0;
     }
-    let at = g as usize * 27;
+    let at = g as usize * Table::STATEMENT_ROW;
     let k = peek(t, at);
-    if k == 1 {
-        let size = peek(t, at + 4);
-        let p = peek(t, at + 5);
+    if k == Kind::FUNCTION {
+        let size = peek(t, at + StatementRow::A);
+        let p = peek(t, at + StatementRow::B);
         if (size as u64) < 3 + p as u64 {
             return 0;
         }

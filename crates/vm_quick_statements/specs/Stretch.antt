@@ -10,6 +10,9 @@ use lib.ListN.{getD, length, set, replicate}
 use Rattle.base_prelude.specs.Choice.{ifLt, ifEq, ifTrue}
 use Rattle.base_limits.specs.declared.Width.the-variants.{Bits32}
 use Rattle.base_word.specs.Bytes.{wordBytes}
+use Rattle.lang_kinds.specs.Kinds as kind
+use Rattle.prog_tables.specs.StatementRow as row
+use Rattle.prog_tables.specs.Layout.{statementRow, frameHead, addressOperand}
 use Rattle.prog_tables.specs.Statement.{isTest, operandAt}
 use Rattle.vm_definitions.specs.Access.{byteAddress, wordAddress, byteGood, wordGood, storeFrom}
 use Rattle.vm_definitions.specs.Operands.{onRead}
@@ -36,34 +39,34 @@ taken x st m = record { move = x; stack = st; memory = m }
 
 -- row a of c rows is a row of function g
 unfoldable pub aimed : List ℕ → ℕ → ℕ → ℕ → Bool
-aimed t c g a = ifLt a c (eqb (getD t (a * 27 + 1) 0) g) false
+aimed t c g a = ifLt a c (eqb (getD t (a * statementRow + row.func) 0) g) false
 
 -- `goto` and `else` at row n
 unfoldable pub quickJump : List ℕ → ℕ → ℕ → ℕ → ℕ → Move
-quickJump t c g n top = ifTrue (aimed t c g (getD t (n * 27 + 4) 0)) (To (getD t (n * 27 + 4) 0) top) Stays
+quickJump t c g n top = ifTrue (aimed t c g (getD t (n * statementRow + row.a) 0)) (To (getD t (n * statementRow + row.a) 0) top) Stays
 
 -- ---- blocks
 
 -- `block` at row n: its words lie behind the head of the frame
 unfoldable pub quickBlock : List ℕ → ℕ → List ℕ → ℕ → List ℕ → ℕ → ℕ → Taken
 quickBlock t size st s m n top =
-    ifLt (getD t (n * 27 + 4) 0) 3 (taken Stays st m)
-    (ifLt (getD t (n * 27 + 4) 0 + getD t (n * 27 + 5) 0) size
-    (taken (To (suc n) top) (storeFrom st (s + getD t (n * 27 + 4) 0) (top ∷ replicate (getD t (n * 27 + 5) 0) 0)) m)
+    ifLt (getD t (n * statementRow + row.a) 0) frameHead (taken Stays st m)
+    (ifLt (getD t (n * statementRow + row.a) 0 + getD t (n * statementRow + row.b) 0) size
+    (taken (To (suc n) top) (storeFrom st (s + getD t (n * statementRow + row.a) 0) (top ∷ replicate (getD t (n * statementRow + row.b) 0) 0)) m)
     (taken Stays st m))
 
 -- `end block`: the auto top that it restores is within m bytes of memory
 unfoldable pub quickEnd : List ℕ → ℕ → List ℕ → ℕ → ℕ → ℕ → Move
 quickEnd t size st s m n =
-    ifLt (getD t (n * 27 + 4) 0) size
-    (ifLt m (getD st (s + getD t (n * 27 + 4) 0) 0) Stays (To (suc n) (getD st (s + getD t (n * 27 + 4) 0) 0)))
+    ifLt (getD t (n * statementRow + row.a) 0) size
+    (ifLt m (getD st (s + getD t (n * statementRow + row.a) 0) 0) Stays (To (suc n) (getD st (s + getD t (n * statementRow + row.a) 0) 0)))
     Stays
 
 -- ---- operands of the row whose first word is at a place
 
 unfoldable pub threeRead : List ℕ → ℕ → ℕ → ℕ → List ℕ → ℕ → List ℕ → Three
 threeRead t at d size st s m =
-    onRead (goodRead size d st s m (operandAt t (at + 11))) Unread
+    onRead (goodRead size d st s m (operandAt t (at + row.operands))) Unread
     (λ x. onRead (goodRead size d st s m (operandAt t (at + 13))) Unread
     (λ y. onRead (goodRead size d st s m (operandAt t (at + 15))) Unread (λ z. All x y z)))
 
@@ -71,14 +74,14 @@ threeRead t at d size st s m =
 
 module _ (t : List ℕ) (d size : ℕ) (st : List ℕ) (s : ℕ) (m : List ℕ) (n top : ℕ) where
   unfoldable pub assignedBy : Worked → Taken
-  assignedBy (Value v end) = taken (To (suc n) end) (set st (s + getD t (n * 27 + 4) 0) v) m
+  assignedBy (Value v end) = taken (To (suc n) end) (set st (s + getD t (n * statementRow + row.a) 0) v) m
   assignedBy (Stop k) = taken Stays st m
 
   -- `let` and `set` of a local: the word lies behind the head of the frame
   unfoldable pub quickAssign : Taken
   quickAssign =
-      ifLt (getD t (n * 27 + 4) 0) 3 (taken Stays st m)
-      (ifLt (getD t (n * 27 + 4) 0) size (assignedBy (goodWork t (n * 27) size d st s m top)) (taken Stays st m))
+      ifLt (getD t (n * statementRow + row.a) 0) frameHead (taken Stays st m)
+      (ifLt (getD t (n * statementRow + row.a) 0) size (assignedBy (goodWork t (n * statementRow) size d st s m top)) (taken Stays st m))
 
   unfoldable pub byteBy : Three → Taken
   byteBy (All base offset value) =
@@ -89,7 +92,7 @@ module _ (t : List ℕ) (d size : ℕ) (st : List ℕ) (s : ℕ) (m : List ℕ) 
 
   -- `set-byte`
   unfoldable pub quickByte : Taken
-  quickByte = byteBy (threeRead t (n * 27) d size st s m)
+  quickByte = byteBy (threeRead t (n * statementRow) d size st s m)
 
   unfoldable pub wordBy : Three → Taken
   wordBy (All base offset value) =
@@ -100,7 +103,7 @@ module _ (t : List ℕ) (d size : ℕ) (st : List ℕ) (s : ℕ) (m : List ℕ) 
 
   -- `set-word`
   unfoldable pub quickWord : Taken
-  quickWord = wordBy (threeRead t (n * 27) d size st s m)
+  quickWord = wordBy (threeRead t (n * statementRow) d size st s m)
 
   unfoldable pub storedBy : ℕ → Worked → Taken
   storedBy a (Value v end) = taken (To (suc n) end) st (storeFrom m a (wordBytes 4 v))
@@ -108,58 +111,58 @@ module _ (t : List ℕ) (d size : ℕ) (st : List ℕ) (s : ℕ) (m : List ℕ) 
 
   -- `set @` with its address
   unfoldable pub storedAt : ℕ → Taken
-  storedAt a = storedBy a (goodWork t (n * 27) size d st s m top)
+  storedAt a = storedBy a (goodWork t (n * statementRow) size d st s m top)
 
   -- `set @`: its address is no `@` operand itself
   unfoldable pub quickAt : Taken
   quickAt =
-      ifLt 3 (getD t (n * 27 + 9) 0) (taken Stays st m)
-      (onRead (goodRead size d st s m (operandAt t (n * 27 + 9))) (taken Stays st m)
+      ifLt addressOperand (getD t (n * statementRow + row.address) 0) (taken Stays st m)
+      (onRead (goodRead size d st s m (operandAt t (n * statementRow + row.address))) (taken Stays st m)
       (λ a. ifTrue (wordGood Bits32 (length m) a) (storedAt a) (taken Stays st m)))
 
 module _ (t : List ℕ) (c g d size : ℕ) (st : List ℕ) (s : ℕ) (m : List ℕ) (n top : ℕ) where
   -- a test of kind k
   unfoldable pub quickTest : ℕ → Taken
   quickTest k =
-      ifTrue (aimed t c g (getD t (n * 27 + 4) 0))
-      (onRead (goodRead size d st s m (operandAt t (n * 27 + 11))) (taken Stays st m)
-      (λ x. onRead (goodRead size d st s m (operandAt t (n * 27 + 13))) (taken Stays st m)
-      (λ y. taken (To (ifTrue (holds Bits32 k x y) (suc n) (getD t (n * 27 + 4) 0)) top) st m)))
+      ifTrue (aimed t c g (getD t (n * statementRow + row.a) 0))
+      (onRead (goodRead size d st s m (operandAt t (n * statementRow + row.operands))) (taken Stays st m)
+      (λ x. onRead (goodRead size d st s m (operandAt t (n * statementRow + 13))) (taken Stays st m)
+      (λ y. taken (To (ifTrue (holds Bits32 k x y) (suc n) (getD t (n * statementRow + row.a) 0)) top) st m)))
       (taken Stays st m)
 
   -- the statement of kind k: jumps and `end if`
   unfoldable pub quickJumps : ℕ → Taken
   quickJumps k =
-      ifEq k 10 (taken (quickJump t c g n top) st m)
-      (ifEq k 20 (taken (quickJump t c g n top) st m)
-      (ifEq k 21 (taken (quickJump t c g n top) st m)
-      (ifEq k 22 (taken (To (suc n) top) st m)
+      ifEq k kind.goto (taken (quickJump t c g n top) st m)
+      (ifEq k kind.else (taken (quickJump t c g n top) st m)
+      (ifEq k kind.elseIf (taken (quickJump t c g n top) st m)
+      (ifEq k kind.endIf (taken (To (suc n) top) st m)
       (taken Stays st m))))
 
   -- stores into memory
   unfoldable pub quickStores : ℕ → Taken
   quickStores k =
-      ifEq k 7 (quickAt t d size st s m n top)
-      (ifEq k 8 (quickByte t d size st s m n top)
-      (ifEq k 9 (quickWord t d size st s m n top)
+      ifEq k kind.setAt (quickAt t d size st s m n top)
+      (ifEq k kind.setByte (quickByte t d size st s m n top)
+      (ifEq k kind.setWord (quickWord t d size st s m n top)
       (quickJumps k)))
 
   -- tests, blocks, `let` and `set` of a local
   unfoldable pub quickKind : ℕ → Taken
   quickKind k =
       ifTrue (isTest k) (quickTest k)
-      (ifEq k 3 (quickBlock t size st s m n top)
-      (ifEq k 4 (taken (quickEnd t size st s (length m) n) st m)
-      (ifEq k 5 (quickAssign t d size st s m n top)
-      (ifEq k 6 (quickAssign t d size st s m n top)
+      (ifEq k kind.block (quickBlock t size st s m n top)
+      (ifEq k kind.endBlock (taken (quickEnd t size st s (length m) n) st m)
+      (ifEq k kind.letLocal (quickAssign t d size st s m n top)
+      (ifEq k kind.set (quickAssign t d size st s m n top)
       (quickStores k)))))
 
   unfoldable pub quickForm : Taken
-  quickForm = quickKind (getD t (n * 27) 0)
+  quickForm = quickKind (getD t (n * statementRow) 0)
 
   -- the statement at row n, where that is one of c rows and a row of function g
   unfoldable pub quickStep : Taken
-  quickStep = ifLt n c (ifEq (getD t (n * 27 + 1) 0) g quickForm (taken Stays st m)) (taken Stays st m)
+  quickStep = ifLt n c (ifEq (getD t (n * statementRow + row.func) 0) g quickForm (taken Stays st m)) (taken Stays st m)
 
 -- ---- the stretch
 

@@ -1,4 +1,8 @@
 // A stretch: statements inside one frame that neither call nor return, each taken with few tests. What is not taken is left to the exact step.
+use lang_kinds::Kind;
+use prog_tables::OperandKind;
+use prog_tables::StatementRow;
+use prog_tables::Table;
 use vm_definitions::Read;
 use vm_definitions::Worked;
 ghost use mathlib.Core.Path.{_≡_};
@@ -30,9 +34,9 @@ fn assign(t: &[u32], d: u32, size: u32, st: &mut [u32], s: u32, m: &[u8], n: u32
     requires { ⌜ (n < 4294967295) × (n * 27 + 27 ≤ length (now t)) × (s + size ≤ length (now st)) × (length (now m) ≤ 65536) ⌝ }
     ensures { λ r. ⌜ taken r (now (st .exit)) (now (m .entry)) ≡ quickAssign (now (t .entry)) d size (now (st .entry)) s (now (m .entry)) n top ⌝ }
 {
-    let at = n as usize * 27;
-    let a = vm_quick_operands::peek(t, at + 4);
-    if a < 3 {
+    let at = n as usize * Table::STATEMENT_ROW;
+    let a = vm_quick_operands::peek(t, at + StatementRow::A);
+    if a < Table::FRAME_HEAD {
         return Move::Stays;
     }
     if size <= a {
@@ -57,7 +61,8 @@ fn is_aimed(t: &[u32], c: u32, g: u32, a: u32) -> bool
     ensures { λ r. ⌜ r ≡ aimed (now (t .entry)) c g a ⌝ }
 {
     if a < c {
-        return vm_quick_operands::peek(t, a as usize * 27 + 1) == g;
+        return vm_quick_operands::peek(t, a as usize * Table::STATEMENT_ROW + StatementRow::FUNC)
+            == g;
     }
     false
 }
@@ -93,10 +98,10 @@ fn test(
     requires { ⌜ (n < 4294967295) × (n * 27 + 27 ≤ length (now t)) × (s + size ≤ length (now st)) × (c * 27 ≤ length (now t)) ⌝ }
     ensures { λ r. ⌜ taken r (now (st .entry)) (now (m .entry)) ≡ quickTest (now (t .entry)) c g d size (now (st .entry)) s (now (m .entry)) n top k ⌝ }
 {
-    let at = n as usize * 27;
-    let a = vm_quick_operands::peek(t, at + 4);
+    let at = n as usize * Table::STATEMENT_ROW;
+    let a = vm_quick_operands::peek(t, at + StatementRow::A);
     if is_aimed(t, c, g, a) {
-        let f = vm_quick_operands::read(t, at + 11, d, size, st, s, m);
+        let f = vm_quick_operands::read(t, at + StatementRow::OPERANDS, d, size, st, s, m);
         let Read::Got(x) = f else {
             return Move::Stays;
         };
@@ -114,7 +119,7 @@ fn jump(t: &[u32], c: u32, g: u32, n: u32, top: u32) -> Move
     requires { ⌜ (n * 27 + 27 ≤ length (now t)) × (c * 27 ≤ length (now t)) ⌝ }
     ensures { λ r. ⌜ r ≡ quickJump (now (t .entry)) c g n top ⌝ }
 {
-    let a = vm_quick_operands::peek(t, n as usize * 27 + 4);
+    let a = vm_quick_operands::peek(t, n as usize * Table::STATEMENT_ROW + StatementRow::A);
     if is_aimed(t, c, g, a) {
         return Move::To { next: a, top: top };
     }
@@ -135,10 +140,10 @@ fn enter_block(t: &[u32], size: u32, st: &mut [u32], s: u32, m: &[u8], n: u32, t
     requires { ⌜ (n < 4294967295) × (n * 27 + 27 ≤ length (now t)) ⌝ }
     ensures { λ r. ⌜ taken r (now (st .exit)) (now (m .entry)) ≡ quickBlock (now (t .entry)) size (now (st .entry)) s (now (m .entry)) n top ⌝ }
 {
-    let at = n as usize * 27;
-    let a = vm_quick_operands::peek(t, at + 4);
-    let b = vm_quick_operands::peek(t, at + 5);
-    if a < 3 {
+    let at = n as usize * Table::STATEMENT_ROW;
+    let a = vm_quick_operands::peek(t, at + StatementRow::A);
+    let b = vm_quick_operands::peek(t, at + StatementRow::B);
+    if a < Table::FRAME_HEAD {
         return Move::Stays;
     }
     if size as u64 <= a as u64 + b as u64 {
@@ -156,7 +161,7 @@ fn leave_block(t: &[u32], size: u32, st: &[u32], s: u32, m: usize, n: u32) -> Mo
     requires { ⌜ (n < 4294967295) × (n * 27 + 27 ≤ length (now t)) × (s + size ≤ length (now st)) ⌝ }
     ensures { λ r. ⌜ r ≡ quickEnd (now (t .entry)) size (now (st .entry)) s m n ⌝ }
 {
-    let a = vm_quick_operands::peek(t, n as usize * 27 + 4);
+    let a = vm_quick_operands::peek(t, n as usize * Table::STATEMENT_ROW + StatementRow::A);
     if size <= a {
         return Move::Stays;
     }
@@ -181,7 +186,7 @@ fn read_three(t: &[u32], at: usize, d: u32, size: u32, st: &[u32], s: u32, m: &[
     requires { ⌜ (at + 27 ≤ length (now t)) × (s + size ≤ length (now st)) ⌝ }
     ensures { λ r. ⌜ r ≡ threeRead (now (t .entry)) at d size (now (st .entry)) s (now (m .entry)) ⌝ }
 {
-    let f = vm_quick_operands::read(t, at + 11, d, size, st, s, m);
+    let f = vm_quick_operands::read(t, at + StatementRow::OPERANDS, d, size, st, s, m);
     let Read::Got(base) = f else {
         return Three::Unread;
     };
@@ -214,7 +219,7 @@ fn set_byte(
     requires { ⌜ (n < 4294967295) × (n * 27 + 27 ≤ length (now t)) × (s + size ≤ length (now st)) ⌝ }
     ensures { λ r. ⌜ taken r (now (st .entry)) (now (m .exit)) ≡ quickByte (now (t .entry)) d size (now (st .entry)) s (now (m .entry)) n top ⌝ }
 {
-    let x = read_three(t, n as usize * 27, d, size, st, s, m);
+    let x = read_three(t, n as usize * Table::STATEMENT_ROW, d, size, st, s, m);
     let Three::All {
         base,
         offset,
@@ -248,7 +253,7 @@ fn set_word(
     requires { ⌜ (n < 4294967295) × (n * 27 + 27 ≤ length (now t)) × (s + size ≤ length (now st)) ⌝ }
     ensures { λ r. ⌜ taken r (now (st .entry)) (now (m .exit)) ≡ quickWord (now (t .entry)) d size (now (st .entry)) s (now (m .entry)) n top ⌝ }
 {
-    let x = read_three(t, n as usize * 27, d, size, st, s, m);
+    let x = read_three(t, n as usize * Table::STATEMENT_ROW, d, size, st, s, m);
     let Three::All {
         base,
         offset,
@@ -283,7 +288,7 @@ fn store_at(
     requires { ⌜ (n < 4294967295) × (n * 27 + 27 ≤ length (now t)) × (s + size ≤ length (now st)) × (length (now m) ≤ 65536) × (a + 4 ≤ length (now m)) ⌝ }
     ensures { λ r. ⌜ taken r (now (st .entry)) (now (m .exit)) ≡ storedAt (now (t .entry)) d size (now (st .entry)) s (now (m .entry)) n top a ⌝ }
 {
-    let x = vm_quick_operands::work(t, n as usize * 27, d, size, st, s, m, top);
+    let x = vm_quick_operands::work(t, n as usize * Table::STATEMENT_ROW, d, size, st, s, m, top);
     match x {
         Worked::Value { word, top: end } => {
             vm_memory::put_word(m, a, word);
@@ -301,12 +306,12 @@ fn set_at(t: &[u32], d: u32, size: u32, st: &[u32], s: u32, m: &mut [u8], n: u32
     requires { ⌜ (n < 4294967295) × (n * 27 + 27 ≤ length (now t)) × (s + size ≤ length (now st)) × (length (now m) ≤ 65536) ⌝ }
     ensures { λ r. ⌜ taken r (now (st .entry)) (now (m .exit)) ≡ quickAt (now (t .entry)) d size (now (st .entry)) s (now (m .entry)) n top ⌝ }
 {
-    let at = n as usize * 27;
-    let k = vm_quick_operands::peek(t, at + 9);
-    if 3 < k {
+    let at = n as usize * Table::STATEMENT_ROW;
+    let k = vm_quick_operands::peek(t, at + StatementRow::ADDRESS);
+    if OperandKind::ADDRESS < k {
         return Move::Stays;
     }
-    let f = vm_quick_operands::read(t, at + 9, d, size, st, s, m);
+    let f = vm_quick_operands::read(t, at + StatementRow::ADDRESS, d, size, st, s, m);
     let Read::Got(a) = f else {
         return Move::Stays;
     };
@@ -332,22 +337,22 @@ fn take_form(
     requires { ⌜ (n < c) × (c < 4294967296) × (c * 27 ≤ length (now t)) × (s + size ≤ length (now st)) × (length (now m) ≤ 65536) ⌝ }
     ensures { λ r. ⌜ taken r (now (st .exit)) (now (m .exit)) ≡ quickForm (now (t .entry)) c g d size (now (st .entry)) s (now (m .entry)) n top ⌝ }
 {
-    let k = vm_quick_operands::peek(t, n as usize * 27);
+    let k = vm_quick_operands::peek(t, n as usize * Table::STATEMENT_ROW);
     if prog_tables::is_test(k) {
         return test(t, c, g, d, size, st, s, m, n, top, k);
     }
     match k {
-        3 => enter_block(t, size, st, s, m, n, top),
-        4 => leave_block(t, size, st, s, m.len(), n),
-        5 => assign(t, d, size, st, s, m, n, top),
-        6 => assign(t, d, size, st, s, m, n, top),
-        7 => set_at(t, d, size, st, s, m, n, top),
-        8 => set_byte(t, d, size, st, s, m, n, top),
-        9 => set_word(t, d, size, st, s, m, n, top),
-        10 => jump(t, c, g, n, top),
-        20 => jump(t, c, g, n, top),
-        21 => jump(t, c, g, n, top),
-        22 => Move::To {
+        Kind::BLOCK => enter_block(t, size, st, s, m, n, top),
+        Kind::END_BLOCK => leave_block(t, size, st, s, m.len(), n),
+        Kind::LET => assign(t, d, size, st, s, m, n, top),
+        Kind::SET => assign(t, d, size, st, s, m, n, top),
+        Kind::SET_AT => set_at(t, d, size, st, s, m, n, top),
+        Kind::SET_BYTE => set_byte(t, d, size, st, s, m, n, top),
+        Kind::SET_WORD => set_word(t, d, size, st, s, m, n, top),
+        Kind::GOTO => jump(t, c, g, n, top),
+        Kind::ELSE => jump(t, c, g, n, top),
+        Kind::ELSE_IF => jump(t, c, g, n, top),
+        Kind::END_IF => Move::To {
             next: n + 1,
             top: top,
         },
@@ -374,7 +379,7 @@ fn take(
     if c <= n {
         return Move::Stays;
     }
-    let own = vm_quick_operands::peek(t, n as usize * 27 + 1);
+    let own = vm_quick_operands::peek(t, n as usize * Table::STATEMENT_ROW + StatementRow::FUNC);
     if own == g {
         return take_form(t, c, g, d, size, st, s, m, n, top);
     }

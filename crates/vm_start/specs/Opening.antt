@@ -10,6 +10,8 @@ use Rattle.base_limits.specs.Limits.{stackWords}
 use Rattle.base_limits.specs.Width.{memoryLimit}
 use Rattle.base_limits.specs.Fresh.{freshOf}
 use Rattle.base_limits.specs.declared.Width.{Width}
+use Rattle.lang_kinds.specs.Kinds as kind
+use Rattle.prog_tables.specs.Layout.{placeLabel}
 use Rattle.prog_tables.specs.Tests.{both, oneOf, someBelow}
 use Rattle.prog_tables.specs.Statement.{Row}
 use Rattle.prog_tables.specs.Label.{Tables, rows, labelsOf, isData, isFunctionLabel}
@@ -44,12 +46,12 @@ labelTables l k names = tablesOf [] 0 l k names 0
 
 -- no function of c rows at n
 abbrev pub noFunction : (ℕ → Row) → ℕ → ℕ → Bool
-noFunction f c n = not (both (ltb n c) (eqb (f n .kind) 1))
+noFunction f c n = not (both (ltb n c) (eqb (f n .kind) kind.function))
 
 -- a label of kind k with number n is broken, its name aside
 unfoldable pub aimFault : (ℕ → Row) → ℕ → ℕ → ℕ → ℕ → Bool
 aimFault f c d k n =
-    ifTrue (isData k) (ltb d n) (ifTrue (isFunctionLabel k) (noFunction f c n) (ifEq k 5 (leb c n) true))
+    ifTrue (isData k) (ltb d n) (ifTrue (isFunctionLabel k) (noFunction f c n) (ifEq k placeLabel (leb c n) true))
 
 -- 35 of the rows, then of the labels
 unfoldable pub rowsBroken : Tables → Broken

@@ -1,5 +1,9 @@
 // Start: refusals 35 and 20 to 23, and the first frame.
 use base_limits::Machine;
+use lang_kinds::Kind;
+use prog_tables::LabelKind;
+use prog_tables::LabelRow;
+use prog_tables::Table;
 use vm_definitions::Broken;
 use vm_definitions::Opening;
 use vm_definitions::Started;
@@ -36,20 +40,20 @@ fn broken_row(t: &[u32], c: u32, d: u32) -> Broken
 fn is_data(k: u32) -> bool
     ensures { λ r. ⌜ r ≡ isData k ⌝ }
 {
-    if k == 1 {
+    if k == LabelKind::DATA {
         return true;
     }
-    k == 2
+    k == LabelKind::EXPORTED_DATA
 }
 
 // Whether a label kind is that of a function.
 fn is_function_label(k: u32) -> bool
     ensures { λ r. ⌜ r ≡ isFunctionLabel k ⌝ }
 {
-    if k == 3 {
+    if k == LabelKind::FUNCTION {
         return true;
     }
-    k == 4
+    k == LabelKind::EXPORTED_FUNCTION
 }
 
 // Whether a row is no `function` row of c rows.
@@ -57,7 +61,7 @@ fn is_no_function(t: &[u32], c: u32, n: u32) -> bool
     ensures { λ r. ⌜ r ≡ noFunction (rowAt (now (t .entry))) c n ⌝ }
 {
     if n < c {
-        return prog_tables::kind_at(t, n) != 1;
+        return prog_tables::kind_at(t, n) != Kind::FUNCTION;
     }
     true
 }
@@ -72,7 +76,7 @@ fn aim_fault(t: &[u32], c: u32, d: u32, k: u32, n: u32) -> bool
     if is_function_label(k) {
         return is_no_function(t, c, n);
     }
-    if k == 5 {
+    if k == LabelKind::PLACE {
         return c <= n;
     }
     true
@@ -82,8 +86,8 @@ fn aim_fault(t: &[u32], c: u32, d: u32, k: u32, n: u32) -> bool
 fn label_fault(t: &[u32], c: u32, d: u32, l: &[u32], names: &[u8], i: u32) -> bool
     ensures { λ r. ⌜ r ≡ labelFault (rowAt (now (t .entry))) c d (labelAt (now (l .entry)) (now (names .entry)) i) ⌝ }
 {
-    let at = i as usize * 4;
-    let size = prog_tables::word_at(l, at + 3);
+    let at = i as usize * Table::LABEL_ROW;
+    let size = prog_tables::word_at(l, at + LabelRow::SIZE);
     if 64 < size {
         return true;
     }
@@ -92,7 +96,7 @@ fn label_fault(t: &[u32], c: u32, d: u32, l: &[u32], names: &[u8], i: u32) -> bo
         c,
         d,
         prog_tables::word_at(l, at),
-        prog_tables::word_at(l, at + 1),
+        prog_tables::word_at(l, at + LabelRow::NUMBER),
     )
 }
 
@@ -161,10 +165,10 @@ fn is_named(names: &[u8], at: usize, n: usize, name: &[u8]) -> bool
 fn is_exported(l: &[u32], names: &[u8], name: &[u8], i: u32) -> bool
     ensures { λ r. ⌜ r ≡ exportsAs (labelTables (now (l .entry)) 0 (now (names .entry))) (now (name .entry)) i ⌝ }
 {
-    let at = i as usize * 4;
+    let at = i as usize * Table::LABEL_ROW;
     let k = prog_tables::word_at(l, at);
-    if k == 4 {
-        let size = prog_tables::word_at(l, at + 3);
+    if k == LabelKind::EXPORTED_FUNCTION {
+        let size = prog_tables::word_at(l, at + LabelRow::SIZE);
         return is_named(names, i as usize * 64, size as usize, name);
     }
     false
@@ -299,7 +303,7 @@ fn begin(
 {
     let e = find_export(l, k, names, name);
     if e < k {
-        let g = prog_tables::word_at(l, e as usize * 4 + 1);
+        let g = prog_tables::word_at(l, e as usize * Table::LABEL_ROW + LabelRow::NUMBER);
         return enter(t, g, d, bytes, args, machine, st, m);
     }
     Opening {

@@ -1,5 +1,7 @@
 // Statements: one function for each form, and the statement that a record stands at.
 use base_limits::Machine;
+use lang_kinds::Kind;
+use prog_tables::ExpressionKind;
 use vm_definitions::Outcome;
 use vm_definitions::Read;
 use vm_definitions::Worked;
@@ -104,7 +106,7 @@ fn set_local(t: &[u32], c: u32, r: Machine, st: &mut [u32], m: &[u8]) -> Outcome
 {
     let n = r.next;
     let e = prog_tables::expression_at(t, n);
-    if e == 2 {
+    if e == ExpressionKind::CALL {
         return vm_calls::call(t, c, r, st, m);
     }
     assign(t, c, r, st, m)
@@ -147,7 +149,7 @@ fn set_at(t: &[u32], c: u32, r: Machine, st: &mut [u32], m: &mut [u8]) -> Outcom
 {
     let n = r.next;
     let e = prog_tables::expression_at(t, n);
-    if e == 2 {
+    if e == ExpressionKind::CALL {
         return vm_calls::call_at(t, c, r, st, m);
     }
     assign_at(t, c, r, st, m)
@@ -251,10 +253,10 @@ fn give_back(t: &[u32], c: u32, r: Machine, st: &mut [u32], m: &mut [u8]) -> Out
 {
     let n = r.next;
     let e = prog_tables::expression_at(t, n);
-    if e == 2 {
+    if e == ExpressionKind::CALL {
         return vm_calls::call(t, c, r, st, m);
     }
-    if e == 0 {
+    if e == ExpressionKind::NONE {
         return vm_calls::hand_back(t, c, r, 0, st, m);
     }
     return_value(t, c, r, st, m)
@@ -290,18 +292,18 @@ pub fn execute(t: &[u32], c: u32, r: Machine, st: &mut [u32], m: &mut [u8]) -> O
         return run_test(t, c, r, k, st, m);
     }
     match k {
-        2 => vm_calls::hand_back(t, c, r, 0, st, m),
-        3 => enter_block(t, r, st),
-        4 => leave_block(t, r, st),
-        5 => set_local(t, c, r, st, m),
-        6 => set_local(t, c, r, st, m),
-        7 => set_at(t, c, r, st, m),
-        8 => set_byte(t, c, r, st, m),
-        9 => set_word(t, c, r, st, m),
-        11 => vm_calls::call(t, c, r, st, m),
-        12 => vm_calls::tail_call(t, c, r, st, m),
-        13 => give_back(t, c, r, st, m),
-        22 => pass(r),
+        Kind::END_FUNCTION => vm_calls::hand_back(t, c, r, 0, st, m),
+        Kind::BLOCK => enter_block(t, r, st),
+        Kind::END_BLOCK => leave_block(t, r, st),
+        Kind::LET => set_local(t, c, r, st, m),
+        Kind::SET => set_local(t, c, r, st, m),
+        Kind::SET_AT => set_at(t, c, r, st, m),
+        Kind::SET_BYTE => set_byte(t, c, r, st, m),
+        Kind::SET_WORD => set_word(t, c, r, st, m),
+        Kind::CALL => vm_calls::call(t, c, r, st, m),
+        Kind::TAIL_CALL => vm_calls::tail_call(t, c, r, st, m),
+        Kind::RETURN => give_back(t, c, r, st, m),
+        Kind::END_IF => pass(r),
         _ => jump(t, r),
     }
 }
