@@ -1,6 +1,7 @@
 // The lister's page.
 use base_prelude::wide;
 use prog_tables::LabelKind;
+use prog_tables::LabelRow;
 use prog_tables::Table;
 ghost use mathlib.Core.Path.{_≡_};
 ghost use mathlib.Core.List.{[], _∷_, _++_};
@@ -233,8 +234,8 @@ fn put_label(out: &mut [u8], at: usize, table: &[u32], names: &[u8], rows: &[u32
 {
     let row = n as usize * Table::LABEL_ROW;
     let kind = prog_tables::word_at(table, row);
-    let number = prog_tables::word_at(table, row + 1);
-    let size = prog_tables::word_at(table, row + 3);
+    let number = prog_tables::word_at(table, row + LabelRow::NUMBER);
+    let size = prog_tables::word_at(table, row + LabelRow::SIZE);
     let to = put_label_head(out, at, name_at(names, n, size));
     put_label_tail(out, to, rows, kind, number)
 }

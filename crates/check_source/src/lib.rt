@@ -19,6 +19,8 @@ ghost use Rattle.res_rows.specs.Rows.{statementTable};
 ghost use Rattle.res_tokens.specs.Begins.{tokenTable};
 ghost use Rattle.res_data.specs.Image.{imageOf};
 ghost use Rattle.res_exports.specs.Exports.{exported};
+ghost use Rattle.prog_tables.specs.Layout.{statementRow};
+ghost use Rattle.base_limits.specs.Limits.{tokenRow};
 ghost use Rattle.check_source.specs.Fits.{Room};
 ghost use Rattle.check_source.specs.Check.{lent, left, refuse, holds, known, accept, roomStage, dataStage, judgeOf, rowStage, tokenStage, checkOf};
 
@@ -140,7 +142,7 @@ fn fill_names(
 }
 
 fn fill_rows(t: &[u32], k: &[u32], y: &[u32], l: u32, z: &[u32], c: u32, statements: &mut [u32])
-    requires { ⌜ (c ≤ 1024) × (c * 27 ≤ length (now statements)) ⌝ }
+    requires { ⌜ (c ≤ 1024) × (c * statementRow ≤ length (now statements)) ⌝ }
     ensures { λ _. ⌜ now (statements .exit) ≡ statementTable (sameNumber (now (t .entry))) (now (t .entry)) (now (k .entry)) (now (y .entry)) l (wordsOf (rowAt (now (k .entry))) c) (now (z .entry)) c (zeros (length (now (statements .entry)))) ⌝ }
 {
     let mut words = [0u32; Machine::STATEMENTS];
@@ -150,7 +152,7 @@ fn fill_rows(t: &[u32], k: &[u32], y: &[u32], l: u32, z: &[u32], c: u32, stateme
 }
 
 fn fill_tokens(t: &[u32; Machine::TOKEN_WORDS], k: &[u32], c: u32, n: u32, tokens: &mut [u32])
-    requires { ⌜ (n ≤ 4096) × (n * 8 ≤ length (now tokens)) ⌝ }
+    requires { ⌜ (n ≤ 4096) × (n * tokenRow ≤ length (now tokens)) ⌝ }
     ensures { λ _. ⌜ now (tokens .exit) ≡ tokenTable (now (t .entry)) (now (k .entry)) c n (zeros (length (now (tokens .entry)))) ⌝ }
 {
     clear_words(tokens);

@@ -16,8 +16,8 @@ span first last = record { lo = first; hi = suc last }
 abbrev pub only : ℕ → Range
 only g = span g g
 
--- The grounds on which a kind may stand: of a statement, then of any line. Groups "hold the other four"; `let` stands in "no `if` inside that
--- frame".
+-- The grounds on which a kind may stand: of a statement, then of any line. `let` stands in "no `if` inside that frame";
+-- groups "hold the other four".
 unfoldable pub statementIn : ℕ → Range
 statementIn k =
     ifEq k kind.function (only ground.functionsSection)

@@ -5,6 +5,7 @@ use mathlib.Core.Bool.{true}
 use mathlib.Core.List.{List}
 use Prim.Native.Nat.{ℕ, _+_, _*_, _≤_, _<_}
 use lib.ListN.{length}
+use Rattle.base_limits.specs.Limits.{tokens, nameBytes, tokenRow}
 use Rattle.lex_spelling.specs.Text.{nameAt}
 use Rattle.lex_lexeme.specs.declared.Lexeme.{Lexeme}
 use Rattle.lex_lexeme.specs.declared.Reading.{Reading}
@@ -12,12 +13,12 @@ use Rattle.lex_lexeme.specs.declared.Reading.the-variants.{End, Lone, Broken, O
 use Rattle.lex_lexeme.specs.Reading.{isNamed}
 
 pub record LexemeFits (s t : List ℕ) (n : ℕ) (x : Lexeme) : Type 0 where
-  pub room : n * 8 + 8 ≤ length t
-  pub few : n < 4096
+  pub room : n * tokenRow + tokenRow ≤ length t
+  pub few : n < tokens
   pub first : x .first < 4294967296
   pub next : x .next < 4294967296
   pub size : x .size < 4294967296
-  pub named : isNamed (x .kind) ≡ true → (x .size ≡ length (nameAt s (x .start))) × (x .size ≤ 64)
+  pub named : isNamed (x .kind) ≡ true → (x .size ≡ length (nameAt s (x .start))) × (x .size ≤ nameBytes)
 
 abbrev pub ReadingFits : List ℕ → List ℕ → ℕ → Reading → Type 0
 ReadingFits s t n End = Unit {0}

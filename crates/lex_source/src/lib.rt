@@ -16,6 +16,7 @@ ghost use Rattle.lex_source.specs.Faults.{rangeFault, lengthFault, limit
 ghost use Rattle.lex_source.specs.Filling.{rowNamed, findName, wordNamed, rowFrom, putRow, turned, fillBy, fillTurn, turnAt};
 ghost use mathlib.Core.List.{[]};
 ghost use Rattle.base_prelude.specs.Lists.{zeros};
+ghost use Rattle.base_limits.specs.Limits.{tokenRow};
 ghost use Rattle.lex_source.specs.Fits.{LexemeFits, ReadingFits};
 ghost use Rattle.lex_source.specs.Lex.{lexOf, tokensFrom, state, answerOf, tableOf};
 
@@ -149,7 +150,7 @@ fn fault_of(s: &[u8], n: usize, r: Reading) -> u64
 
 // Whether the token of row k has the name that starts at a place.
 fn row_named(s: &[u8], t: &[u32], k: usize, hash: u32, start: usize) -> bool
-    requires { ⌜ k * 8 + 8 ≤ length (now t) ⌝ }
+    requires { ⌜ k * tokenRow + tokenRow ≤ length (now t) ⌝ }
     ensures { λ r. ⌜ r ≡ rowNamed (now (s .entry)) (now (t .entry)) k hash start ⌝ }
 {
     if t[k * Machine::TOKEN_ROW + TokenRow::HASH] == hash {
@@ -168,7 +169,7 @@ fn row_named(s: &[u8], t: &[u32], k: usize, hash: u32, start: usize) -> bool
 
 // The first of n rows with the name that starts at a place.
 fn find_name(s: &[u8], t: &[u32], n: usize, hash: u32, start: usize) -> usize
-    requires { ⌜ n * 8 ≤ length (now t) ⌝ }
+    requires { ⌜ n * tokenRow ≤ length (now t) ⌝ }
     ensures { λ r. ⌜ r ≡ findName (now (s .entry)) (now (t .entry)) n hash start ⌝ }
 {
     let mut k: usize = 0;
@@ -236,7 +237,7 @@ fn row_from(w: Width, s: &[u8], t: &[u32], n: usize, x: Lexeme) -> Row
 }
 
 fn put_row(t: &mut [u32], n: usize, r: Row)
-    requires { ⌜ n * 8 + 8 ≤ length (now t) ⌝ }
+    requires { ⌜ n * tokenRow + tokenRow ≤ length (now t) ⌝ }
     ensures { λ _. ⌜ now (t .exit) ≡ putRow (now (t .entry)) n r ⌝ }
 {
     t[n * Machine::TOKEN_ROW] = r.kind;
@@ -299,7 +300,7 @@ fn lex_from(w: Width, s: &[u8], t: &mut [u32]) -> Lexed
                 at = next;
             }
             Turn::Done => {
-                base_prelude::clear_from(t, n * 8);
+                base_prelude::clear_from(t, n * Machine::TOKEN_ROW);
                 return Lexed::Tokens(n);
             }
             Turn::Fault(k) => {

@@ -7,6 +7,7 @@ use lang_words::Word;
 ghost use mathlib.Core.Path.{_≡_};
 ghost use Prim.Native.Nat.{_+_, _*_, _-_, _^_, _≤_, _<_};
 ghost use lib.ListN.{length};
+ghost use Rattle.lang_kinds.specs.TokenRow as field;
 ghost use Rattle.parse_lines.specs.Tokens.{tokenWord, placeAt, keyAt, skip, allFrom};
 ghost use Rattle.parse_lines.specs.Units.{spanFrom, spanOf, unitAt};
 ghost use Rattle.parse_lines.specs.Lines.{sectionKind, endKind, testKind, elseKind, setKind, symbolKind, otherKind, lineKind};
@@ -28,19 +29,19 @@ pub fn token_word(t: &[u32], i: u32, f: usize) -> u32
 }
 
 pub fn kind_at(t: &[u32], i: u32) -> u32
-    ensures { λ r. ⌜ r ≡ tokenWord (now (t .entry)) i 0 ⌝ }
+    ensures { λ r. ⌜ r ≡ tokenWord (now (t .entry)) i field.kind ⌝ }
 {
     token_word(t, i, TokenRow::KIND)
 }
 
 pub fn value_at(t: &[u32], i: u32) -> u32
-    ensures { λ r. ⌜ r ≡ tokenWord (now (t .entry)) i 3 ⌝ }
+    ensures { λ r. ⌜ r ≡ tokenWord (now (t .entry)) i field.value ⌝ }
 {
     token_word(t, i, TokenRow::VALUE)
 }
 
 pub fn word_at(t: &[u32], i: u32) -> u32
-    ensures { λ r. ⌜ r ≡ tokenWord (now (t .entry)) i 5 ⌝ }
+    ensures { λ r. ⌜ r ≡ tokenWord (now (t .entry)) i field.word ⌝ }
 {
     token_word(t, i, TokenRow::WORD)
 }

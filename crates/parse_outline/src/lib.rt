@@ -7,6 +7,7 @@ use lang_kinds::Token;
 use parse_lines::Span;
 use parse_units::Verdict;
 use prog_tables::LabelKind;
+use prog_tables::OutlineLabel;
 ghost use mathlib.Core.Path.{_≡_};
 ghost use Prim.Native.Nat.{_+_, _*_, _-_, _≤_, _<_};
 ghost use lib.ListN.{length};
@@ -67,10 +68,10 @@ fn put_words(x: &mut [u32], c: u32, token: u32, kind: u32, number: u32)
     requires { ⌜ (length (now x) ≡ 1024) × (c < 256) ⌝ }
     ensures { λ _. ⌜ now (x .exit) ≡ putLabel (now (x .entry)) c token kind number ⌝ }
 {
-    let w = c as usize * 4;
+    let w = c as usize * Outline::LABEL_ROW;
     x[w] = token;
-    x[w + 1] = kind;
-    x[w + 2] = number;
+    x[w + OutlineLabel::KIND] = kind;
+    x[w + OutlineLabel::NAMES] = number;
     x[w + 3] = 0;
 }
 

@@ -1,3 +1,4 @@
+pub mod OutlineRow
 pub mod Outline
 pub mod Places
 pub mod Parse

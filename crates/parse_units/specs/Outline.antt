@@ -7,6 +7,7 @@ use Rattle.base_prelude.specs.Choice.{ifEq, ifTrue}
 use Rattle.lang_kinds.specs.Kinds as kind
 use Rattle.lang_kinds.specs.Nesting.{enters, leaves, isFrame}
 use Rattle.parse_lines.specs.Tokens.{tokenWord}
+use Rattle.parse_units.specs.OutlineRow as row
 use Rattle.parse_units.specs.declared.Row.{Row}
 
 -- kind; rows of its function, its innermost frame, and what is open around it; its first token and the one behind its line; the
@@ -14,14 +15,14 @@ use Rattle.parse_units.specs.declared.Row.{Row}
 unfoldable pub rowAt : List ℕ → ℕ → Row
 rowAt t n =
     record {
-      kind = tokenWord t n 0;
-      func = tokenWord t n 1;
-      scope = tokenWord t n 2;
-      up = tokenWord t n 3;
-      token = tokenWord t n 4;
-      next = tokenWord t n 5;
-      before = tokenWord t n 6;
-      operands = tokenWord t n 7;
+      kind = tokenWord t n row.kind;
+      func = tokenWord t n row.func;
+      scope = tokenWord t n row.scope;
+      up = tokenWord t n row.up;
+      token = tokenWord t n row.token;
+      next = tokenWord t n row.next;
+      before = tokenWord t n row.before;
+      operands = tokenWord t n row.operands;
     }
 
 abbrev pub wordsOf : Row → List ℕ

@@ -13,6 +13,7 @@ ghost use mathlib.Core.Bool.{true, false};
 ghost use Rattle.base_prelude.specs.Choice.{ifEq, ifTrue};
 ghost use Rattle.lang_kinds.specs.Nesting.{isFrame, leaves};
 ghost use Rattle.base_prelude.specs.Fault.{none};
+ghost use Rattle.parse_units.specs.OutlineRow.{outlineRowOf};
 ghost use Rattle.parse_units.specs.Outline.{rowAt, putRow, rowIn, behind};
 ghost use Rattle.parse_units.specs.Places.{groundIn, dataWord, statementWord, mayLabel, labelRule, placeRule, roomRule, localsRule, depthRule, lineFaults, limitFaults, unitFault};
 ghost use Rattle.base_prelude.specs.Fault.{leastOf};
@@ -21,6 +22,8 @@ ghost use Rattle.parse_lines.specs.Tokens.{tokenWord};
 ghost use Rattle.parse_lines.specs.Lines.{lineKind};
 ghost use Rattle.parse_shapes.specs.Shapes.{operandCount};
 ghost use Rattle.base_prelude.specs.Lists.{zeros};
+ghost use Rattle.lang_kinds.specs.Kinds as kind;
+ghost use Rattle.lang_words.specs.Numbers as word;
 ghost use Rattle.parse_units.specs.Parse.{world, putState, putKind, growTwo, growBy, localsBehind, depthBehind, sectionBehind, stateBehind, joinState, advance, result, stepped, turnOf, parseFrom, parseOf, begin};
 ghost use Rattle.parse_units.specs.Fits.{StepFits, TurnFits};
 
@@ -35,6 +38,55 @@ impl Outline {
     pub const LABEL_ROW: usize = 4;
 
     pub const LABEL_WORDS: usize = 1024;
+}
+
+// The words of a row of the outline.
+pub struct OutlineRow {}
+
+impl OutlineRow {
+    pub const KIND: usize = 0;
+
+    pub const FUNC: usize = 1;
+
+    pub const SCOPE: usize = 2;
+
+    pub const UP: usize = 3;
+
+    pub const TOKEN: usize = 4;
+
+    pub const NEXT: usize = 5;
+
+    pub const BEFORE: usize = 6;
+
+    pub const OPERANDS: usize = 7;
+}
+
+// Every constant of OutlineRow.
+pub struct OutlineRows {
+    pub kind: usize,
+    pub func: usize,
+    pub scope: usize,
+    pub up: usize,
+    pub token: usize,
+    pub next: usize,
+    pub before: usize,
+    pub operands: usize,
+}
+
+// The constants of OutlineRow are the numbers of specs/OutlineRow.
+pub fn all_outline_words() -> OutlineRows
+    ensures { λ r. ⌜ r ≡ outlineRowOf ⌝ }
+{
+    OutlineRows {
+        kind: OutlineRow::KIND,
+        func: OutlineRow::FUNC,
+        scope: OutlineRow::SCOPE,
+        up: OutlineRow::UP,
+        token: OutlineRow::TOKEN,
+        next: OutlineRow::NEXT,
+        before: OutlineRow::BEFORE,
+        operands: OutlineRow::OPERANDS,
+    }
 }
 
 // A row of the outline.
@@ -76,14 +128,14 @@ fn row_at(rows: &[u32], n: u32) -> Row
     ensures { λ r. ⌜ r ≡ rowAt (now (rows .entry)) n ⌝ }
 {
     Row {
-        kind: parse_lines::token_word(rows, n, 0),
-        func: parse_lines::token_word(rows, n, 1),
-        scope: parse_lines::token_word(rows, n, 2),
-        up: parse_lines::token_word(rows, n, 3),
-        token: parse_lines::token_word(rows, n, 4),
-        next: parse_lines::token_word(rows, n, 5),
-        before: parse_lines::token_word(rows, n, 6),
-        operands: parse_lines::token_word(rows, n, 7),
+        kind: parse_lines::token_word(rows, n, OutlineRow::KIND),
+        func: parse_lines::token_word(rows, n, OutlineRow::FUNC),
+        scope: parse_lines::token_word(rows, n, OutlineRow::SCOPE),
+        up: parse_lines::token_word(rows, n, OutlineRow::UP),
+        token: parse_lines::token_word(rows, n, OutlineRow::TOKEN),
+        next: parse_lines::token_word(rows, n, OutlineRow::NEXT),
+        before: parse_lines::token_word(rows, n, OutlineRow::BEFORE),
+        operands: parse_lines::token_word(rows, n, OutlineRow::OPERANDS),
     }
 }
 
@@ -91,19 +143,19 @@ fn put_row(rows: &mut [u32], n: u32, r: Row)
     requires { ⌜ n * 8 + 8 ≤ length (now rows) ⌝ }
     ensures { λ _. ⌜ now (rows .exit) ≡ putRow (now (rows .entry)) n r ⌝ }
 {
-    let w = n as usize * 8;
+    let w = n as usize * Outline::ROW;
     rows[w] = r.kind;
-    rows[w + 1] = r.func;
-    rows[w + 2] = r.scope;
-    rows[w + 3] = r.up;
-    rows[w + 4] = r.token;
-    rows[w + 5] = r.next;
-    rows[w + 6] = r.before;
-    rows[w + 7] = r.operands;
+    rows[w + OutlineRow::FUNC] = r.func;
+    rows[w + OutlineRow::SCOPE] = r.scope;
+    rows[w + OutlineRow::UP] = r.up;
+    rows[w + OutlineRow::TOKEN] = r.token;
+    rows[w + OutlineRow::NEXT] = r.next;
+    rows[w + OutlineRow::BEFORE] = r.before;
+    rows[w + OutlineRow::OPERANDS] = r.operands;
 }
 
 fn own_or(k: u32, n: u32, other: u32) -> u32
-    ensures { λ r. ⌜ r ≡ ifEq k 1 n other ⌝ }
+    ensures { λ r. ⌜ r ≡ ifEq k kind.function n other ⌝ }
 {
     if k == Kind::FUNCTION {
         return n;
@@ -199,7 +251,7 @@ fn statement_word(w: u32) -> bool
 }
 
 fn function_word(w: u32) -> bool
-    ensures { λ r. ⌜ r ≡ ifEq w 9 true false ⌝ }
+    ensures { λ r. ⌜ r ≡ ifEq w word.function true false ⌝ }
 {
     if w == Word::FUNCTION {
         return true;
@@ -385,7 +437,7 @@ fn grow(m: u32, t: &[u32], rows: &mut [u32], u: Span, k: u32, s: State) -> State
 }
 
 fn locals_behind(k: u32, operands: u32, before: u32, locals: u32) -> u32
-    requires { ⌜ (k ≡ 5 → locals < 64) ⌝ }
+    requires { ⌜ (k ≡ kind.letLocal → locals < 64) ⌝ }
     ensures { λ r. ⌜ r ≡ localsBehind k operands before locals ⌝ }
 {
     if k == Kind::FUNCTION {
@@ -410,7 +462,7 @@ fn less_one(depth: u32) -> u32
 }
 
 fn depth_behind(k: u32, depth: u32) -> u32
-    requires { ⌜ (k ≡ 3 → depth < 16) ⌝ }
+    requires { ⌜ (k ≡ kind.block → depth < 16) ⌝ }
     ensures { λ r. ⌜ r ≡ depthBehind k depth ⌝ }
 {
     if k == Kind::FUNCTION {
@@ -445,7 +497,7 @@ pub fn section_behind(k: u32, section: u32) -> u32
 }
 
 fn state_behind(t: &[u32], n: u32, u: Span, k: u32, o: Row, s: State) -> State
-    requires { ⌜ (u .word ≤ 4097) × (s .labels ≤ 4097) × (k ≡ 5 → s .locals < 64) × (k ≡ 3 → s .depth < 16) ⌝ }
+    requires { ⌜ (u .word ≤ 4097) × (s .labels ≤ 4097) × (k ≡ kind.letLocal → s .locals < 64) × (k ≡ kind.block → s .depth < 16) ⌝ }
     ensures { λ r. ⌜ r ≡ stateBehind (now (t .entry)) n u k o s ⌝ }
 {
     let x = parse_rules::labels_rule(t, n, u, s.labels);

@@ -12,6 +12,9 @@ ghost use Rattle.prog_tables.specs.Tests.{oneOf, some};
 ghost use Rattle.prog_tables.specs.Statement.{usedBy, operandAt, rowAt};
 ghost use Rattle.prog_tables.specs.Nesting.{isListed, hasTarget};
 ghost use Rattle.prog_tables.specs.Faults.{expressionListed, inFunction, sizeAt, operandFault, addressListed, kindFault, targetFault, calleeFault, sizeFault, ownWord, hasWord, wordFault, operandsFault, addressFault, rowFault};
+ghost use Rattle.lang_kinds.specs.Kinds as kind;
+ghost use Rattle.prog_tables.specs.StatementRow as row;
+ghost use Rattle.prog_tables.specs.Layout.{statementRow};
 
 // Whether a kind is listed.
 pub fn is_listed(k: u32) -> bool
@@ -123,7 +126,7 @@ fn kind_fault(t: &[u32], n: u32) -> bool
 
 // Whether a row of this kind has a target.
 fn is_jump(k: u32) -> bool
-    ensures { λ r. ⌜ r ≡ oneOf (hasTarget k) (eqb k 10) ⌝ }
+    ensures { λ r. ⌜ r ≡ oneOf (hasTarget k) (eqb k kind.goto) ⌝ }
 {
     if has_target(k) {
         return true;
@@ -257,7 +260,7 @@ fn operands_at(t: &[u32], n: u32) -> u32
 // Whether the operand in slot i of a row is broken.
 fn slot_fault(t: &[u32], size: u32, d: u32, n: u32, i: u32) -> bool
     requires { ⌜ i < 8 ⌝ }
-    ensures { λ r. ⌜ r ≡ operandFault size d (operandAt (now (t .entry)) (n * 27 + 11 + i * 2)) ⌝ }
+    ensures { λ r. ⌜ r ≡ operandFault size d (operandAt (now (t .entry)) (n * statementRow + row.operands + i * 2)) ⌝ }
 {
     let o = prog_tables::operand_at(
         t,

@@ -7,6 +7,7 @@ use Rattle.base_limits.specs.Limits.{statements, labels, nameBytes}
 use Rattle.lang_words.specs.Numbers as op
 use Rattle.prog_tables.specs.StatementRow as row
 use Rattle.prog_tables.specs.LabelRow as label
+use Rattle.prog_tables.specs.OutlineLabel as outline
 use Rattle.prog_tables.specs.declared.Sizes.{Sizes}
 use Rattle.prog_tables.specs.declared.Numbers.{Numbers}
 
@@ -131,12 +132,17 @@ numbersOf =
       «row_count» = row.count;
       «row_address» = row.address;
       «row_operands» = row.operands;
+      «row_second» = row.second;
+      «row_third» = row.third;
       «row_token» = row.token;
       «row_next» = row.next;
       «label_kind» = label.kind;
       «label_number» = label.number;
       «label_unused» = label.unused;
       «label_size» = label.size;
+      «outline_token» = outline.token;
+      «outline_kind» = outline.kind;
+      «outline_names» = outline.names;
       «no_expression» = noExpression;
       plain = plain;
       «call_expression» = callExpression;

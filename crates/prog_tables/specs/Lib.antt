@@ -1,5 +1,6 @@
 pub mod StatementRow
 pub mod LabelRow
+pub mod OutlineLabel
 pub mod Layout
 pub mod Tests
 pub mod Statement

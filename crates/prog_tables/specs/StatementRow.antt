@@ -44,6 +44,12 @@ address = 9
 abbrev pub operands : ℕ
 operands = 11
 
+abbrev pub second : ℕ
+second = 13
+
+abbrev pub third : ℕ
+third = 15
+
 -- in a skeleton row, in the place of the address: the statement's first token, and the token behind its line
 abbrev pub token : ℕ
 token = 9

@@ -88,6 +88,10 @@ impl StatementRow {
 
     pub const OPERANDS: usize = 11;
 
+    pub const SECOND: usize = 13;
+
+    pub const THIRD: usize = 15;
+
     // In a skeleton row.
     pub const TOKEN: usize = 9;
 
@@ -105,6 +109,17 @@ impl LabelRow {
     pub const UNUSED: usize = 2;
 
     pub const SIZE: usize = 3;
+}
+
+// The words of a label row of the outline.
+pub struct OutlineLabel {}
+
+impl OutlineLabel {
+    pub const TOKEN: usize = 0;
+
+    pub const KIND: usize = 1;
+
+    pub const NAMES: usize = 2;
 }
 
 // Expression kinds: none, one operand alone, a call; an operator has its number among the words.
@@ -170,12 +185,17 @@ pub struct Numbers {
     pub row_count: usize,
     pub row_address: usize,
     pub row_operands: usize,
+    pub row_second: usize,
+    pub row_third: usize,
     pub row_token: usize,
     pub row_next: usize,
     pub label_kind: usize,
     pub label_number: usize,
     pub label_unused: usize,
     pub label_size: usize,
+    pub outline_token: usize,
+    pub outline_kind: usize,
+    pub outline_names: usize,
     pub no_expression: u32,
     pub plain: u32,
     pub call_expression: u32,
@@ -195,7 +215,7 @@ pub struct Numbers {
     pub place_label: u32,
 }
 
-// The constants are the numbers of specs/Layout, specs/StatementRow and specs/LabelRow.
+// The constants are the numbers of specs/Layout, StatementRow, LabelRow and OutlineLabel.
 pub fn all_numbers() -> Numbers
     ensures { λ r. ⌜ r ≡ numbersOf ⌝ }
 {
@@ -212,12 +232,17 @@ pub fn all_numbers() -> Numbers
         row_count: StatementRow::COUNT,
         row_address: StatementRow::ADDRESS,
         row_operands: StatementRow::OPERANDS,
+        row_second: StatementRow::SECOND,
+        row_third: StatementRow::THIRD,
         row_token: StatementRow::TOKEN,
         row_next: StatementRow::NEXT,
         label_kind: LabelRow::KIND,
         label_number: LabelRow::NUMBER,
         label_unused: LabelRow::UNUSED,
         label_size: LabelRow::SIZE,
+        outline_token: OutlineLabel::TOKEN,
+        outline_kind: OutlineLabel::KIND,
+        outline_names: OutlineLabel::NAMES,
         no_expression: ExpressionKind::NONE,
         plain: ExpressionKind::PLAIN,
         call_expression: ExpressionKind::CALL,

@@ -7,12 +7,13 @@ use Rattle.base_prelude.specs.Choice.{ifEq}
 use Rattle.base_prelude.specs.Lists.{overlay}
 use Rattle.base_limits.specs.declared.Width.{Width}
 use Rattle.lang_kinds.specs.TokenRow as field
+use Rattle.prog_tables.specs.OutlineLabel as outline
 use Rattle.prog_tables.specs.Layout.{labelRow, dataLabel, exportedData, functionLabel, exportedFunction}
 use Rattle.lex_spelling.specs.Text.{nameAt}
 use Rattle.parse_lines.specs.Tokens.{tokenWord, valueAt}
 use Rattle.res_data.specs.Sizes.{addressOf}
 
--- word f of label row j of the outline: 0 its token, 1 its kind, 2 what it names
+-- word f of label row j of the outline
 unfoldable pub outlineWord : List ℕ → ℕ → ℕ → ℕ
 outlineWord y j f = getD y (j * labelRow + f) 0
 
@@ -34,10 +35,10 @@ finalNumber w t kind number = ifEq kind dataLabel (addressOf w t number) (number
 -- the row of label j: kind, number, 0, bytes of the name
 unfoldable pub labelWords : Width → List ℕ → List ℕ → List ℕ → ℕ → List ℕ
 labelWords w t y flags j =
-    finalKind (outlineWord y j 1) (flagAt flags j)
-    ∷ finalNumber w t (outlineWord y j 1) (outlineWord y j 2)
+    finalKind (outlineWord y j outline.kind) (flagAt flags j)
+    ∷ finalNumber w t (outlineWord y j outline.kind) (outlineWord y j outline.names)
     ∷ 0
-    ∷ valueAt t (outlineWord y j 0)
+    ∷ valueAt t (outlineWord y j outline.token)
     ∷ []
 
 -- words as row j of the label table
@@ -55,7 +56,7 @@ labelTable w t y flags l out = labelsFrom l w t y flags 0 out
 
 -- the decoded name of label j
 unfoldable pub labelName : List ℕ → List ℕ → List ℕ → ℕ → List ℕ
-labelName s t y j = nameAt s (tokenWord t (outlineWord y j 0) field.first)
+labelName s t y j = nameAt s (tokenWord t (outlineWord y j outline.token) field.first)
 
 -- bytes over the front of the 64 bytes of row j
 unfoldable pub putName : List ℕ → ℕ → List ℕ → List ℕ

@@ -3,6 +3,7 @@ use base_limits::Width;
 use lang_kinds::TokenRow;
 use prog_tables::LabelKind;
 use prog_tables::LabelRow;
+use prog_tables::OutlineLabel;
 use prog_tables::Table;
 ghost use mathlib.Core.Path.{_≡_};
 ghost use mathlib.Core.List.{[], _∷_};
@@ -75,9 +76,9 @@ fn write_row(w: Width, t: &[u32], y: &[u32], flags: &[u32], j: u32, out: &mut [u
     requires { ⌜ (length (now t) ≡ 32768) × (j * 4 + 4 ≤ length (now out)) ⌝ }
     ensures { λ _. ⌜ now (out .exit) ≡ putWords (now (out .entry)) j (labelWords w (now (t .entry)) (now (y .entry)) (now (flags .entry)) j) ⌝ }
 {
-    let kind = outline_word(y, j, 1);
-    let number = final_number(w, t, kind, outline_word(y, j, 2));
-    let size = parse_lines::value_at(t, outline_word(y, j, 0));
+    let kind = outline_word(y, j, OutlineLabel::KIND);
+    let number = final_number(w, t, kind, outline_word(y, j, OutlineLabel::NAMES));
+    let size = parse_lines::value_at(t, outline_word(y, j, OutlineLabel::TOKEN));
     put_words(out, j, final_kind(kind, flag_at(flags, j)), number, size);
 }
 
@@ -96,7 +97,11 @@ fn write_name(s: &[u8], t: &[u32], y: &[u32], j: u32, names: &mut [u8])
     requires { ⌜ j * 64 + 64 ≤ length (now names) ⌝ }
     ensures { λ _. ⌜ now (names .exit) ≡ putName (now (names .entry)) j (labelName (now (s .entry)) (now (t .entry)) (now (y .entry)) j) ⌝ }
 {
-    let first = parse_lines::token_word(t, outline_word(y, j, 0), TokenRow::FIRST);
+    let first = parse_lines::token_word(
+        t,
+        outline_word(y, j, OutlineLabel::TOKEN),
+        TokenRow::FIRST,
+    );
     let from = j as usize * 64;
     let end = from + 64;
     lex_spelling::copy_text(false, s, first as usize, &mut names[from..end]);

@@ -13,6 +13,7 @@ ghost use Prim.Native.Nat.{_+_, _-_, _*_, _≤_, _<_, min};
 ghost use lib.ListN.{length};
 ghost use Rattle.prog_tables.specs.Statement.{operandKind, operandNumber, slotWords};
 ghost use Rattle.res_scope.specs.Names.{sameNumber};
+ghost use Rattle.prog_tables.specs.Layout.{statementRow};
 ghost use Rattle.res_rows.specs.Rows.{labelNumber, wordOfLet, wordOfParameter, localWord, labelTarget, plainOperand, atOperand, constantOperand, tokenOperand, addressConstant, addressOperand, operandsFrom, slotOperand, operandWords, aOf, bOf, calleeOf, addressOf, rowWith, rowOf, headOf, headWords, putWords, putRow, statementTable};
 
 // Words 0 to 10 of a row.
@@ -419,7 +420,7 @@ fn put_parts(
     p: Parts,
     out: &mut [u32],
 )
-    requires { ⌜ (first ≤ 4097) × (r * 27 + 27 ≤ length (now out)) ⌝ }
+    requires { ⌜ (first ≤ 4097) × (r * statementRow + statementRow ≤ length (now out)) ⌝ }
     ensures { λ _. ⌜ now (out .exit) ≡ putRow (now (out .entry)) r (rowWith (sameNumber (now (t .entry))) (now (t .entry)) (now (k .entry)) (now (y .entry)) l (now (w .entry)) (now (z .entry)) c r kind first next p) ⌝ }
 {
     let at = r as usize * Table::STATEMENT_ROW;
@@ -452,7 +453,7 @@ fn write_row(
     r: u32,
     out: &mut [u32],
 )
-    requires { ⌜ r * 27 + 27 ≤ length (now out) ⌝ }
+    requires { ⌜ r * statementRow + statementRow ≤ length (now out) ⌝ }
     ensures { λ _. ⌜ now (out .exit) ≡ putRow (now (out .entry)) r (rowOf (sameNumber (now (t .entry))) (now (t .entry)) (now (k .entry)) (now (y .entry)) l (now (w .entry)) (now (z .entry)) c r) ⌝ }
 {
     let kind = prog_tables::kind_at(k, r);
@@ -473,7 +474,7 @@ pub fn write_rows(
     c: u32,
     out: &mut [u32],
 )
-    requires { ⌜ (c ≤ 1024) × (c * 27 ≤ length (now out)) ⌝ }
+    requires { ⌜ (c ≤ 1024) × (c * statementRow ≤ length (now out)) ⌝ }
     ensures { λ _. ⌜ now (out .exit) ≡ statementTable (sameNumber (now (t .entry))) (now (t .entry)) (now (k .entry)) (now (y .entry)) l (now (w .entry)) (now (z .entry)) c (now (out .entry)) ⌝ }
 {
     let mut r: u32 = 0;

@@ -4,6 +4,7 @@ use Prim.Native.Nat.{ℕ, _+_, _*_, _-_, min}
 use mathlib.Core.List.{List}
 use lib.ListN.{getD}
 use Rattle.prog_tables.specs.StatementRow as row
+use Rattle.prog_tables.specs.OutlineLabel as outline
 use Rattle.prog_tables.specs.Layout.{statementRow, labelRow}
 
 -- the magic word's token of statement n, and the token behind its line; no token has a number above 4,096
@@ -18,12 +19,12 @@ unfoldable pub labelToken : List ℕ → ℕ → ℕ
 labelToken y j = getD y (j * labelRow) 0
 
 unfoldable pub labelKind : List ℕ → ℕ → ℕ
-labelKind y j = getD y (j * labelRow + 1) 0
+labelKind y j = getD y (j * labelRow + outline.kind) 0
 
 -- in data the token of the magic word
 unfoldable pub labelWord : List ℕ → ℕ → ℕ
-labelWord y j = getD y (j * labelRow + 2) 0
+labelWord y j = getD y (j * labelRow + outline.names) 0
 
 -- else the statement
 unfoldable pub labelStatement : List ℕ → ℕ → ℕ
-labelStatement y j = getD y (j * labelRow + 2) 0 - 1
+labelStatement y j = getD y (j * labelRow + outline.names) 0 - 1

@@ -4,6 +4,7 @@ use lang_kinds::Token;
 use lang_kinds::TokenRow;
 use lang_words::Word;
 use prog_tables::ExpressionKind;
+use prog_tables::OutlineLabel;
 use prog_tables::StatementRow;
 use prog_tables::Table;
 ghost use mathlib.Core.Path.{_≡_};
@@ -60,14 +61,14 @@ pub fn label_token(y: &[u32], j: u32) -> u32
 pub fn label_kind(y: &[u32], j: u32) -> u32
     ensures { λ r. ⌜ r ≡ labelKind (now (y .entry)) j ⌝ }
 {
-    prog_tables::word_at(y, j as usize * Table::LABEL_ROW + 1)
+    prog_tables::word_at(y, j as usize * Table::LABEL_ROW + OutlineLabel::KIND)
 }
 
 // The token of the magic word that a label of data names.
 pub fn label_word(y: &[u32], j: u32) -> u32
     ensures { λ r. ⌜ r ≡ labelWord (now (y .entry)) j ⌝ }
 {
-    prog_tables::word_at(y, j as usize * Table::LABEL_ROW + 2)
+    prog_tables::word_at(y, j as usize * Table::LABEL_ROW + OutlineLabel::NAMES)
 }
 
 fn less_one(n: u32) -> u32
@@ -83,7 +84,7 @@ fn less_one(n: u32) -> u32
 pub fn label_statement(y: &[u32], j: u32) -> u32
     ensures { λ r. ⌜ r ≡ labelStatement (now (y .entry)) j ⌝ }
 {
-    less_one(prog_tables::word_at(y, j as usize * Table::LABEL_ROW + 2))
+    less_one(prog_tables::word_at(y, j as usize * Table::LABEL_ROW + OutlineLabel::NAMES))
 }
 
 fn has_name(t: &[u32], i: u32) -> bool

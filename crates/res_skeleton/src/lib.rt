@@ -1,5 +1,6 @@
 // The skeleton of the statement table: what nesting alone gives each row, and the tokens of its line.
 use lang_kinds::Kind;
+use parse_units::OutlineRow;
 use prog_tables::StatementRow;
 use prog_tables::Table;
 ghost use mathlib.Core.Path.{_≡_};
@@ -40,15 +41,15 @@ fn parameters_of(kind: u32, operands: u32) -> u32
 fn bare_row(x: &[u32], n: u32) -> SkeletonRow
     ensures { λ r. ⌜ r ≡ bare (rowAt (now (x .entry)) n) ⌝ }
 {
-    let kind = parse_lines::token_word(x, n, 0);
+    let kind = parse_lines::token_word(x, n, OutlineRow::KIND);
     SkeletonRow {
         kind: kind,
-        func: less_one(parse_lines::token_word(x, n, 1)),
-        scope: less_one(parse_lines::token_word(x, n, 2)),
-        up: parse_lines::token_word(x, n, 3),
-        b: parameters_of(kind, parse_lines::token_word(x, n, 7)),
-        token: parse_lines::token_word(x, n, 4),
-        next: parse_lines::token_word(x, n, 5),
+        func: less_one(parse_lines::token_word(x, n, OutlineRow::FUNC)),
+        scope: less_one(parse_lines::token_word(x, n, OutlineRow::SCOPE)),
+        up: parse_lines::token_word(x, n, OutlineRow::UP),
+        b: parameters_of(kind, parse_lines::token_word(x, n, OutlineRow::OPERANDS)),
+        token: parse_lines::token_word(x, n, OutlineRow::TOKEN),
+        next: parse_lines::token_word(x, n, OutlineRow::NEXT),
     }
 }
 

@@ -4,6 +4,7 @@ use lang_kinds::TokenRow;
 ghost use mathlib.Core.Path.{_≡_};
 ghost use Prim.Native.Nat.{_*_, _≤_, _<_};
 ghost use lib.ListN.{length};
+ghost use Rattle.base_limits.specs.Limits.{tokenRow};
 ghost use Rattle.res_tokens.specs.Begins.{copied, beginPut, beginsBelow, tokenTable};
 
 fn copy_words(t: &[u32], m: usize, out: &mut [u32])
@@ -18,7 +19,7 @@ fn copy_words(t: &[u32], m: usize, out: &mut [u32])
 }
 
 fn put_begin(k: &[u32], n: u32, r: u32, out: &mut [u32])
-    requires { ⌜ (n * 8 ≤ length (now out)) × (r < 4294967295) ⌝ }
+    requires { ⌜ (n * tokenRow ≤ length (now out)) × (r < 4294967295) ⌝ }
     ensures { λ _. ⌜ now (out .exit) ≡ beginPut (now (k .entry)) n r (now (out .entry)) ⌝ }
 {
     let i = res_scope::first_token(k, r);
@@ -28,7 +29,7 @@ fn put_begin(k: &[u32], n: u32, r: u32, out: &mut [u32])
 }
 
 fn put_begins(k: &[u32], c: u32, n: u32, out: &mut [u32])
-    requires { ⌜ n * 8 ≤ length (now out) ⌝ }
+    requires { ⌜ n * tokenRow ≤ length (now out) ⌝ }
     ensures { λ _. ⌜ now (out .exit) ≡ beginsBelow c (now (k .entry)) n (now (out .entry)) ⌝ }
 {
     let mut r: u32 = 0;
@@ -40,7 +41,7 @@ fn put_begins(k: &[u32], c: u32, n: u32, out: &mut [u32])
 
 // The rows of n tokens, and the c statements that they begin.
 pub fn write_tokens(t: &[u32], k: &[u32], c: u32, n: u32, out: &mut [u32])
-    requires { ⌜ (n * 8 ≤ length (now out)) × (n ≤ 4096) × (length (now t) ≡ 32768) ⌝ }
+    requires { ⌜ (n * tokenRow ≤ length (now out)) × (n ≤ 4096) × (length (now t) ≡ 32768) ⌝ }
     ensures { λ _. ⌜ now (out .exit) ≡ tokenTable (now (t .entry)) (now (k .entry)) c n (now (out .entry)) ⌝ }
 {
     copy_words(t, n as usize * Machine::TOKEN_ROW, out);

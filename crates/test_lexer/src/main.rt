@@ -1,5 +1,7 @@
 // Runs the lexer on the cases of standard input and prints those that differ.
 use base_limits::Machine;
+use lang_kinds::Token;
+use lang_kinds::TokenRow;
 use lex_source::Lexed;
 use test_lines::Case;
 use test_lines::add_source;
@@ -113,50 +115,70 @@ fn read_width(l: &[u8], mut q: State) -> State {
 
 fn kind_of(l: &[u8]) -> u32 {
     if starts_with(l, b"newline ") {
-        return 1;
+        return Token::NEWLINE;
     }
     if starts_with(l, b"label ") {
-        return 2;
+        return Token::LABEL;
     }
     if starts_with(l, b"symbol ") {
-        return 3;
+        return Token::SYMBOL;
     }
     if starts_with(l, b"substitute ") {
-        return 4;
+        return Token::SUBSTITUTE;
     }
     if starts_with(l, b"@symbol ") {
-        return 5;
+        return Token::AT_SYMBOL;
     }
     if starts_with(l, b"@substitute ") {
-        return 6;
+        return Token::AT_SUBSTITUTE;
     }
     if starts_with(l, b"integer ") {
-        return 7;
+        return Token::INTEGER;
     }
     if starts_with(l, b"@integer ") {
-        return 8;
+        return Token::AT_INTEGER;
     }
     if starts_with(l, b"string ") {
-        return 9;
+        return Token::STRING;
     }
-    0
+    Token::SOURCE_END
 }
 
 // An expected row from the fields of a line.
 fn put_fields(l: &[u8], kind: u32, want: &mut Table, row: usize)
     requires { ⌜ row < 4096 ⌝ }
 {
-    put_word(want, row * 8, kind);
-    put_word(want, row * 8 + 1, narrow(field(l, 2)));
-    put_word(want, row * 8 + 2, narrow(field(l, 3)));
-    put_word(want, row * 8 + 3, narrow(field(l, 4)));
-    put_word(want, row * 8 + 4, narrow(field(l, 5)));
-    put_word(want, row * 8 + 5, narrow(field(l, 6)));
+    put_word(want, row * Machine::TOKEN_ROW, kind);
+    put_word(
+        want,
+        row * Machine::TOKEN_ROW + TokenRow::FIRST,
+        narrow(field(l, 2)),
+    );
+    put_word(
+        want,
+        row * Machine::TOKEN_ROW + TokenRow::NEXT,
+        narrow(field(l, 3)),
+    );
+    put_word(
+        want,
+        row * Machine::TOKEN_ROW + TokenRow::VALUE,
+        narrow(field(l, 4)),
+    );
+    put_word(
+        want,
+        row * Machine::TOKEN_ROW + TokenRow::NAME,
+        narrow(field(l, 5)),
+    );
+    put_word(
+        want,
+        row * Machine::TOKEN_ROW + TokenRow::WORD,
+        narrow(field(l, 6)),
+    );
 }
 
 fn read_token(l: &[u8], mut q: State, want: &mut Table) -> State {
     let kind = kind_of(&l[field_start(l, 1)..]);
-    if kind == 0 {
+    if kind == Token::SOURCE_END {
         return bad_line(q);
     }
     let row = q.rows;

@@ -10,6 +10,7 @@ use Rattle.base_prelude.specs.Fault.{key, leastOf}
 use Rattle.base_prelude.specs.Lists.{sameList}
 use Rattle.base_prelude.specs.Walk.{walk}
 use Rattle.base_limits.specs.declared.Width.the-variants.{Bits32}
+use Rattle.lang_kinds.specs.Tokens as token
 use Rattle.lang_words.specs.Words as vocabulary
 use Rattle.lang_words.specs.Words.{words, firstOf, entryNamed, numberOf}
 use Rattle.lang_words.specs.Substitutes.{substituteOf}
@@ -32,8 +33,8 @@ text-two = refl
 -- a habit to rule out, "a backslash at a comment's end joining lines": `#\`, byte 10, `x` are a newline and a symbol
 pub comment-joins-nothing : lexOf Bits32 (35 ∷ 92 ∷ 10 ∷ 120 ∷ [])
     ≡ accepted (
-    record { kind = 1; first = 2; next = 3; value = 0; text = []; name = 0; word = 0 }
-    ∷ record { kind = 3; first = 3; next = 4; value = 1; text = 120 ∷ []; name = 1; word = 0 }
+    record { kind = token.newline; first = 2; next = 3; value = 0; text = []; name = 0; word = 0 }
+    ∷ record { kind = token.symbol; first = 3; next = 4; value = 1; text = 120 ∷ []; name = 1; word = 0 }
     ∷ []
     )
 unfolding ifLt ifEq ifTrue byteAt key leastOf sameList walk words firstOf entryNamed numberOf substituteOf sectionOf knownOf isBlank isDigit isLetter isNameByte isSeparator blankStep blanksEnd isJoint joinStep joined hexOf plainOf badPlace plainAt hexAt escapeAt inString inSymbol escaped rawAt characterFrom characterAt spellMore spelledWithin spelledAt nameAt stringAt mix hashFrom measured commentStep commentEnd gapSkip gapStep gapEnd startsSymbol startsInteger symbolTo symbolEnd symbolBy symbolAt stringTo stringEnd stringBy stringRead plainRead readAt nextRead isNamed textOf isSubstitute wordOf valueOf hasName firstFrom nameNumber tokenOf loneRule escapeRule openRule rangeFault lengthFault limitFault followFault rangeRule lengthRule limitRule followRule faultsOf faultOf lexOf tokenStep turnOf lexStep tokensFrom vocabulary.isNamed

@@ -16,6 +16,7 @@ use Rattle.thm_demand.specs.CaseTwo.{case1-check, CaseTwo}
 use Rattle.thm_demand.proofs.CaseTwo.{case-two}
 use Rattle.thm_orders.specs.Lexing.{text-two}
 use Rattle.base_word.specs.Word.{addOf, divOf, modOf, bsrOf, asrOf, shlOf}
+use Rattle.lang_kinds.specs.Tokens as token
 
 -- the 32-bit word of -n
 abbrev minus : ℕ → ℕ
@@ -23,7 +24,7 @@ minus n = 2 ^ 32 - n
 
 -- a string token
 abbrev quoted : ℕ → ℕ → List ℕ → Token
-quoted first next text = record { kind = 9; first = first; next = next; value = length text; text = text; name = 0; word = 0 }
+quoted first next text = record { kind = token.string; first = first; next = next; value = length text; text = text; name = 0; word = 0 }
 
 pub record Orders : Type 0 where
   -- "(1) the page above": case 1 of the lister, from the bytes of its source

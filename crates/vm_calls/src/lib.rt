@@ -21,6 +21,8 @@ ghost use Rattle.vm_definitions.specs.Access.{storeFrom};
 ghost use Rattle.vm_definitions.specs.Frames.{returnsTo, callerFrame, topAtEntry, frameWords, leavesGood};
 ghost use Rattle.vm_definitions.specs.Step.{goingOn, movedTo, ended, workedOf};
 ghost use Rattle.vm_definitions.specs.Lent.{world, left};
+ghost use Rattle.prog_tables.specs.StatementRow as row;
+ghost use Rattle.prog_tables.specs.Layout.{statementRow};
 ghost use Rattle.vm_calls.specs.Outcomes.{counted, halted, after, calling, callingWith, atCalling, tailCalling, tailCallingWith, handing, handingTo, slotRead, wordsIn, Expressed, Calls};
 
 // A statement that took effect.
@@ -98,7 +100,7 @@ pub fn stop(r: Machine, k: u32) -> Outcome
 // Operand i of row n.
 pub fn slot_at(t: &[u32], n: u32, i: u32) -> Operand
     requires { ⌜ i < 8 ⌝ }
-    ensures { λ r. ⌜ r ≡ operandAt (now (t .entry)) (n * 27 + 11 + i * 2) ⌝ }
+    ensures { λ r. ⌜ r ≡ operandAt (now (t .entry)) (n * statementRow + row.operands + i * 2) ⌝ }
 {
     prog_tables::operand_at(
         t,
@@ -137,7 +139,7 @@ fn read_slot(t: &[u32], n: u32, i: u32, st: &[u32], s: u32, m: &[u8]) -> Read
 // The first k arguments of row n, left to right.
 fn read_arguments(t: &[u32], n: u32, k: u32, st: &[u32], s: u32, m: &[u8]) -> Arguments
     requires { ⌜ k ≤ 8 ⌝ }
-    ensures { λ a. ⌜ wordsIn (a .good) (a .words) k ≡ readAll Bits32 (now (st .entry)) s (now (m .entry)) (take k (slots (now (t .entry)) (n * 27))) ⌝ }
+    ensures { λ a. ⌜ wordsIn (a .good) (a .words) k ≡ readAll Bits32 (now (st .entry)) s (now (m .entry)) (take k (slots (now (t .entry)) (n * statementRow))) ⌝ }
 {
     let mut words = [0u32; 8];
     let mut i: u32 = 0;

@@ -47,7 +47,10 @@ dispatch k e call back test enter exit assign at byte word tail past jump =
     (ifEq k 8 byte
     (ifEq k 9 word
     (ifEq k 12 tail
-    (ifEq k 22 past jump)))))))))))
+    (ifEq k 22 past
+    (ifEq k 10 jump
+    (ifEq k 20 jump
+    (ifEq k 21 jump jump))))))))))))))
 
 -- an expression's kind, where a row has one
 listed-not : {P : Type 0} (k : ℕ) → (k ≡ 13 → ⊥) → expressionListed k 0 ≡ true → P

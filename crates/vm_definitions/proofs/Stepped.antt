@@ -180,7 +180,13 @@ module _ (w : Width) (t : Tables) (good : WellFormed t) (e : Entry) (es : Ledger
       (λ k. leads-kept _ _ (tail-ledger a k) _ (kept-tail-call w t good e es x i k _) (fine-tail-call w (rows t) (t .count) x _))
       (λ k12. either-eq Leads (row .kind) 22 _ _
       (λ k. leads-stays a b k12 _ (kept-next w t good e es x i (omega (arith, k))) (fine-goes w (rows t) (t .count) x _))
-      (λ k22. leads-jump a b c k3 k4 k5 k6 k7 k8 k9 k12 k22))))))))))))
+      (λ k22. either-eq Leads (row .kind) 10 _ _
+      (λ k. leads-jump a b c k3 k4 k5 k6 k7 k8 k9 k12 k22)
+      (λ k10. either-eq Leads (row .kind) 20 _ _
+      (λ k. leads-jump a b c k3 k4 k5 k6 k7 k8 k9 k12 k22)
+      (λ k20. either-eq Leads (row .kind) 21 _ _
+      (λ k. leads-jump a b c k3 k4 k5 k6 k7 k8 k9 k12 k22)
+      (λ k21. leads-jump a b c k3 k4 k5 k6 k7 k8 k9 k12 k22)))))))))))))))
     where
       no-test : row .kind ≡ 12 → isTest (row .kind) ≡ false
       no-test k = ap isTest k ∙ test-12

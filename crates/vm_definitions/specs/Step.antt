@@ -223,19 +223,37 @@ module _ (w : Width) (f : ℕ → Row) (c : ℕ) (x : World) where
 
   unfoldable pub effectOf : Effect
   effectOf =
+      -- "A call in any form": `call`, and `let`, `set`, `set @` and `return` with one
       ifTrue (isCalling rowOf) callOf
+      -- `end function`, and `return` without a call: "A return hands its value there in the same step"
       (ifTrue (isReturn rowOf) returnOf
+      -- ifeq to ifne: "A true test goes on, a false one to the next test of its `if`, else past the bare `else`, else to
+      -- `end if`"
       (ifTrue (isTest (rowOf .kind)) testOf
+      -- "entering a block zeroes its `let`s"
       (ifEq (rowOf .kind) kind.block blockOf
+      -- "`end block` restores the block's auto top"
       (ifEq (rowOf .kind) kind.endBlock endBlockOf
+      -- a local's word gets the value of an expression
       (ifEq (rowOf .kind) kind.letLocal (assigned workedOf)
       (ifEq (rowOf .kind) kind.set (assigned workedOf)
+      -- the word at an address gets it: "A word access, `@` included, needs a multiple of 4"
       (ifEq (rowOf .kind) kind.setAt setAtOf
+      -- "`set-byte` stores modulo 256", at "base + offset"
       (ifEq (rowOf .kind) kind.setByte (setByteBy argumentsOf)
+      -- at "base + 4 × offset"
       (ifEq (rowOf .kind) kind.setWord (setWordBy argumentsOf)
+      -- "`tail-call` reads all arguments, restores the auto top of entry and builds the new frame at the same start"
       (ifEq (rowOf .kind) kind.tailCall (tailCallBy argumentsOf)
+      -- the run goes on behind it
       (ifEq (rowOf .kind) kind.endIf (goesTo (suc (x .machine .next)))
-      (goesTo (rowOf .a)))))))))))))
+      -- to its label's statement
+      (ifEq (rowOf .kind) kind.goto (goesTo (rowOf .a))
+      -- "Reaching `else` goes to `end if`"; an `else if..` line begins with "a jump to `end if`"
+      (ifEq (rowOf .kind) kind.else (goesTo (rowOf .a))
+      (ifEq (rowOf .kind) kind.elseIf (goesTo (rowOf .a))
+      -- no statement: a `function` row and a kind that is not listed are 35 before this (`stepBroken`)
+      (goesTo (rowOf .a))))))))))))))))
 
 -- ---- a step
 

@@ -11,8 +11,9 @@ ghost use lib.ListN.{length, getD};
 ghost use Rattle.base_limits.specs.declared.Width.the-variants.{Bits32};
 ghost use Rattle.prog_tables.specs.Statement.{rowAt};
 ghost use Rattle.prog_tables.specs.Faults.{sizeAt};
-ghost use Rattle.vm_definitions.specs.Frames.{isFirst, isReturnCall, isReturn, isCalling, calledFrom, headGood, passesOn, leavesGood, rowsLeft, landingOf};
+ghost use Rattle.vm_definitions.specs.Frames.{isFirst, isReturnCall, isReturn, isCalling, calledFrom, headGood, passesOn, leavesGood, rowsLeft, landingOf, returnsTo, callerFrame, topAtEntry};
 ghost use Rattle.vm_definitions.specs.Broken.{lower, lowest, nextBad, frameEnds, rowsUsed, recordGood};
+ghost use Rattle.prog_tables.specs.Layout.{statementRow};
 ghost use Rattle.vm_guard.specs.Framed.{framed, heldSize};
 ghost use Rattle.vm_guard.specs.Gate.{rowBad, withinBroken, marked, callMarked, leftBroken, calleeMarked, functionMarked, shapeGood, keptGood};
 
@@ -61,21 +62,21 @@ pub fn is_calling(t: &[u32], n: u32) -> bool
 
 // The row that the frame at s returns to.
 fn place_at(st: &[u32], s: u32) -> u32
-    ensures { λ r. ⌜ r ≡ getD (now (st .entry)) s 0 ⌝ }
+    ensures { λ r. ⌜ r ≡ returnsTo (now (st .entry)) s ⌝ }
 {
     prog_tables::word_at(st, s as usize)
 }
 
 // The caller's frame.
 fn caller_at(st: &[u32], s: u32) -> u32
-    ensures { λ r. ⌜ r ≡ getD (now (st .entry)) (s + 1) 0 ⌝ }
+    ensures { λ r. ⌜ r ≡ callerFrame (now (st .entry)) s ⌝ }
 {
     prog_tables::word_at(st, s as usize + 1)
 }
 
 // The auto top at entry.
 fn top_at(st: &[u32], s: u32) -> u32
-    ensures { λ r. ⌜ r ≡ getD (now (st .entry)) (s + 2) 0 ⌝ }
+    ensures { λ r. ⌜ r ≡ topAtEntry (now (st .entry)) s ⌝ }
 {
     prog_tables::word_at(st, s as usize + 2)
 }
@@ -96,7 +97,7 @@ fn is_first(st: &[u32], s: u32) -> bool
 
 // Whether the frame at s starts where that of its caller, at row p, ends.
 fn is_behind(t: &[u32], c: u32, st: &[u32], p: u32, s: u32) -> bool
-    ensures { λ r. ⌜ r ≡ eqb (getD (now (st .entry)) (s + 1) 0 + sizeAt (rowAt (now (t .entry))) c p) s ⌝ }
+    ensures { λ r. ⌜ r ≡ eqb (callerFrame (now (st .entry)) s + sizeAt (rowAt (now (t .entry))) c p) s ⌝ }
 {
     let caller = caller_at(st, s) as u64;
     let size = prog_faults::size_at(t, c, p) as u64;
@@ -459,7 +460,7 @@ fn is_framed(t: &[u32], c: u32, m: usize, r: Machine, z: u32, st: &[u32]) -> boo
 
 // The words of the frame in use, where the record stands in a good one; else 0. Statements inside it need no test of the record.
 pub fn held_size(t: &[u32], c: u32, m: usize, r: Machine, st: &[u32]) -> u32
-    requires { ⌜ c * 27 ≤ length (now t) ⌝ }
+    requires { ⌜ c * statementRow ≤ length (now t) ⌝ }
     ensures { λ x. ⌜ x ≡ heldSize (rowAt (now (t .entry))) c m r (now (st .entry)) ⌝ }
 {
     let next = r.next;

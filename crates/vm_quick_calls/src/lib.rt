@@ -12,6 +12,7 @@ ghost use lib.ListN.{length, take};
 ghost use Rattle.prog_tables.specs.Statement.{operandAt, rowAt, slots};
 ghost use Rattle.prog_tables.specs.Faults.{operandFault};
 ghost use Rattle.vm_calls.specs.Outcomes.{wordsIn};
+ghost use Rattle.prog_tables.specs.Layout.{statementRow};
 ghost use Rattle.vm_quick_calls.specs.Turns.{turned, goodFrom, calleeSize, callsLocal, callsAny, callGood, goodAll, pushed, entered, callTurn, tailTurn, resultOf, landed, handTo, handTurn, returnTurn, turnOf};
 
 // What became of a call or a return: the run goes on in another frame, with its words and an auto top; or nothing happened.
@@ -60,7 +61,7 @@ fn are_good(t: &[u32], at: usize, d: u32, size: u32, k: u32) -> bool
 
 // The frame size of function p, where it has k parameters; else 0.
 fn callee_size(t: &[u32], c: u32, p: u32, k: u32) -> u32
-    requires { ⌜ c * 27 ≤ length (now t) ⌝ }
+    requires { ⌜ c * statementRow ≤ length (now t) ⌝ }
     ensures { λ r. ⌜ r ≡ calleeSize (rowAt (now (t .entry))) c p k ⌝ }
 {
     if prog_tables::parameters_at(t, p) == k {
@@ -102,7 +103,7 @@ fn calls_any(t: &[u32], size: u32, n: u32) -> bool
 
 // Whether row p is a call to which a value is handed, with a good callee and good arguments; its frame has this size.
 fn is_call_good(t: &[u32], c: u32, d: u32, size: u32, p: u32) -> bool
-    requires { ⌜ (p < c) × (c * 27 ≤ length (now t)) ⌝ }
+    requires { ⌜ (p < c) × (c * statementRow ≤ length (now t)) ⌝ }
     ensures { λ r. ⌜ r ≡ callGood (now (t .entry)) c d size p ⌝ }
 {
     let k = prog_tables::count_at(t, p);
@@ -194,7 +195,7 @@ fn enter(
     k: u32,
     z: u32,
 ) -> Turn
-    requires { ⌜ (n * 27 + 27 ≤ length (now t)) × (k ≤ 8) × (s + size ≤ length (now st)) × (length (now st) ≤ 16384) × (p < 4294967295) ⌝ }
+    requires { ⌜ (n * statementRow + statementRow ≤ length (now t)) × (k ≤ 8) × (s + size ≤ length (now st)) × (length (now st) ≤ 16384) × (p < 4294967295) ⌝ }
     ensures { λ r. ⌜ turned r (now (st .exit)) ≡ entered (now (t .entry)) d size (now (st .entry)) s (now (m .entry)) n at call below top p k z ⌝ }
 {
     if st.len() < at as usize + z as usize {
@@ -233,7 +234,7 @@ fn call_at(
     below: u32,
     top: u32,
 ) -> Turn
-    requires { ⌜ (n < c) × (c * 27 ≤ length (now t)) × (s + size ≤ length (now st)) × (length (now st) ≤ 16384) ⌝ }
+    requires { ⌜ (n < c) × (c * statementRow ≤ length (now t)) × (s + size ≤ length (now st)) × (length (now st) ≤ 16384) ⌝ }
     ensures { λ r. ⌜ turned r (now (st .exit)) ≡ callTurn (now (t .entry)) c d size (now (st .entry)) s (now (m .entry)) n at call below top ⌝ }
 {
     let k = prog_tables::count_at(t, n);
@@ -253,7 +254,7 @@ fn call_at(
 
 // `tail-call` at row n: the new frame has the head of the frame in use.
 fn tail_call(t: &[u32], c: u32, d: u32, size: u32, st: &mut [u32], s: u32, m: &[u8], n: u32) -> Turn
-    requires { ⌜ (n < c) × (c * 27 ≤ length (now t)) × (s + size ≤ length (now st)) × (length (now st) ≤ 16384) ⌝ }
+    requires { ⌜ (n < c) × (c * statementRow ≤ length (now t)) × (s + size ≤ length (now st)) × (length (now st) ≤ 16384) ⌝ }
     ensures { λ r. ⌜ turned r (now (st .exit)) ≡ tailTurn (now (t .entry)) c d size (now (st .entry)) s (now (m .entry)) n ⌝ }
 {
     let i = s as usize;
@@ -270,7 +271,7 @@ fn tail_call(t: &[u32], c: u32, d: u32, size: u32, st: &mut [u32], s: u32, m: &[
 
 // The value that row n returns.
 fn result(t: &[u32], d: u32, size: u32, st: &[u32], s: u32, m: &[u8], n: u32, top: u32) -> Worked
-    requires { ⌜ (n * 27 + 27 ≤ length (now t)) × (s + size ≤ length (now st)) × (length (now m) ≤ 65536) ⌝ }
+    requires { ⌜ (n * statementRow + statementRow ≤ length (now t)) × (s + size ≤ length (now st)) × (length (now m) ≤ 65536) ⌝ }
     ensures { λ r. ⌜ r ≡ resultOf (now (t .entry)) d size (now (st .entry)) s (now (m .entry)) n top ⌝ }
 {
     let k = prog_tables::kind_at(t, n);
@@ -332,7 +333,7 @@ fn hand_to(
     p: u32,
     z: u32,
 ) -> Turn
-    requires { ⌜ (p < c) × (c < 4294967296) × (c * 27 ≤ length (now t)) ⌝ }
+    requires { ⌜ (p < c) × (c < 4294967296) × (c * statementRow ≤ length (now t)) ⌝ }
     ensures { λ r. ⌜ turned r (now (st .exit)) ≡ handTo (now (t .entry)) c d (now (st .entry)) s m v p z ⌝ }
 {
     let at = s as usize;
@@ -352,7 +353,7 @@ fn hand_to(
 
 // A value handed back from the frame at s to the call behind it.
 fn hand(t: &[u32], c: u32, d: u32, st: &mut [u32], s: u32, m: usize, v: u32) -> Turn
-    requires { ⌜ c * 27 ≤ length (now t) ⌝ }
+    requires { ⌜ c * statementRow ≤ length (now t) ⌝ }
     ensures { λ r. ⌜ turned r (now (st .exit)) ≡ handTurn (now (t .entry)) c d (now (st .entry)) s m v ⌝ }
 {
     let p = prog_tables::word_at(st, s as usize);
@@ -378,7 +379,7 @@ fn give_back(
     n: u32,
     top: u32,
 ) -> Turn
-    requires { ⌜ (n < c) × (c * 27 ≤ length (now t)) × (s + size ≤ length (now st)) × (length (now m) ≤ 65536) ⌝ }
+    requires { ⌜ (n < c) × (c * statementRow ≤ length (now t)) × (s + size ≤ length (now st)) × (length (now m) ≤ 65536) ⌝ }
     ensures { λ r. ⌜ turned r (now (st .exit)) ≡ returnTurn (now (t .entry)) c d size (now (st .entry)) s (now (m .entry)) n top ⌝ }
 {
     let x = result(t, d, size, st, s, m, n, top);
@@ -402,7 +403,7 @@ pub fn take_turn(
     n: u32,
     top: u32,
 ) -> Turn
-    requires { ⌜ (c * 27 ≤ length (now t)) × (s + size ≤ length (now st)) × (length (now st) ≤ 16384) × (length (now m) ≤ 65536) ⌝ }
+    requires { ⌜ (c * statementRow ≤ length (now t)) × (s + size ≤ length (now st)) × (length (now st) ≤ 16384) × (length (now m) ≤ 65536) ⌝ }
     ensures { λ r. ⌜ turned r (now (st .exit)) ≡ turnOf (now (t .entry)) c g d size (now (st .entry)) s used (now (m .entry)) n top ⌝ }
 {
     if c <= n {

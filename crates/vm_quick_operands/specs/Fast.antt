@@ -38,7 +38,7 @@ module _ (t : List ℕ) (at size d : ℕ) (st : List ℕ) (s : ℕ) (m : List �
   unfoldable pub twoRead : ℕ → Worked
   twoRead e =
       onRead (goodRead size d st s m (operandAt t (at + row.operands))) (Stop 32)
-      (λ x. onRead (goodRead size d st s m (operandAt t (at + 13))) (Stop 32) (applied Bits32 m top e x))
+      (λ x. onRead (goodRead size d st s m (operandAt t (at + row.second))) (Stop 32) (applied Bits32 m top e x))
 
   -- by the number of its operands; a call has none here
   unfoldable pub goodWork : Worked

@@ -10,6 +10,7 @@ ghost use mathlib.Core.Path.{_≡_};
 ghost use Prim.Native.Nat.{_+_, _*_, _≤_, _<_};
 ghost use lib.ListN.{length, getD};
 ghost use Rattle.prog_tables.specs.Statement.{operandAt, rowAt};
+ghost use Rattle.prog_tables.specs.Layout.{statementRow};
 ghost use Rattle.vm_quick_operands.specs.Fast.{goodRead, oneRead, twoRead, goodWork, sizeOf};
 
 // A word of a table that has it.
@@ -110,7 +111,7 @@ fn work_two(
     let Read::Got(x) = f else {
         return Worked::Stop(32);
     };
-    let g = read(t, at + 13, d, size, st, s, m);
+    let g = read(t, at + StatementRow::SECOND, d, size, st, s, m);
     let Read::Got(y) = g else {
         return Worked::Stop(32);
     };
@@ -144,7 +145,7 @@ pub fn work(
 
 // The frame size of the good `function` row g of c rows; 0 where it is none.
 pub fn size_of(t: &[u32], c: u32, g: u32) -> u32
-    requires { ⌜ c * 27 ≤ length (now t) ⌝ }
+    requires { ⌜ c * statementRow ≤ length (now t) ⌝ }
     ensures { λ r. ⌜ r ≡ sizeOf (rowAt (now (t .entry))) c g ⌝ }
 {
     if c <= g {

@@ -67,8 +67,8 @@ quickEnd t size st s m n =
 unfoldable pub threeRead : List ℕ → ℕ → ℕ → ℕ → List ℕ → ℕ → List ℕ → Three
 threeRead t at d size st s m =
     onRead (goodRead size d st s m (operandAt t (at + row.operands))) Unread
-    (λ x. onRead (goodRead size d st s m (operandAt t (at + 13))) Unread
-    (λ y. onRead (goodRead size d st s m (operandAt t (at + 15))) Unread (λ z. All x y z)))
+    (λ x. onRead (goodRead size d st s m (operandAt t (at + row.second))) Unread
+    (λ y. onRead (goodRead size d st s m (operandAt t (at + row.third))) Unread (λ z. All x y z)))
 
 -- ---- statements at row n of table t, in the frame at s
 
@@ -126,7 +126,7 @@ module _ (t : List ℕ) (c g d size : ℕ) (st : List ℕ) (s : ℕ) (m : List �
   quickTest k =
       ifTrue (aimed t c g (getD t (n * statementRow + row.a) 0))
       (onRead (goodRead size d st s m (operandAt t (n * statementRow + row.operands))) (taken Stays st m)
-      (λ x. onRead (goodRead size d st s m (operandAt t (n * statementRow + 13))) (taken Stays st m)
+      (λ x. onRead (goodRead size d st s m (operandAt t (n * statementRow + row.second))) (taken Stays st m)
       (λ y. taken (To (ifTrue (holds Bits32 k x y) (suc n) (getD t (n * statementRow + row.a) 0)) top) st m)))
       (taken Stays st m)
 

@@ -13,6 +13,7 @@ ghost use Rattle.base_prelude.specs.Choice.{ifTrue};
 ghost use Rattle.base_limits.specs.declared.Width.the-variants.{Bits32};
 ghost use Rattle.vm_definitions.specs.Access.{storeFrom};
 ghost use Rattle.vm_definitions.specs.Expressions.{holds};
+ghost use Rattle.prog_tables.specs.Layout.{statementRow};
 ghost use Rattle.vm_quick_statements.specs.declared.Move.the-variants.{To};
 ghost use Rattle.vm_quick_statements.specs.Stretch.{taken, stretched, aimed, quickAssign, quickTest, quickJump, quickBlock, quickEnd, threeRead, quickByte, quickWord, storedAt, quickAt, quickForm, quickStep, stretchOf};
 
@@ -31,7 +32,7 @@ pub struct Stretch {
 
 // `let` and `set` of a local, without a call; the head of the frame is not written.
 fn assign(t: &[u32], d: u32, size: u32, st: &mut [u32], s: u32, m: &[u8], n: u32, top: u32) -> Move
-    requires { ⌜ (n < 4294967295) × (n * 27 + 27 ≤ length (now t)) × (s + size ≤ length (now st)) × (length (now m) ≤ 65536) ⌝ }
+    requires { ⌜ (n < 4294967295) × (n * statementRow + statementRow ≤ length (now t)) × (s + size ≤ length (now st)) × (length (now m) ≤ 65536) ⌝ }
     ensures { λ r. ⌜ taken r (now (st .exit)) (now (m .entry)) ≡ quickAssign (now (t .entry)) d size (now (st .entry)) s (now (m .entry)) n top ⌝ }
 {
     let at = n as usize * Table::STATEMENT_ROW;
@@ -57,7 +58,7 @@ fn assign(t: &[u32], d: u32, size: u32, st: &mut [u32], s: u32, m: &[u8], n: u32
 
 // Whether row a is a row of function g.
 fn is_aimed(t: &[u32], c: u32, g: u32, a: u32) -> bool
-    requires { ⌜ c * 27 ≤ length (now t) ⌝ }
+    requires { ⌜ c * statementRow ≤ length (now t) ⌝ }
     ensures { λ r. ⌜ r ≡ aimed (now (t .entry)) c g a ⌝ }
 {
     if a < c {
@@ -95,7 +96,7 @@ fn test(
     top: u32,
     k: u32,
 ) -> Move
-    requires { ⌜ (n < 4294967295) × (n * 27 + 27 ≤ length (now t)) × (s + size ≤ length (now st)) × (c * 27 ≤ length (now t)) ⌝ }
+    requires { ⌜ (n < 4294967295) × (n * statementRow + statementRow ≤ length (now t)) × (s + size ≤ length (now st)) × (c * statementRow ≤ length (now t)) ⌝ }
     ensures { λ r. ⌜ taken r (now (st .entry)) (now (m .entry)) ≡ quickTest (now (t .entry)) c g d size (now (st .entry)) s (now (m .entry)) n top k ⌝ }
 {
     let at = n as usize * Table::STATEMENT_ROW;
@@ -105,7 +106,7 @@ fn test(
         let Read::Got(x) = f else {
             return Move::Stays;
         };
-        let h = vm_quick_operands::read(t, at + 13, d, size, st, s, m);
+        let h = vm_quick_operands::read(t, at + StatementRow::SECOND, d, size, st, s, m);
         let Read::Got(y) = h else {
             return Move::Stays;
         };
@@ -116,7 +117,7 @@ fn test(
 
 // `goto` and `else`.
 fn jump(t: &[u32], c: u32, g: u32, n: u32, top: u32) -> Move
-    requires { ⌜ (n * 27 + 27 ≤ length (now t)) × (c * 27 ≤ length (now t)) ⌝ }
+    requires { ⌜ (n * statementRow + statementRow ≤ length (now t)) × (c * statementRow ≤ length (now t)) ⌝ }
     ensures { λ r. ⌜ r ≡ quickJump (now (t .entry)) c g n top ⌝ }
 {
     let a = vm_quick_operands::peek(t, n as usize * Table::STATEMENT_ROW + StatementRow::A);
@@ -137,7 +138,7 @@ fn open_block(st: &mut [u32], at: usize, top: u32, lets: u32)
 
 // `block`.
 fn enter_block(t: &[u32], size: u32, st: &mut [u32], s: u32, m: &[u8], n: u32, top: u32) -> Move
-    requires { ⌜ (n < 4294967295) × (n * 27 + 27 ≤ length (now t)) ⌝ }
+    requires { ⌜ (n < 4294967295) × (n * statementRow + statementRow ≤ length (now t)) ⌝ }
     ensures { λ r. ⌜ taken r (now (st .exit)) (now (m .entry)) ≡ quickBlock (now (t .entry)) size (now (st .entry)) s (now (m .entry)) n top ⌝ }
 {
     let at = n as usize * Table::STATEMENT_ROW;
@@ -158,7 +159,7 @@ fn enter_block(t: &[u32], size: u32, st: &mut [u32], s: u32, m: &[u8], n: u32, t
 
 // `end block`.
 fn leave_block(t: &[u32], size: u32, st: &[u32], s: u32, m: usize, n: u32) -> Move
-    requires { ⌜ (n < 4294967295) × (n * 27 + 27 ≤ length (now t)) × (s + size ≤ length (now st)) ⌝ }
+    requires { ⌜ (n < 4294967295) × (n * statementRow + statementRow ≤ length (now t)) × (s + size ≤ length (now st)) ⌝ }
     ensures { λ r. ⌜ r ≡ quickEnd (now (t .entry)) size (now (st .entry)) s m n ⌝ }
 {
     let a = vm_quick_operands::peek(t, n as usize * Table::STATEMENT_ROW + StatementRow::A);
@@ -190,11 +191,11 @@ fn read_three(t: &[u32], at: usize, d: u32, size: u32, st: &[u32], s: u32, m: &[
     let Read::Got(base) = f else {
         return Three::Unread;
     };
-    let g = vm_quick_operands::read(t, at + 13, d, size, st, s, m);
+    let g = vm_quick_operands::read(t, at + StatementRow::SECOND, d, size, st, s, m);
     let Read::Got(offset) = g else {
         return Three::Unread;
     };
-    let h = vm_quick_operands::read(t, at + 15, d, size, st, s, m);
+    let h = vm_quick_operands::read(t, at + StatementRow::THIRD, d, size, st, s, m);
     let Read::Got(value) = h else {
         return Three::Unread;
     };
@@ -216,7 +217,7 @@ fn set_byte(
     n: u32,
     top: u32,
 ) -> Move
-    requires { ⌜ (n < 4294967295) × (n * 27 + 27 ≤ length (now t)) × (s + size ≤ length (now st)) ⌝ }
+    requires { ⌜ (n < 4294967295) × (n * statementRow + statementRow ≤ length (now t)) × (s + size ≤ length (now st)) ⌝ }
     ensures { λ r. ⌜ taken r (now (st .entry)) (now (m .exit)) ≡ quickByte (now (t .entry)) d size (now (st .entry)) s (now (m .entry)) n top ⌝ }
 {
     let x = read_three(t, n as usize * Table::STATEMENT_ROW, d, size, st, s, m);
@@ -250,7 +251,7 @@ fn set_word(
     n: u32,
     top: u32,
 ) -> Move
-    requires { ⌜ (n < 4294967295) × (n * 27 + 27 ≤ length (now t)) × (s + size ≤ length (now st)) ⌝ }
+    requires { ⌜ (n < 4294967295) × (n * statementRow + statementRow ≤ length (now t)) × (s + size ≤ length (now st)) ⌝ }
     ensures { λ r. ⌜ taken r (now (st .entry)) (now (m .exit)) ≡ quickWord (now (t .entry)) d size (now (st .entry)) s (now (m .entry)) n top ⌝ }
 {
     let x = read_three(t, n as usize * Table::STATEMENT_ROW, d, size, st, s, m);
@@ -285,7 +286,7 @@ fn store_at(
     top: u32,
     a: u32,
 ) -> Move
-    requires { ⌜ (n < 4294967295) × (n * 27 + 27 ≤ length (now t)) × (s + size ≤ length (now st)) × (length (now m) ≤ 65536) × (a + 4 ≤ length (now m)) ⌝ }
+    requires { ⌜ (n < 4294967295) × (n * statementRow + statementRow ≤ length (now t)) × (s + size ≤ length (now st)) × (length (now m) ≤ 65536) × (a + 4 ≤ length (now m)) ⌝ }
     ensures { λ r. ⌜ taken r (now (st .entry)) (now (m .exit)) ≡ storedAt (now (t .entry)) d size (now (st .entry)) s (now (m .entry)) n top a ⌝ }
 {
     let x = vm_quick_operands::work(t, n as usize * Table::STATEMENT_ROW, d, size, st, s, m, top);
@@ -303,7 +304,7 @@ fn store_at(
 
 // `set @` without a call.
 fn set_at(t: &[u32], d: u32, size: u32, st: &[u32], s: u32, m: &mut [u8], n: u32, top: u32) -> Move
-    requires { ⌜ (n < 4294967295) × (n * 27 + 27 ≤ length (now t)) × (s + size ≤ length (now st)) × (length (now m) ≤ 65536) ⌝ }
+    requires { ⌜ (n < 4294967295) × (n * statementRow + statementRow ≤ length (now t)) × (s + size ≤ length (now st)) × (length (now m) ≤ 65536) ⌝ }
     ensures { λ r. ⌜ taken r (now (st .entry)) (now (m .exit)) ≡ quickAt (now (t .entry)) d size (now (st .entry)) s (now (m .entry)) n top ⌝ }
 {
     let at = n as usize * Table::STATEMENT_ROW;
@@ -334,7 +335,7 @@ fn take_form(
     n: u32,
     top: u32,
 ) -> Move
-    requires { ⌜ (n < c) × (c < 4294967296) × (c * 27 ≤ length (now t)) × (s + size ≤ length (now st)) × (length (now m) ≤ 65536) ⌝ }
+    requires { ⌜ (n < c) × (c < 4294967296) × (c * statementRow ≤ length (now t)) × (s + size ≤ length (now st)) × (length (now m) ≤ 65536) ⌝ }
     ensures { λ r. ⌜ taken r (now (st .exit)) (now (m .exit)) ≡ quickForm (now (t .entry)) c g d size (now (st .entry)) s (now (m .entry)) n top ⌝ }
 {
     let k = vm_quick_operands::peek(t, n as usize * Table::STATEMENT_ROW);
@@ -373,7 +374,7 @@ fn take(
     n: u32,
     top: u32,
 ) -> Move
-    requires { ⌜ (c < 4294967296) × (c * 27 ≤ length (now t)) × (s + size ≤ length (now st)) × (length (now m) ≤ 65536) ⌝ }
+    requires { ⌜ (c < 4294967296) × (c * statementRow ≤ length (now t)) × (s + size ≤ length (now st)) × (length (now m) ≤ 65536) ⌝ }
     ensures { λ r. ⌜ taken r (now (st .exit)) (now (m .exit)) ≡ quickStep (now (t .entry)) c g d size (now (st .entry)) s (now (m .entry)) n top ⌝ }
 {
     if c <= n {
@@ -400,7 +401,7 @@ pub fn run_stretch(
     n: u32,
     top: u32,
 ) -> Stretch
-    requires { ⌜ (c * 27 ≤ length (now t)) × (s + size ≤ length (now st)) × (length (now m) ≤ 65536) ⌝ }
+    requires { ⌜ (c * statementRow ≤ length (now t)) × (s + size ≤ length (now st)) × (length (now m) ≤ 65536) ⌝ }
     ensures { λ r. ⌜ stretched r (now (st .exit)) (now (m .exit)) ≡ stretchOf (now (t .entry)) c g d size s budget (now (st .entry)) (now (m .entry)) n top ⌝ }
 {
     let mut next = n;

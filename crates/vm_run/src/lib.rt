@@ -11,6 +11,7 @@ ghost use Rattle.base_limits.specs.declared.Width.the-variants.{Bits32};
 ghost use Rattle.prog_tables.specs.Statement.{rowAt};
 ghost use Rattle.vm_definitions.specs.Step.{movedTo, stepOf, runOf};
 ghost use Rattle.vm_definitions.specs.Lent.{tablesOf, world, left};
+ghost use Rattle.prog_tables.specs.Layout.{statementRow};
 ghost use Rattle.vm_run.specs.Within.{givenBack, isRunning, takenStep, withinStep, withinRun};
 ghost use Rattle.vm_run.specs.Steps.{usableSize, stretchEnd, heldSteps, someSteps};
 
@@ -61,7 +62,7 @@ fn step_within(t: &[u32], c: u32, d: u32, r: Machine, st: &mut [u32], m: &mut [u
 
 // The words of the frame in use, where the record is running and stands in a good one; else 0.
 fn usable_size(t: &[u32], c: u32, m: usize, q: Machine, st: &[u32]) -> u32
-    requires { ⌜ c * 27 ≤ length (now t) ⌝ }
+    requires { ⌜ c * statementRow ≤ length (now t) ⌝ }
     ensures { λ z. ⌜ z ≡ usableSize (rowAt (now (t .entry))) c m q (now (st .entry)) ⌝ }
 {
     if is_running(q) {
@@ -96,7 +97,7 @@ fn end_stretch(
     st: &mut [u32],
     m: &mut [u8],
 ) -> Outcome
-    requires { ⌜ (c * 27 ≤ length (now t)) × (r .frame + size ≤ length (now st)) × (length (now st) ≤ 16384) × (length (now m) ≤ 65536) × (count < 18446744073709551615) ⌝ }
+    requires { ⌜ (c * statementRow ≤ length (now t)) × (r .frame + size ≤ length (now st)) × (length (now st) ≤ 16384) × (length (now m) ≤ 65536) × (count < 18446744073709551615) ⌝ }
     ensures { λ o. ⌜ left o (now (st .exit)) (now (m .exit)) ≡ stretchEnd (now (t .entry)) c d g size count (world r (now (st .entry)) (now (m .entry))) ⌝ }
 {
     let y = vm_quick_calls::take_turn(t, c, g, d, size, st, r.frame, r.used, m, r.next, r.top);
@@ -135,7 +136,7 @@ fn advance_held(
     st: &mut [u32],
     m: &mut [u8],
 ) -> Outcome
-    requires { ⌜ (c * 27 ≤ length (now t)) × (r .frame + size ≤ length (now st)) × (length (now st) ≤ 16384) × (length (now m) ≤ 65536) ⌝ }
+    requires { ⌜ (c * statementRow ≤ length (now t)) × (r .frame + size ≤ length (now st)) × (length (now st) ≤ 16384) × (length (now m) ≤ 65536) ⌝ }
     ensures { λ o. ⌜ left o (now (st .exit)) (now (m .exit)) ≡ heldSteps (now (t .entry)) c d size budget (world r (now (st .entry)) (now (m .entry))) ⌝ }
 {
     let g = prog_tables::func_at(t, r.next);
@@ -174,7 +175,7 @@ fn advance(
     st: &mut [u32],
     m: &mut [u8],
 ) -> Outcome
-    requires { ⌜ c * 27 ≤ length (now t) ⌝ }
+    requires { ⌜ c * statementRow ≤ length (now t) ⌝ }
     ensures { λ o. ⌜ left o (now (st .exit)) (now (m .exit)) ≡ someSteps (now (t .entry)) c d budget (world r (now (st .entry)) (now (m .entry))) ⌝ }
 {
     let size = usable_size(t, c, m.len(), r, st);
@@ -194,7 +195,7 @@ fn run_within(
     st: &mut [u32],
     m: &mut [u8],
 ) -> Outcome
-    requires { ⌜ c * 27 ≤ length (now t) ⌝ }
+    requires { ⌜ c * statementRow ≤ length (now t) ⌝ }
     ensures { λ o. ⌜ left o (now (st .exit)) (now (m .exit)) ≡ withinRun (now (t .entry)) c d budget (world r (now (st .entry)) (now (m .entry))) ⌝ }
 {
     let mut q = r;

@@ -18,7 +18,7 @@ use Rattle.prog_tables.specs.Tests.{both, oneOf}
 use Rattle.prog_tables.specs.Statement.{Row, hasExpression, isTest, isCall, expressionUses, usedBy, rowAt}
 use Rattle.prog_tables.specs.Faults.{expressionListed}
 use Rattle.vm_definitions.specs.Frames.{isReturn, isCalling, leavesGood}
-use Rattle.vm_definitions.specs.Step.{World, rowOf, blockOf, endBlockOf, testOf, setAtOf, goesTo, callOf, returnOf, returned, workedOf, effectOf}
+use Rattle.vm_definitions.specs.Step.{World, Effect, rowOf, blockOf, endBlockOf, testOf, setAtOf, goesTo, callOf, returnOf, returned, workedOf, effectOf}
 use Rattle.vm_definitions.specs.declared.Worked.the-variants.{Value}
 use Rattle.vm_calls.specs.Outcomes.{calling, atCalling, tailCalling, handing, assigning, settingByte, settingWord, Expressed, Calls}
 use Rattle.vm_statements.specs.Ready.{Ready, settingLocal}
@@ -121,10 +121,14 @@ module _ (w : Width) (f : ℕ → Row) (c : ℕ) (x : World) where
   unfolding effectOf isCalling isReturn isTest hasExpression ifTrue ifEq ifLt
   of-end-if e = rw e
 
-  pub of-jump : isTest kind ≡ false → (kind ≡ 2 → ⊥) → (kind ≡ 3 → ⊥) → (kind ≡ 4 → ⊥) → (kind ≡ 5 → ⊥) → (kind ≡ 6 → ⊥) → (kind ≡ 7 → ⊥) → (kind ≡ 8 → ⊥)
-      → (kind ≡ 9 → ⊥) → (kind ≡ 11 → ⊥) → (kind ≡ 12 → ⊥) → (kind ≡ 13 → ⊥) → (kind ≡ 22 → ⊥) → effectOf w f c x ≡ goesTo w f c x (f (x .machine .next) .a)
+  abbrev jumps : Effect
+  jumps = goesTo w f c x (f (x .machine .next) .a)
+
+  last-kinds : isTest kind ≡ false → (kind ≡ 2 → ⊥) → (kind ≡ 3 → ⊥) → (kind ≡ 4 → ⊥) → (kind ≡ 5 → ⊥) → (kind ≡ 6 → ⊥) → (kind ≡ 7 → ⊥) → (kind ≡ 8 → ⊥)
+      → (kind ≡ 9 → ⊥) → (kind ≡ 11 → ⊥) → (kind ≡ 12 → ⊥) → (kind ≡ 13 → ⊥) → (kind ≡ 22 → ⊥)
+      → effectOf w f c x ≡ ifEq kind 10 jumps (ifEq kind 20 jumps (ifEq kind 21 jumps jumps))
   unfolding effectOf isCalling isReturn ifTrue ifEq
-  of-jump t a2 a3 a4 a5 a6 a7 a8 a9 a11 a12 a13 a22 =
+  last-kinds t a2 a3 a4 a5 a6 a7 a8 a9 a11 a12 a13 a22 =
       rw (
         ne-eqb kind 11 a11,
         no-expression kind a5 a6 a7 a13,
@@ -141,6 +145,14 @@ module _ (w : Width) (f : ℕ → Row) (c : ℕ) (x : World) where
         ne-eqb kind 12 a12,
         ne-eqb kind 22 a22,
       )
+
+  pub of-jump : isTest kind ≡ false → (kind ≡ 2 → ⊥) → (kind ≡ 3 → ⊥) → (kind ≡ 4 → ⊥) → (kind ≡ 5 → ⊥) → (kind ≡ 6 → ⊥) → (kind ≡ 7 → ⊥) → (kind ≡ 8 → ⊥)
+      → (kind ≡ 9 → ⊥) → (kind ≡ 11 → ⊥) → (kind ≡ 12 → ⊥) → (kind ≡ 13 → ⊥) → (kind ≡ 22 → ⊥) → effectOf w f c x ≡ jumps
+  of-jump t a2 a3 a4 a5 a6 a7 a8 a9 a11 a12 a13 a22 =
+      last-kinds t a2 a3 a4 a5 a6 a7 a8 a9 a11 a12 a13 a22
+      ∙ either-eq (λ (z : Effect). z ≡ jumps) kind 10 jumps _ (λ q. refl)
+      (λ q. either-eq (λ (z : Effect). z ≡ jumps) kind 20 jumps _ (λ q. refl)
+      (λ q. either-eq (λ (z : Effect). z ≡ jumps) kind 21 jumps jumps (λ q. refl) (λ q. refl)))
 
 has-13 : (k : ℕ) → k ≡ 13 → hasExpression k ≡ true
 unfolding hasExpression ifLt

@@ -19,6 +19,7 @@ ghost use Rattle.vm_definitions.specs.Expressions.{holds};
 ghost use Rattle.vm_definitions.specs.Step.{goingOn, testOf, setAtOf, effectOf};
 ghost use Rattle.vm_definitions.specs.Lent.{left};
 ghost use Rattle.vm_calls.specs.Outcomes.{counted, after, assigning, settingByte, settingWord, Expressed};
+ghost use Rattle.prog_tables.specs.Layout.{statementRow};
 ghost use Rattle.vm_statements.specs.Three.{threeWords};
 ghost use Rattle.vm_statements.specs.Ready.{Ready, settingLocal, assigningAt, returning};
 
@@ -163,7 +164,7 @@ pub enum Three {
 
 // The three operands of row n, left to right.
 fn read_three(t: &[u32], n: u32, st: &[u32], s: u32, m: &[u8]) -> Three
-    ensures { λ x. ⌜ threeWords x ≡ readAll Bits32 (now (st .entry)) s (now (m .entry)) (take 3 (slots (now (t .entry)) (n * 27))) ⌝ }
+    ensures { λ x. ⌜ threeWords x ≡ readAll Bits32 (now (st .entry)) s (now (m .entry)) (take 3 (slots (now (t .entry)) (n * statementRow))) ⌝ }
 {
     let f = vm_operands::read_operand(st, s, m, vm_calls::slot_at(t, n, 0));
     let Read::Got(base) = f else {
