@@ -1,7 +1,7 @@
 // The machine's type: its limits as associated constants, and the run record.
 ghost use mathlib.Core.Path.{_≡_};
 ghost use Rattle.base_limits.specs.Limits.{limitsOf};
-ghost use Rattle.base_limits.specs.Width.{bitsOf, bytesOf, dataLimit, memoryLimit};
+ghost use Rattle.base_limits.specs.Width.{bitsOf, bytesOf, dataLimit};
 ghost use Rattle.base_limits.specs.Fresh.{freshOf};
 
 // The width of a word.
@@ -136,15 +136,5 @@ pub fn data_limit(w: Width) -> usize
     match w {
         Width::Bits32 => Machine::DATA_BYTES,
         Width::Bits16 => 16384,
-    }
-}
-
-// The most bytes of memory.
-pub fn memory_limit(w: Width) -> usize
-    ensures { λ r. ⌜ r ≡ memoryLimit w ⌝ }
-{
-    match w {
-        Width::Bits32 => Machine::MEMORY_BYTES,
-        Width::Bits16 => 32768,
     }
 }

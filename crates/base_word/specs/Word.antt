@@ -77,8 +77,8 @@ modOf w a b = pick (eqb b 0) Division (Word (remainder w a b))
 -- ---- shifts and rotates
 
 -- "a negative count is stop 31"
-abbrev pub counted : ℕ → ℕ → ℕ → Answer
-counted w n r = pick (negative w n) Shift (Word r)
+abbrev pub shiftAnswer : ℕ → ℕ → ℕ → Answer
+shiftAnswer w n r = pick (negative w n) Shift (Word r)
 
 -- "Shifts [..] take the count modulo 32": how far a shift moves
 abbrev pub shiftCount : ℕ → ℕ → ℕ
@@ -110,11 +110,11 @@ rorBy w a n = rolBy w a (w - n)
 
 -- "Shifts [..] take the count modulo 32; a negative count is stop 31": to the left
 unfoldable pub shlOf : ℕ → ℕ → ℕ → Answer
-shlOf w a n = counted w n (shlBy w a (shiftCount w n))
+shlOf w a n = shiftAnswer w n (shlBy w a (shiftCount w n))
 
 -- "Shifts [..] take the count modulo 32; a negative count is stop 31": to the right, zeros from the left
 unfoldable pub bsrOf : ℕ → ℕ → ℕ → Answer
-bsrOf w a n = counted w n (bsrBy w a (shiftCount w n))
+bsrOf w a n = shiftAnswer w n (bsrBy w a (shiftCount w n))
 
 -- "`shr` is `bsr`"
 abbrev pub shrOf : ℕ → ℕ → ℕ → Answer
@@ -122,15 +122,15 @@ shrOf = bsrOf
 
 -- "Shifts [..] take the count modulo 32; a negative count is stop 31": to the right, the sign bit from the left
 unfoldable pub asrOf : ℕ → ℕ → ℕ → Answer
-asrOf w a n = counted w n (asrBy w a (shiftCount w n))
+asrOf w a n = shiftAnswer w n (asrBy w a (shiftCount w n))
 
 -- "[..] rotates take the count modulo 32; a negative count is stop 31": to the left
 unfoldable pub rolOf : ℕ → ℕ → ℕ → Answer
-rolOf w a n = counted w n (rolBy w a (rotateCount w n))
+rolOf w a n = shiftAnswer w n (rolBy w a (rotateCount w n))
 
 -- "[..] rotates take the count modulo 32; a negative count is stop 31": to the right
 unfoldable pub rorOf : ℕ → ℕ → ℕ → Answer
-rorOf w a n = counted w n (rorBy w a (rotateCount w n))
+rorOf w a n = shiftAnswer w n (rorBy w a (rotateCount w n))
 
 -- ---- bits
 

@@ -4,7 +4,7 @@ ghost use Prim.Native.Nat.{_≤_, _<_};
 ghost use Rattle.base_word.specs.Word.{addOf, subOf, mulOf};
 ghost use Rattle.base_word.specs.Word.{negative, magnitude, negated, signedWord, differ};
 ghost use Rattle.base_word.specs.Word.{quotient, remainder, noWord, divOf, modOf};
-ghost use Rattle.base_word.specs.Word.{counted, shiftCount, rotateCount};
+ghost use Rattle.base_word.specs.Word.{shiftAnswer, shiftCount, rotateCount};
 ghost use Rattle.base_word.specs.Word.{shlBy, bsrBy, asrBy, rolBy, rorBy};
 ghost use Rattle.base_word.specs.Word.{shlOf, bsrOf, asrOf, rolOf, rorOf};
 ghost use Rattle.base_word.specs.Word.{andOf, orOf, xorOf, notOf};
@@ -123,7 +123,7 @@ pub fn rem(a: u32, b: u32) -> Answer
 
 // The word that a shift gives, unless its count is negative.
 fn with_count(n: u32, r: u32) -> Answer
-    ensures { λ x. ⌜ x ≡ counted 32 n r ⌝ }
+    ensures { λ x. ⌜ x ≡ shiftAnswer 32 n r ⌝ }
 {
     if n < 2147483648 {
         Answer::Word(r)

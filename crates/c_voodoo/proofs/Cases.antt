@@ -23,32 +23,32 @@ use Rattle.c_words.specs.Record.{recordOf}
 use Rattle.c_words.specs.Reply.{Reply, reply, unfitWords, outcomeReply, openingReply}
 use Rattle.c_words.specs.declared.Loaded.{Loaded}
 use Rattle.c_words.specs.declared.Loaded.the-variants.{Fit, Unfit}
-use Rattle.c_voodoo.specs.Answer.{numberOf, resultWords, Told, told, toldOf}
+use Rattle.c_voodoo.specs.Answer.{answerNumber, resultWords, Told, told, toldOf}
 use Rattle.c_voodoo.specs.Calls.{Answered, answered, replied, unfit, outcomeAnswer, openingAnswer, stepBy, stepCall, runBy, runCall, startCall}
 
 -- ---- the answer in words
 
 module _ (x : Checked) (out o : List ℕ) (r : ℕ) where
   module _ (n c l size : ℕ) (e : x ≡ Accepted n c l size) where
-    pub number-accepted : r ≡ 0 → r ≡ numberOf x
-    unfolding numberOf
-    number-accepted q = q ∙ sym (ap numberOf e)
+    pub number-accepted : r ≡ 0 → r ≡ answerNumber x
+    unfolding answerNumber
+    number-accepted q = q ∙ sym (ap answerNumber e)
 
     pub words-accepted : o ≡ overlay (0 ∷ 0 ∷ n ∷ c ∷ l ∷ size ∷ []) out → o ≡ overlay (resultWords x) out
     unfolding resultWords
     words-accepted q = q ∙ sym (ap (λ (y : Checked). overlay (resultWords y) out) e)
 
   module _ (number place : ℕ) (e : x ≡ Refused number place) where
-    pub number-refused : r ≡ number → r ≡ numberOf x
-    unfolding numberOf
-    number-refused q = q ∙ sym (ap numberOf e)
+    pub number-refused : r ≡ number → r ≡ answerNumber x
+    unfolding answerNumber
+    number-refused q = q ∙ sym (ap answerNumber e)
 
     pub words-refused : o ≡ overlay (number ∷ place % 4294967296 ∷ 0 ∷ 0 ∷ 0 ∷ 0 ∷ []) out → o ≡ overlay (resultWords x) out
     unfolding resultWords
     words-refused q = q ∙ sym (ap (λ (y : Checked). overlay (resultWords y) out) e)
 
 pub told-is : (x : Checked) (a b c d e : List ℕ) (y : Left) (number : ℕ) (out o : List ℕ) → left x a b c d e ≡ y
-    → (number ≡ numberOf x) × (o ≡ overlay (resultWords x) out) → told number a b c d e o ≡ toldOf y out
+    → (number ≡ answerNumber x) × (o ≡ overlay (resultWords x) out) → told number a b c d e o ≡ toldOf y out
 unfolding toldOf
 told-is x a b c d e y number out o p q =
     ap₂ (λ (n : ℕ) (l : List ℕ). told n a b c d e l) (q .0) (q .1) ∙ ap (λ (z : Left). toldOf z out) p

@@ -19,7 +19,7 @@ use Rattle.base_limits.specs.declared.Machine.{Machine}
 use Rattle.base_limits.specs.Fresh.{freshOf}
 use Rattle.prog_tables.specs.Label.{Tables, rows}
 use Rattle.vm_definitions.specs.Broken.{stepBroken}
-use Rattle.vm_definitions.specs.Step.{World, Effect, stops, leaves, After, idle, effected, gated, inState, stopped, counting, effectOf, stepOf, runOf}
+use Rattle.vm_definitions.specs.Step.{World, Effect, stops, leaves, After, idle, effected, guarded, inState, stopped, counting, effectOf, stepOf, runOf}
 use Rattle.vm_definitions.specs.Start.{startOf, startLeaves}
 use Rattle.vm_definitions.specs.Lent.{world}
 use Rattle.vm_definitions.specs.declared.Broken.{Broken}
@@ -55,15 +55,15 @@ unfolding effected changes stateNumber stopped ifEq
 quiet-effected x (stops k) q h = true-false (rw q at h)
 quiet-effected x (leaves y) q h = true-false h
 
-quiet-gated : (x : World) (e : Effect) (b : Broken) → x .machine .state ≡ Running → Quiet x (gated x e b)
-unfolding gated
-quiet-gated x e No q = quiet-effected x e q
-quiet-gated x e (At i) q = quiet-idle x (At i)
-quiet-gated x e Somewhere q = quiet-idle x Somewhere
+quiet-guarded : (x : World) (e : Effect) (b : Broken) → x .machine .state ≡ Running → Quiet x (guarded x e b)
+unfolding guarded
+quiet-guarded x e No q = quiet-effected x e q
+quiet-guarded x e (At i) q = quiet-idle x (At i)
+quiet-guarded x e Somewhere q = quiet-idle x Somewhere
 
-quiet-in : (x : World) (s : State) (e : Effect) (b : Broken) → x .machine .state ≡ s → Quiet x (inState s (gated x e b) (idle x No))
+quiet-in : (x : World) (s : State) (e : Effect) (b : Broken) → x .machine .state ≡ s → Quiet x (inState s (guarded x e b) (idle x No))
 unfolding inState
-quiet-in x Running e b q = quiet-gated x e b q
+quiet-in x Running e b q = quiet-guarded x e b q
 quiet-in x (Finished v) e b q = quiet-idle x No
 quiet-in x (Stopped k i) e b q = quiet-idle x No
 

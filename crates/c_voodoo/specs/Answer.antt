@@ -8,9 +8,9 @@ use Rattle.check_source.specs.declared.Checked.{Checked}
 use Rattle.check_source.specs.declared.Checked.the-variants.{Accepted, Refused}
 
 -- 01's number, "Numbers given back"; 0: accepted
-unfoldable pub numberOf : Checked → ℕ
-numberOf (Accepted tokens statements labels size) = 0
-numberOf (Refused number place) = number
+unfoldable pub answerNumber : Checked → ℕ
+answerNumber (Accepted tokens statements labels size) = 0
+answerNumber (Refused number place) = number
 
 -- number, place, tokens, statements, labels, bytes of data; 0 where the case has none. The words have 32 bits
 unfoldable pub resultWords : Checked → List ℕ
@@ -34,4 +34,4 @@ told number tokens statements labels names bytes result =
 -- what a check leaves, its answer written over the front of the lent result
 unfoldable pub toldOf : Left → List ℕ → Told
 toldOf x result =
-    told (numberOf (x .answer)) (x .tokens) (x .statements) (x .labels) (x .names) (x .bytes) (overlay (resultWords (x .answer)) result)
+    told (answerNumber (x .answer)) (x .tokens) (x .statements) (x .labels) (x .names) (x .bytes) (overlay (resultWords (x .answer)) result)

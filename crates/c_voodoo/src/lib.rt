@@ -9,12 +9,12 @@ ghost use Rattle.base_limits.specs.declared.Width.the-variants.{Bits32};
 ghost use Rattle.base_prelude.specs.Lists.{overlay};
 ghost use Rattle.check_source.specs.Check.{lent, checkOf};
 ghost use Rattle.vm_definitions.specs.Lent.{tablesOf};
-ghost use Rattle.c_voodoo.specs.Answer.{numberOf, resultWords, told, toldOf};
+ghost use Rattle.c_voodoo.specs.Answer.{answerNumber, resultWords, told, toldOf};
 ghost use Rattle.c_voodoo.specs.Calls.{answered, startCall, stepCall, runCall};
 
 // Writes an answer in six words, and gives its number.
 fn put_answer(x: Checked, out: &mut [u32]) -> u32
-    ensures { λ r. ⌜ (r ≡ numberOf x) × (now (out .exit) ≡ overlay (resultWords x) (now (out .entry))) ⌝ }
+    ensures { λ r. ⌜ (r ≡ answerNumber x) × (now (out .exit) ≡ overlay (resultWords x) (now (out .entry))) ⌝ }
 {
     match x {
         Checked::Accepted {

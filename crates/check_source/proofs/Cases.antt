@@ -27,7 +27,7 @@ use Rattle.res_data.specs.declared.Measured.{Measured}
 use Rattle.res_data.specs.declared.Measured.the-variants.{Length, Big}
 use Rattle.res_labels.specs.Labelling.{labelTable, nameTable}
 use Rattle.res_rows.specs.Rows.{statementTable}
-use Rattle.res_tokens.specs.Begins as begins
+use Rattle.res_tokens.specs.TokenTable as begins
 use Rattle.check_source.specs.Check.{Lent, lent, Left, left, refuse, holds, Known, known, labelsIn, accept, roomStage, sizeStage, dataStage, judgeWith, judgeOf, nameStage, rowStage, outlineStage, tokenStage}
 use Rattle.check_source.specs.Fits.{Room}
 use Rattle.check_source.specs.declared.Checked.{Checked}

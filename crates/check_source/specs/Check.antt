@@ -29,7 +29,7 @@ use Rattle.res_data.specs.declared.Measured.{Measured}
 use Rattle.res_data.specs.declared.Measured.the-variants.{Length, Big}
 use Rattle.res_labels.specs.Labelling.{labelTable, nameTable}
 use Rattle.res_rows.specs.Rows.{statementTable}
-use Rattle.res_tokens.specs.Begins as begins
+use Rattle.res_tokens.specs.TokenTable as begins
 use Rattle.res_text.specs.Same.{sameText}
 use Rattle.check_source.specs.declared.Checked.{Checked}
 use Rattle.check_source.specs.declared.Checked.the-variants.{Accepted, Refused}

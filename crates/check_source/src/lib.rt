@@ -16,7 +16,7 @@ ghost use Rattle.prog_tables.specs.Statement.{rowAt};
 ghost use Rattle.res_frame_words.specs.Framing.{wordsOf};
 ghost use Rattle.res_labels.specs.Labelling.{labelTable, nameTable};
 ghost use Rattle.res_rows.specs.Rows.{statementTable};
-ghost use Rattle.res_tokens.specs.Begins.{tokenTable};
+ghost use Rattle.res_tokens.specs.TokenTable.{tokenTable};
 ghost use Rattle.res_data.specs.Image.{imageOf};
 ghost use Rattle.res_exports.specs.Exports.{exported};
 ghost use Rattle.prog_tables.specs.Layout.{statementRow};

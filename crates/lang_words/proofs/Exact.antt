@@ -13,7 +13,7 @@ use Rattle.base_prelude.specs.Choice.{pick}
 use Rattle.base_prelude.specs.Lists.{sameList}
 use Rattle.base_prelude.proofs.Lists.{same-is}
 use Rattle.base_prelude.proofs.Table.{at}
-use Rattle.lang_words.specs.Words.{Entry, nothing, words, firstOf, isNamed, isNumber, entryNamed, entryOf, numberOf, leastOperands, mostOperands}
+use Rattle.lang_words.specs.Words.{Entry, nothing, words, firstOf, isSpelled, isNumber, entryNamed, entryOf, numberOf, leastOperands, mostOperands}
 use Rattle.lang_words.specs.Table.{entryAt}
 use Rattle.lang_words.proofs.Rule.{count}
 
@@ -46,9 +46,9 @@ found test (e ∷ es) d = by (test e) refl d (λ q. found test es q)
 
 -- a name with a number is an entry's
 pub number-entered : (name : List ℕ) (n : ℕ) → numberOf name ≡ n → (n ≡ 0 → ⊥) → Entered name n
-unfolding words numberOf entryNamed isNamed entryAt
+unfolding words numberOf entryNamed isSpelled entryAt
 number-entered name n e d =
-    let x = found (isNamed name) words (λ q. d (sym e ∙ q)) in
+    let x = found (isSpelled name) words (λ q. d (sym e ∙ q)) in
     record {
       place = x .place;
       within = subst (λ (m : ℕ). x .place < m) count (x .within);
@@ -61,7 +61,7 @@ named-right : ℕ → Entry → Bool
 named-right k e = eqb (numberOf (e .letters)) (e .number)
 
 named-rule : (k : ℕ) → k < 51 → T (named-right k (entryAt k))
-unfolding words firstOf isNamed entryNamed numberOf entryAt sameList named-right
+unfolding words firstOf isSpelled entryNamed numberOf entryAt sameList named-right
 named-rule k h = at nothing named-right words tt k h
 
 -- an entry's name has the entry's number
@@ -81,14 +81,14 @@ number-right : ℕ → Entry → Bool
 number-right k e = eqb (placeFrom (isNumber (e .number)) 0 words) k
 
 letters-right : ℕ → Entry → Bool
-letters-right k e = eqb (placeFrom (isNamed (e .letters)) 0 words) k
+letters-right k e = eqb (placeFrom (isSpelled (e .letters)) 0 words) k
 
 number-rule : (k : ℕ) → k < 51 → T (number-right k (entryAt k))
 unfolding words isNumber entryAt placeFrom number-right
 number-rule k h = at nothing number-right words tt k h
 
 letters-rule : (k : ℕ) → k < 51 → T (letters-right k (entryAt k))
-unfolding words isNamed entryAt sameList placeFrom letters-right
+unfolding words isSpelled entryAt sameList placeFrom letters-right
 letters-rule k h = at nothing letters-right words tt k h
 
 pub numbers-distinct : (i j : ℕ) → i < 51 → j < 51 → entryAt i .number ≡ entryAt j .number → i ≡ j
@@ -101,9 +101,9 @@ numbers-distinct i j hi hj e =
 pub letters-distinct : (i j : ℕ) → i < 51 → j < 51 → entryAt i .letters ≡ entryAt j .letters → i ≡ j
 unfolding letters-right
 letters-distinct i j hi hj e =
-    sym (eqb→eq (placeFrom (isNamed (entryAt i .letters)) 0 words) i (letters-rule i hi))
-    ∙ ap (λ (w : List ℕ). placeFrom (isNamed w) 0 words) e
-    ∙ eqb→eq (placeFrom (isNamed (entryAt j .letters)) 0 words) j (letters-rule j hj)
+    sym (eqb→eq (placeFrom (isSpelled (entryAt i .letters)) 0 words) i (letters-rule i hi))
+    ∙ ap (λ (w : List ℕ). placeFrom (isSpelled w) 0 words) e
+    ∙ eqb→eq (placeFrom (isSpelled (entryAt j .letters)) 0 words) j (letters-rule j hj)
 
 above-right : ℕ → Entry → Bool
 above-right k e = leb 1 (e .number)

@@ -13,23 +13,23 @@ use Rattle.base_prelude.specs.Lists.{sameList}
 use Rattle.base_prelude.proofs.Bytes.{getD-within}
 use Rattle.base_prelude.proofs.Lists.{Same, same-lengths, same-start, same-more, same-not, same-all}
 use Rattle.lang_words.specs.Words.{words}
-use Rattle.lang_words.specs.Table.{joined, letterAt, spelled}
+use Rattle.lang_words.specs.Table.{allLetters, letterAt, spelled}
 
-joined-length : length (joined words) ≡ 283
-unfolding words joined
+joined-length : length (allLetters words) ≡ 283
+unfolding words allLetters
 joined-length = refl
 
 module _ (start size : ℕ) (fits : start + size ≤ 283) where
   spelled-length : length (spelled start size) ≡ size
   unfolding spelled
   spelled-length =
-      omega (arith, length-take size (drop start (joined words)), length-drop start (joined words), joined-length)
+      omega (arith, length-take size (drop start (allLetters words)), length-drop start (allLetters words), joined-length)
 
   spelled-letter : (j : ℕ) → j < size → letterAt (start + j) ≡ byteAt (spelled start size) j
   unfolding spelled letterAt byteAt
   spelled-letter j h =
-      sym (getD-drop start (joined words) j 0) ∙ sym (getD-take size (drop start (joined words)) j 0 h)
-      ∙ getD-within (take size (drop start (joined words))) j 0 256 (omega (arith, spelled-length))
+      sym (getD-drop start (allLetters words) j 0) ∙ sym (getD-take size (drop start (allLetters words)) j 0 h)
+      ∙ getD-within (take size (drop start (allLetters words))) j 0 256 (omega (arith, spelled-length))
 
 pub record Matching (name : List ℕ) (start size j : ℕ) : Type 0 where
   pub room : start + size ≤ 283

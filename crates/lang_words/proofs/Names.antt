@@ -4,7 +4,7 @@ use mathlib.Core.Path.{_≡_, refl}
 use mathlib.Core.List.{List, [], _∷_}
 use Prim.Native.Nat.{ℕ}
 use Rattle.base_prelude.specs.Lists.{sameList}
-use Rattle.lang_words.specs.Words.{words, firstOf, isNamed, entryNamed, numberOf}
+use Rattle.lang_words.specs.Words.{words, firstOf, isSpelled, entryNamed, numberOf}
 use Rattle.lang_words.specs.Numbers.{numbers}
 
 -- the words in the order of their numbers
@@ -68,5 +68,5 @@ numbered [] = []
 numbered (w ∷ ws) = numberOf w ∷ numbered ws
 
 pub names-right : numbered spellings ≡ numbers
-unfolding words firstOf isNamed entryNamed numberOf numbers sameList
+unfolding words firstOf isSpelled entryNamed numberOf numbers sameList
 names-right = refl

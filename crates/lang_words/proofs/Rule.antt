@@ -11,7 +11,7 @@ use Rattle.base_prelude.specs.Lists.{sameList}
 use Rattle.base_prelude.proofs.Lists.{same-is}
 use Rattle.base_prelude.proofs.Table.{at}
 use Rattle.lang_words.specs.Words.{Entry, nothing, words}
-use Rattle.lang_words.specs.Table.{joined, row, rowsFrom, rows, rowAt, entryAt, spelled}
+use Rattle.lang_words.specs.Table.{allLetters, row, rowsFrom, rows, rowAt, entryAt, spelled}
 
 pub count : length words ≡ 51
 unfolding words
@@ -58,7 +58,7 @@ unfolding words rowsFrom rows rowAt entryAt fits-right
 fits-rule k h = at nothing fits-right words tt k h
 
 spells-rule : (k : ℕ) → k < 51 → T (spells-right k (entryAt k))
-unfolding words joined rowsFrom rows rowAt entryAt spelled spells-right sameList
+unfolding words allLetters rowsFrom rows rowAt entryAt spelled spells-right sameList
 spells-rule k h = at nothing spells-right words tt k h
 
 -- a row's letters end within the letters of all words

@@ -11,7 +11,7 @@ use lib.ListN.{length, getD, drop, drop-of-length-le}
 use lib.Seq.{drop-cons}
 use Rattle.base_prelude.specs.Choice.{pick}
 use Rattle.base_prelude.specs.Lists.{sameList}
-use Rattle.lang_words.specs.Words.{Entry, nothing, words, firstOf, isNamed, isNumber, entryNamed, entryOf, numberOf, leastOperands, mostOperands}
+use Rattle.lang_words.specs.Words.{Entry, nothing, words, firstOf, isSpelled, isNumber, entryNamed, entryOf, numberOf, leastOperands, mostOperands}
 use Rattle.lang_words.specs.Table.{row, rows, rowAt, entryAt, spelled}
 use Rattle.lang_words.specs.declared.Row.{Row}
 use Rattle.lang_words.proofs.Rule.{count, row-number, row-least, row-most, fits, spells}
@@ -57,32 +57,32 @@ module _ (t : List Row) (test : Entry → Bool) where
         sym (ap (firstOf test) (drop-of-length-le words past)) ∙ h .rest
 
 module _ (t : List Row) (name : List ℕ) where
-  pub named-start : t ≡ rows → Searching t (isNamed name) 0
-  named-start e = start t (isNamed name) e
+  pub named-start : t ≡ rows → Searching t (isSpelled name) 0
+  named-start e = start t (isSpelled name) e
 
-  module _ (k : ℕ) (h : Searching t (isNamed name) k) where
+  module _ (k : ℕ) (h : Searching t (isSpelled name) k) where
     pub named-fits : k < 51 → (getD t k (row 0 0 0 0 0)) .0 + (getD t k (row 0 0 0 0 0)) .1 ≤ 283
-    named-fits l = subst (λ (r : Row). r .0 + r .1 ≤ 283) (sym (row-is t (isNamed name) k h)) (fits k l)
+    named-fits l = subst (λ (r : Row). r .0 + r .1 ≤ 283) (sym (row-is t (isSpelled name) k h)) (fits k l)
 
     module _ (b : Bool) (l : k < 51) (p : b ≡ sameList name (spelled ((getD t k (row 0 0 0 0 0)) .0) ((getD t k (row 0 0 0 0 0)) .1))) where
-      tested : b ≡ isNamed name (entryAt k)
-      unfolding isNamed
+      tested : b ≡ isSpelled name (entryAt k)
+      unfolding isSpelled
       tested =
-          p ∙ ap (λ (r : Row). sameList name (spelled (r .0) (r .1))) (row-is t (isNamed name) k h)
+          p ∙ ap (λ (r : Row). sameList name (spelled (r .0) (r .1))) (row-is t (isSpelled name) k h)
           ∙ ap (sameList name) (spells k l)
 
       pub named-here : b ≡ true → (getD t k (row 0 0 0 0 0)) .2 ≡ numberOf name
       unfolding numberOf entryNamed
       named-here e =
-          ap (λ (r : Row). r .2) (row-is t (isNamed name) k h) ∙ row-number k
-          ∙ ap (λ (x : Entry). x .number) (here t (isNamed name) k h l (sym tested ∙ e))
+          ap (λ (r : Row). r .2) (row-is t (isSpelled name) k h) ∙ row-number k
+          ∙ ap (λ (x : Entry). x .number) (here t (isSpelled name) k h l (sym tested ∙ e))
 
-      pub named-next : b ≡ false → Searching t (isNamed name) (k + 1)
-      named-next e = next t (isNamed name) k h l (sym tested ∙ e)
+      pub named-next : b ≡ false → Searching t (isSpelled name) (k + 1)
+      named-next e = next t (isSpelled name) k h l (sym tested ∙ e)
 
     pub named-none : 51 ≤ k → 0 ≡ numberOf name
     unfolding numberOf entryNamed
-    named-none l = ap (λ (x : Entry). x .number) (none t (isNamed name) k h l)
+    named-none l = ap (λ (x : Entry). x .number) (none t (isSpelled name) k h l)
 
 module _ (t : List Row) (n : ℕ) where
   pub number-start : t ≡ rows → Searching t (isNumber n) 0

@@ -7,9 +7,9 @@ use Rattle.lang_words.specs.Words.{Entry, nothing, words}
 use Rattle.lang_words.specs.declared.Row.{Row}
 
 -- the letters of all words
-unfoldable pub joined : List Entry → List ℕ
-joined [] = []
-joined (e ∷ es) = e .letters ++ joined es
+unfoldable pub allLetters : List Entry → List ℕ
+allLetters [] = []
+allLetters (e ∷ es) = e .letters ++ allLetters es
 
 -- the place of the first letter, the length, the number, the least and the most operand tokens
 abbrev pub row : ℕ → ℕ → ℕ → ℕ → ℕ → Row
@@ -32,8 +32,8 @@ rowAt k = getD rows k (row 0 0 0 0 0)
 
 -- a letter of the letters of all words
 unfoldable pub letterAt : ℕ → ℕ
-letterAt i = getD (joined words) i 0
+letterAt i = getD (allLetters words) i 0
 
 -- so many letters of all words, from a place on
 unfoldable pub spelled : ℕ → ℕ → List ℕ
-spelled start size = take size (drop start (joined words))
+spelled start size = take size (drop start (allLetters words))

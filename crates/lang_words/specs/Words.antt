@@ -82,15 +82,15 @@ unfoldable pub firstOf : (Entry → Bool) → List Entry → Entry
 firstOf test [] = nothing
 firstOf test (e ∷ es) = pick (test e) e (firstOf test es)
 
-unfoldable pub isNamed : List ℕ → Entry → Bool
-isNamed name e = sameList name (e .letters)
+unfoldable pub isSpelled : List ℕ → Entry → Bool
+isSpelled name e = sameList name (e .letters)
 
 unfoldable pub isNumber : ℕ → Entry → Bool
 isNumber n e = eqb (e .number) n
 
 -- the entry with exactly these letters
 unfoldable pub entryNamed : List ℕ → Entry
-entryNamed name = firstOf (isNamed name) words
+entryNamed name = firstOf (isSpelled name) words
 
 -- the entry with this number
 unfoldable pub entryOf : ℕ → Entry

@@ -19,7 +19,7 @@ use Rattle.lex_spelling.specs.declared.Ending.{Ending}
 use Rattle.lex_spelling.specs.declared.Ending.the-variants as ending
 use Rattle.lex_spelling.proofs.Ends.{digit-byte, letter-byte, joined-in}
 use Rattle.lex_spelling.proofs.Within.{spelled-in}
-use Rattle.lex_lexeme.specs.Number.{Digits, digitsAt, valueOf, numberOf, decimalOf}
+use Rattle.lex_lexeme.specs.Number.{Digits, digitsAt, valueOf, integerOf, decimalOf}
 use Rattle.lex_lexeme.specs.Gap.{gapEnd}
 use Rattle.lex_lexeme.specs.Reading.{startsSymbol, startsInteger, texted, valued, symbolTo, symbolEnd, symbolBy, symbolAt, stringTo, stringEnd, stringBy, stringRead, integerFrom, integerBy, digitsRead, integerAt, markedFrom, markedAt, atFrom, atRead, plainRead, readAt, nextRead, nameStart}
 use Rattle.lex_lexeme.specs.declared.Number.{Number}
@@ -158,7 +158,7 @@ empty w kind first neg [] next e = refl
 empty w kind first neg (d ∷ ds) next e = let z : ⊥ = omega arith in absurd z
 
 some : (w : Width) (kind first : ℕ) (neg : Bool) (ds : List ℕ) (next : ℕ) → (length ds ≡ 0 → ⊥)
-    → Whole (integerFrom kind first next (numberOf w neg (valueOf ds))) ≡ integerBy w kind first neg ds next
+    → Whole (integerFrom kind first next (integerOf w neg (valueOf ds))) ≡ integerBy w kind first neg ds next
 unfolding integerBy
 some w kind first neg [] next e = absurd (e refl)
 some w kind first neg (d ∷ ds) next e = refl
@@ -168,12 +168,12 @@ module _ (w : Width) (s : List ℕ) (kind first : ℕ) (neg : Bool) (at : ℕ) (
   unfolding digitsRead
   unsigned-none e = empty w kind first neg (digitsAt s at .digits) (digitsAt s at .next) (sym (decimal-count d (digitsAt s at) p) ∙ e)
 
-  pub unsigned-some : (n : Number) (x : Lexeme) → (d .count ≡ 0 → ⊥) → n ≡ numberOf w neg (d .value) → x ≡ integerFrom kind first (d .next) n
+  pub unsigned-some : (n : Number) (x : Lexeme) → (d .count ≡ 0 → ⊥) → n ≡ integerOf w neg (d .value) → x ≡ integerFrom kind first (d .next) n
       → Whole x ≡ digitsRead w s kind first neg at
   unfolding digitsRead
   unsigned-some n x e q f =
       ap Whole (f ∙ ap (integerFrom kind first (d .next)) (q ∙ decimal-number w neg d (digitsAt s at) p)
-      ∙ ap (λ (j : ℕ). integerFrom kind first j (numberOf w neg (valueOf (digitsAt s at .digits)))) (decimal-next d (digitsAt s at) p))
+      ∙ ap (λ (j : ℕ). integerFrom kind first j (integerOf w neg (valueOf (digitsAt s at .digits)))) (decimal-next d (digitsAt s at) p))
       ∙ some w kind first neg (digitsAt s at .digits) (digitsAt s at .next) (λ z. e (decimal-count d (digitsAt s at) p ∙ z))
 
 module _ (w : Width) (s : List ℕ) (kind first at c : ℕ) (r : Reading) (p : c ≡ byteAt s at) where

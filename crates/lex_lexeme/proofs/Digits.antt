@@ -18,7 +18,7 @@ use Rattle.base_limits.specs.declared.Width.the-variants.{Bits32, Bits16}
 use Rattle.lex_spelling.specs.Classes.{isDigit}
 use Rattle.lex_spelling.specs.Continuation.{joined}
 use Rattle.lex_spelling.proofs.Ends.{byte-past, digit-byte, joined-from, joined-in}
-use Rattle.lex_lexeme.specs.Number.{digitFrom, digitAt, Digits, digitMore, digitsWithin, digitsAt, valueFrom, valueOf, halfOf, wholeOf, numberOf, decimalFrom, decimalOf}
+use Rattle.lex_lexeme.specs.Number.{digitFrom, digitAt, Digits, digitMore, digitsWithin, digitsAt, valueFrom, valueOf, halfOf, wholeOf, integerOf, decimalFrom, decimalOf}
 use Rattle.lex_lexeme.specs.declared.Digit.{Digit}
 use Rattle.lex_lexeme.specs.declared.Digit.the-variants.{One, Stop}
 use Rattle.lex_lexeme.specs.declared.Number.{Number}
@@ -133,13 +133,13 @@ pub record Counting (s : List ℕ) (at i count value : ℕ) : Type 0 where
   pub few : count ≤ i
   pub fits : count ≤ length s
   pub low : value ≤ 4294967296
-  pub turns : ℕ
-  pub enough : length s - i ≤ turns
-  pub rest : decimalFrom count value (digitsWithin (suc turns) s i) ≡ decimalOf (digitsAt s at)
+  pub more : ℕ
+  pub enough : length s - i ≤ more
+  pub rest : decimalFrom count value (digitsWithin (suc more) s i) ≡ decimalOf (digitsAt s at)
 
 pub counting-start : (s : List ℕ) (at : ℕ) → Counting s at at 0 0
 unfolding digitsAt decimalOf
-counting-start s at = record { few = omega arith; fits = omega arith; low = omega arith; turns = length s; enough = omega arith; rest = refl }
+counting-start s at = record { few = omega arith; fits = omega arith; low = omega arith; more = length s; enough = omega arith; rest = refl }
 
 more-counted : (s : List ℕ) (at i count value d n value′ : ℕ) (x : Digit) (k : ℕ) → length s - i ≤ k
     → decimalFrom count value (digitsWithin (suc k) s i) ≡ decimalOf (digitsAt s at) → count ≤ i → DigitIn s i (One d n)
@@ -150,7 +150,7 @@ more-counted s at i count value d n value′ x (suc k) g r f a p e m =
       few = omega (arith, a .0);
       fits = omega (arith, a .0, a .1);
       low = omega arith;
-      turns = k;
+      more = k;
       enough = omega (arith, a .0);
       rest = ap (λ (y : ℕ). decimalFrom (count + 1) y (digitsWithin (suc k) s n)) m ∙ sym (decimal-more count value d (digitsWithin (suc k) s n)) ∙ ap (decimalFrom count value) (sym (digits-one (suc k) s i d n x p e)) ∙ r;
     }
@@ -162,7 +162,7 @@ module _ (s : List ℕ) (at i count value : ℕ) (x : Digit) where
   pub counting-more : (d n value′ : ℕ) → Counting s at i count value → x ≡ digitAt s i → x ≡ One d n → value′ ≡ min (value * 10 + d) 4294967296
       → Counting s at n (count + 1) value′
   counting-more d n value′ h p e m =
-      more-counted s at i count value d n value′ x (h .turns) (h .enough) (h .rest) (h .few) (one-here d n p e) p e m
+      more-counted s at i count value d n value′ x (h .more) (h .enough) (h .rest) (h .few) (one-here d n p e) p e m
 
   pub counting-less : (d n : ℕ) → Counting s at i count value → x ≡ digitAt s i → x ≡ One d n → length s - n < length s - i
   counting-less d n h p e = let a : DigitIn s i (One d n) = one-here d n p e in omega (arith, a .0, a .1)
@@ -170,7 +170,7 @@ module _ (s : List ℕ) (at i count value : ℕ) (x : Digit) where
   pub counting-stop : (b : ℕ) → Counting s at i count value → x ≡ digitAt s i → x ≡ Stop b
       → record { count = count; value = value; next = b } ≡ decimalOf (digitsAt s at)
   counting-stop b h p e =
-      sym (decimal-end count value b (h .low)) ∙ ap (decimalFrom count value) (sym (digits-stop (h .turns) s i b x p e)) ∙ h .rest
+      sym (decimal-end count value b (h .low)) ∙ ap (decimalFrom count value) (sym (digits-stop (h .more) s i b x p e)) ∙ h .rest
 
 pub ruleset counting = (counting-start, counting-more, counting-stop)
 
@@ -195,20 +195,20 @@ module _ (w : Width) where
 pub ruleset widths = (half-32, half-16, whole-32, whole-16)
 
 module _ (w : Width) (neg : Bool) (v whole half : ℕ) (p : whole ≡ wholeOf w) where
-  pub word-far : neg ≡ true → half ≡ halfOf w → half < v → OutOfRange ≡ numberOf w neg v
-  unfolding numberOf
+  pub word-far : neg ≡ true → half ≡ halfOf w → half < v → OutOfRange ≡ integerOf w neg v
+  unfolding integerOf
   word-far e q h = rw (← q) (search tests)
 
-  pub word-negative : neg ≡ true → half ≡ halfOf w → v ≤ half → Word ((whole - v) % whole) ≡ numberOf w neg v
-  unfolding numberOf
+  pub word-negative : neg ≡ true → half ≡ halfOf w → v ≤ half → Word ((whole - v) % whole) ≡ integerOf w neg v
+  unfolding integerOf
   word-negative e q h = rw (← p, ← q) (search tests)
 
-  pub word-positive : neg ≡ false → v < whole → Word v ≡ numberOf w neg v
-  unfolding numberOf
+  pub word-positive : neg ≡ false → v < whole → Word v ≡ integerOf w neg v
+  unfolding integerOf
   word-positive e h = rw (← p) (search tests)
 
-  pub word-past : neg ≡ false → whole ≤ v → OutOfRange ≡ numberOf w neg v
-  unfolding numberOf
+  pub word-past : neg ≡ false → whole ≤ v → OutOfRange ≡ integerOf w neg v
+  unfolding integerOf
   word-past e h = rw (← p) (search tests)
 
   pub word-order : half ≡ halfOf w → v ≤ half → v ≤ whole
@@ -226,23 +226,23 @@ module _ (w : Width) (neg : Bool) (v whole half : ℕ) (p : whole ≡ wholeOf w)
 pub ruleset wording = (word-far, word-negative, word-positive, word-past)
 
 -- a value held at 2 ^ 32 gives the same
-number-capped : (w : Width) (neg : Bool) (v : ℕ) → numberOf w neg (min v 4294967296) ≡ numberOf w neg v
+number-capped : (w : Width) (neg : Bool) (v : ℕ) → integerOf w neg (min v 4294967296) ≡ integerOf w neg v
 number-capped w neg v =
     elim (decLt 4294967296 v) [
-      | yes h ↦ ap (numberOf w neg) (min-eq-right (omega arith)) ∙ sym (far w neg 4294967296 (omega arith)) ∙ far w neg v (omega arith)
-      | no h ↦ ap (numberOf w neg) (min-eq-left (omega arith))
+      | yes h ↦ ap (integerOf w neg) (min-eq-right (omega arith)) ∙ sym (far w neg 4294967296 (omega arith)) ∙ far w neg v (omega arith)
+      | no h ↦ ap (integerOf w neg) (min-eq-left (omega arith))
     ]
   where
-    far : (w : Width) (neg : Bool) (v : ℕ) → 4294967296 ≤ v → OutOfRange ≡ numberOf w neg v
+    far : (w : Width) (neg : Bool) (v : ℕ) → 4294967296 ≤ v → OutOfRange ≡ integerOf w neg v
     far Bits32 true v h = word-far Bits32 true v 4294967296 2147483648 refl refl refl (omega arith)
     far Bits32 false v h = word-past Bits32 false v 4294967296 2147483648 refl refl (omega arith)
     far Bits16 true v h = word-far Bits16 true v 65536 32768 refl refl refl (omega arith)
     far Bits16 false v h = word-past Bits16 false v 65536 32768 refl refl (omega arith)
 
 -- what the code keeps of digits tells their number
-pub decimal-number : (w : Width) (neg : Bool) (d : Decimal) (t : Digits) → d ≡ decimalOf t → numberOf w neg (d .value) ≡ numberOf w neg (valueOf (t .digits))
+pub decimal-number : (w : Width) (neg : Bool) (d : Decimal) (t : Digits) → d ≡ decimalOf t → integerOf w neg (d .value) ≡ integerOf w neg (valueOf (t .digits))
 unfolding decimalOf decimalFrom
-decimal-number w neg d t e = ap (λ (x : Decimal). numberOf w neg (x .value)) e ∙ number-capped w neg (valueFrom 0 (t .digits))
+decimal-number w neg d t e = ap (λ (x : Decimal). integerOf w neg (x .value)) e ∙ number-capped w neg (valueFrom 0 (t .digits))
 
 pub decimal-count : (d : Decimal) (t : Digits) → d ≡ decimalOf t → d .count ≡ length (t .digits)
 unfolding decimalOf decimalFrom

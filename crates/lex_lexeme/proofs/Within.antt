@@ -23,7 +23,7 @@ use Rattle.lex_spelling.specs.declared.Ending.{Ending}
 use Rattle.lex_spelling.specs.declared.Ending.the-variants as ending
 use Rattle.lex_spelling.proofs.Ends.{joined-from, joined-in, joined-none, joined-same, digit-byte, letter-byte}
 use Rattle.lex_spelling.proofs.Within.{TextIn, text-in, name-some, name-broken}
-use Rattle.lex_lexeme.specs.Number.{Digits, digitAt, digitMore, digitsWithin, digitsAt, valueOf, numberOf}
+use Rattle.lex_lexeme.specs.Number.{Digits, digitAt, digitMore, digitsWithin, digitsAt, valueOf, integerOf}
 use Rattle.lex_lexeme.specs.Gap.{gapSkip, gapEnd}
 use Rattle.lex_lexeme.specs.Reading.{startsSymbol, startsInteger, texted, valued, symbolTo, symbolEnd, symbolBy, symbolAt, stringTo, stringEnd, stringBy, stringRead, integerFrom, integerBy, digitsRead, integerAt, markedFrom, markedAt, atFrom, atRead, plainRead, readAt, nextRead, isNamed, nameStart, textOf}
 use Rattle.lex_lexeme.specs.declared.Digit.{Digit}
@@ -273,7 +273,7 @@ module _ (s : List ℕ) (kind first : ℕ) (k7 : 7 ≤ kind) (k8 : kind ≤ 8) w
       → ReadingIn s first (integerBy w kind first neg ds next)
   unfolding integerBy
   by-in w neg at [] next l o a b = (omega arith, omega arith)
-  by-in w neg at (d ∷ ds) next l o a b = number-in next (numberOf w neg (valueOf (d ∷ ds))) (omega arith) b
+  by-in w neg at (d ∷ ds) next l o a b = number-in next (integerOf w neg (valueOf (d ∷ ds))) (omega arith) b
 
   digits-read : (w : Width) (neg : Bool) (at : ℕ) → first < length s → first ≤ at → at ≤ length s → ReadingIn s first (digitsRead w s kind first neg at)
   unfolding digitsRead

@@ -55,8 +55,8 @@ abbrev pub wholeOf : Width → ℕ
 wholeOf w = 2 ^ bitsOf w
 
 -- the word of an integer of a magnitude, below zero where negative, or out of range
-unfoldable pub numberOf : Width → Bool → ℕ → Number
-numberOf w negative v =
+unfoldable pub integerOf : Width → Bool → ℕ → Number
+integerOf w negative v =
     ifTrue negative
     (ifLt (halfOf w) v OutOfRange (Word ((wholeOf w - v) % wholeOf w)))
     (ifLt v (wholeOf w) (Word v) OutOfRange)

@@ -14,7 +14,7 @@ use Rattle.lex_spelling.specs.Text.{spelledAt, measured, nameAt, stringAt}
 use Rattle.lex_spelling.specs.declared.Spelled.{Spelled}
 use Rattle.lex_spelling.specs.declared.Ending.{Ending}
 use Rattle.lex_spelling.specs.declared.Ending.the-variants as ending
-use Rattle.lex_lexeme.specs.Number.{Digits, digitsAt, valueOf, numberOf}
+use Rattle.lex_lexeme.specs.Number.{Digits, digitsAt, valueOf, integerOf}
 use Rattle.lex_lexeme.specs.Gap.{gapEnd}
 use Rattle.lex_lexeme.specs.declared.Number.{Number}
 use Rattle.lex_lexeme.specs.declared.Number.the-variants.{Word, OutOfRange}
@@ -80,7 +80,7 @@ integerFrom kind first next OutOfRange = valued kind first next 0 false
 -- one digit at least; else what stands first is a lone sign or mark
 unfoldable pub integerBy : Width → ℕ → ℕ → Bool → List ℕ → ℕ → Reading
 integerBy w kind first negative [] next = Lone first
-integerBy w kind first negative (d ∷ ds) next = Whole (integerFrom kind first next (numberOf w negative (valueOf (d ∷ ds))))
+integerBy w kind first negative (d ∷ ds) next = Whole (integerFrom kind first next (integerOf w negative (valueOf (d ∷ ds))))
 
 unfoldable pub digitsRead : Width → List ℕ → ℕ → ℕ → Bool → ℕ → Reading
 digitsRead w s kind first negative at = integerBy w kind first negative (digitsAt s at .digits) (digitsAt s at .next)

@@ -6,7 +6,7 @@ ghost use mathlib.Core.Path.{_≡_};
 ghost use Prim.Native.Nat.{_+_, _*_, _≤_, _<_, _-_, _^_, min};
 ghost use lib.ListN.{length};
 ghost use Rattle.base_limits.specs.Width.{bitsOf};
-ghost use Rattle.lex_lexeme.specs.Number.{digitFrom, digitAt, digitsAt, decimalOf, halfOf, wholeOf, numberOf};
+ghost use Rattle.lex_lexeme.specs.Number.{digitFrom, digitAt, digitsAt, decimalOf, halfOf, wholeOf, integerOf};
 ghost use Rattle.lex_lexeme.specs.Gap.{commentEnd, gapSkip, gapEnd};
 ghost use Rattle.lex_lexeme.specs.Reading.{startsSymbol, startsInteger, texted, valued, symbolTo, symbolEnd, symbolAt, stringTo, stringEnd, stringRead, integerFrom, digitsRead, integerAt, markedFrom, markedAt, atFrom, atRead, plainRead, readAt, nextRead, isNamed, nameStart};
 ghost use Rattle.lex_spelling.specs.Text.{endOf};
@@ -127,7 +127,7 @@ fn whole_of(w: Width) -> u64
 
 // The word of an integer of a magnitude.
 fn to_word(w: Width, negative: bool, v: u64) -> Number
-    ensures { λ r. ⌜ r ≡ numberOf w negative v ⌝ }
+    ensures { λ r. ⌜ r ≡ integerOf w negative v ⌝ }
 {
     let whole = whole_of(w);
     if negative {

@@ -21,7 +21,7 @@ use Rattle.lex_spelling.specs.Text.{nameAt, spelledAt}
 use Rattle.lex_spelling.proofs.Loops.{overlay-front}
 use Rattle.lex_lexeme.specs.declared.Lexeme.{Lexeme}
 use Rattle.lex_lexeme.specs.Reading.{isNamed, nameStart}
-use Rattle.lex_source.specs.Token.{isSubstitute, substituteValue, valueOf}
+use Rattle.lex_source.specs.Token.{isSubstitute, substituteValue, tokenValue}
 use Rattle.lex_source.specs.Faults.{rangeFault, lengthFault, limitFault, followFault}
 use Rattle.lex_source.specs.Filling.{rowNamed, wordNamed}
 
@@ -41,20 +41,20 @@ module _ (w : Width) (k : ℕ) where
 pub ruleset standing = (stands-bits, stands-bytes, stands-none)
 
 module _ (w : Width) (kind value size word : ℕ) (b : Bool) (p : b ≡ isSubstitute kind) where
-  pub value-substitute : (v : ℕ) → b ≡ true → v ≡ substituteValue w word → v ≡ valueOf w kind value size word
-  unfolding valueOf
+  pub value-substitute : (v : ℕ) → b ≡ true → v ≡ substituteValue w word → v ≡ tokenValue w kind value size word
+  unfolding tokenValue
   value-substitute v e q = rw (← p, ← q) (search tests)
 
-  pub value-integer : b ≡ false → kind ≡ 7 → value ≡ valueOf w kind value size word
-  unfolding valueOf
+  pub value-integer : b ≡ false → kind ≡ 7 → value ≡ tokenValue w kind value size word
+  unfolding tokenValue
   value-integer e f = rw (← p) (search tests)
 
-  pub value-at : b ≡ false → (kind ≡ 7 → ⊥) → kind ≡ 8 → value ≡ valueOf w kind value size word
-  unfolding valueOf
+  pub value-at : b ≡ false → (kind ≡ 7 → ⊥) → kind ≡ 8 → value ≡ tokenValue w kind value size word
+  unfolding tokenValue
   value-at e f g = rw (← p) (search tests)
 
-  pub value-text : b ≡ false → (kind ≡ 7 → ⊥) → (kind ≡ 8 → ⊥) → size ≡ valueOf w kind value size word
-  unfolding valueOf
+  pub value-text : b ≡ false → (kind ≡ 7 → ⊥) → (kind ≡ 8 → ⊥) → size ≡ tokenValue w kind value size word
+  unfolding tokenValue
   value-text e f g = rw (← p) (search tests)
 
 pub ruleset valuing = (value-substitute, value-integer, value-at, value-text)

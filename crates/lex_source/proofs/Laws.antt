@@ -31,7 +31,7 @@ use Rattle.lex_lexeme.proofs.Gaps.{gap-in}
 use Rattle.lex_lexeme.proofs.Within.{LexemeIn, ReadingIn, next-in, text-named}
 use Rattle.lex_source.specs.Token.{Token, hasName, firstFrom, nameNumber, tokenOf}
 use Rattle.lex_source.specs.Faults.{rangeFault, lengthFault, limitFault, followFault, faultOf}
-use Rattle.lex_source.specs.Lex.{State, state, Outcome, accepted, refused, tokenStep, turnOf, lexStep, tokensFrom, lexOf}
+use Rattle.lex_source.specs.Lex.{State, state, Outcome, accepted, refused, tokenStep, readStep, lexStep, tokensFrom, lexOf}
 use Rattle.lex_source.specs.Rows.{rowOf, rowsOf, tokenTable}
 use Rattle.lex_source.proofs.Rows.{length-rows, row-read}
 use Rattle.lex_source.proofs.Least.{whole-clean, clean-limit, clean-length}
@@ -255,7 +255,7 @@ token-kept w s q (Open p) h i c = tt
 token-kept w s q (Whole x) h i c = good-more w s (q .tokens) (q .at) x h i c
 
 step-kept : (w : Width) (s : List ℕ) (q : State) → GoodState s q → Kept (GoodState s) (GoodOutcome s) (lexStep w s q)
-unfolding lexStep turnOf
+unfolding lexStep readStep
 step-kept w s q h =
     either (Kept (GoodState s) (GoodOutcome s)) (faultOf s (length (q .tokens)) (nextRead w s (q .at))) none _ _
     (λ _. tt)

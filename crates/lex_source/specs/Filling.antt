@@ -18,11 +18,11 @@ use Rattle.lex_lexeme.specs.Reading.{isNamed, nameStart, nextRead}
 use Rattle.lex_lexeme.specs.declared.Lexeme.{Lexeme}
 use Rattle.lex_lexeme.specs.declared.Reading.{Reading}
 use Rattle.lex_lexeme.specs.declared.Reading.the-variants.{End, Lone, Broken, Open, Whole}
-use Rattle.lex_source.specs.Token.{isSubstitute, valueOf}
+use Rattle.lex_source.specs.Token.{isSubstitute, tokenValue}
 use Rattle.lex_source.specs.Faults.{faultOf}
 use Rattle.lex_source.specs.declared.Row.{Row}
-use Rattle.lex_source.specs.declared.Turn.{Turn}
-use Rattle.lex_source.specs.declared.Turn.the-variants as turn
+use Rattle.lex_source.specs.declared.FillStep.{FillStep}
+use Rattle.lex_source.specs.declared.FillStep.the-variants as fillStep
 
 -- whether the token of row k has the name that starts at a place; the hash is compared first
 unfoldable pub rowNamed : List ℕ → List ℕ → ℕ → ℕ → ℕ → Bool
@@ -51,7 +51,7 @@ rowFrom w s t n x =
       kind = x .kind;
       first = x .first;
       next = x .next;
-      value = valueOf w (x .kind) (x .value) (x .size) (wordNamed (x .kind) (nameAt s (x .start)));
+      value = tokenValue w (x .kind) (x .value) (x .size) (wordNamed (x .kind) (nameAt s (x .start)));
       name = findName s t n (x .hash) (x .start);
       word = wordNamed (x .kind) (nameAt s (x .start));
       hash = x .hash;
@@ -60,7 +60,7 @@ rowFrom w s t n x =
       kind = x .kind;
       first = x .first;
       next = x .next;
-      value = valueOf w (x .kind) (x .value) (x .size) 0;
+      value = tokenValue w (x .kind) (x .value) (x .size) 0;
       name = 0;
       word = 0;
       hash = x .hash;
@@ -73,23 +73,23 @@ wordsOf r = r .kind ∷ r .first ∷ r .next ∷ r .value ∷ r .name ∷ r .wor
 unfoldable pub putRow : List ℕ → ℕ → Row → List ℕ
 putRow t n r = take (n * tokenRow) t ++ wordsOf r ++ drop (n * tokenRow + tokenRow) t
 
--- what one turn comes to, and the table then
-pub record Turned : Type 0 where
-  pub turn : Turn
+-- what reading one token comes to, and the table then
+pub record Filled : Type 0 where
+  pub fillStep : FillStep
   pub table : List ℕ
 
-abbrev pub turned : Turn → List ℕ → Turned
-turned x t = record { turn = x; table = t }
+abbrev pub filled : FillStep → List ℕ → Filled
+filled x t = record { fillStep = x; table = t }
 
-unfoldable pub fillBy : Width → List ℕ → List ℕ → ℕ → Reading → Turned
-fillBy w s t n End = turned turn.Done t
-fillBy w s t n (Lone p) = turned (turn.Fault none) t
-fillBy w s t n (Broken p) = turned (turn.Fault none) t
-fillBy w s t n (Open p) = turned (turn.Fault none) t
-fillBy w s t n (Whole x) = turned (turn.More (x .next)) (putRow t n (rowFrom w s t n x))
+unfoldable pub fillBy : Width → List ℕ → List ℕ → ℕ → Reading → Filled
+fillBy w s t n End = filled fillStep.Done t
+fillBy w s t n (Lone p) = filled (fillStep.Fault none) t
+fillBy w s t n (Broken p) = filled (fillStep.Fault none) t
+fillBy w s t n (Open p) = filled (fillStep.Fault none) t
+fillBy w s t n (Whole x) = filled (fillStep.More (x .next)) (putRow t n (rowFrom w s t n x))
 
-unfoldable pub fillTurn : Width → List ℕ → List ℕ → ℕ → Reading → Turned
-fillTurn w s t n r = ifLt (faultOf s n r) none (turned (turn.Fault (faultOf s n r)) t) (fillBy w s t n r)
+unfoldable pub fillReading : Width → List ℕ → List ℕ → ℕ → Reading → Filled
+fillReading w s t n r = ifLt (faultOf s n r) none (filled (fillStep.Fault (faultOf s n r)) t) (fillBy w s t n r)
 
-unfoldable pub turnAt : Width → List ℕ → List ℕ → ℕ → ℕ → Turned
-turnAt w s t n at = fillTurn w s t n (nextRead w s at)
+unfoldable pub fillAt : Width → List ℕ → List ℕ → ℕ → ℕ → Filled
+fillAt w s t n at = fillReading w s t n (nextRead w s at)

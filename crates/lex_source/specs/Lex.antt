@@ -40,11 +40,11 @@ tokenStep w s q (Open p) = stop (refused none)
 tokenStep w s q (Whole x) = go (state (x .next) (q .tokens ++ (tokenOf w s (q .tokens) x ∷ [])))
 
 -- the first token with a fault decides
-unfoldable pub turnOf : Width → List ℕ → State → Reading → Step State Outcome
-turnOf w s q r = ifLt (faultOf s (length (q .tokens)) r) none (stop (refused (faultOf s (length (q .tokens)) r))) (tokenStep w s q r)
+unfoldable pub readStep : Width → List ℕ → State → Reading → Step State Outcome
+readStep w s q r = ifLt (faultOf s (length (q .tokens)) r) none (stop (refused (faultOf s (length (q .tokens)) r))) (tokenStep w s q r)
 
 unfoldable pub lexStep : Width → List ℕ → State → Step State Outcome
-lexStep w s q = turnOf w s q (nextRead w s (q .at))
+lexStep w s q = readStep w s q (nextRead w s (q .at))
 
 unfoldable pub tokensFrom : Width → List ℕ → State → Outcome
 tokensFrom w s q = walk (lexStep w s) (refused none) (suc (length s)) q

@@ -38,8 +38,8 @@ unfoldable pub wordOf : ℕ → List ℕ → ℕ
 wordOf kind text = ifTrue (isNamed kind) (ifTrue (isSubstitute kind) (substituteOf text) (knownOf text)) 0
 
 -- an integer's word, also a substitute's; the number of bytes of any other text
-unfoldable pub valueOf : Width → ℕ → ℕ → ℕ → ℕ → ℕ
-valueOf w kind value size word =
+unfoldable pub tokenValue : Width → ℕ → ℕ → ℕ → ℕ → ℕ
+tokenValue w kind value size word =
     ifTrue (isSubstitute kind) (substituteValue w word)
     (ifEq kind token.integer value
     (ifEq kind token.atInteger value
@@ -64,7 +64,7 @@ tokenOf w s ts x =
       kind = x .kind;
       first = x .first;
       next = x .next;
-      value = valueOf w (x .kind) (x .value) (length (textOf s (x .kind) (x .start))) (wordOf (x .kind) (textOf s (x .kind) (x .start)));
+      value = tokenValue w (x .kind) (x .value) (length (textOf s (x .kind) (x .start))) (wordOf (x .kind) (textOf s (x .kind) (x .start)));
       text = textOf s (x .kind) (x .start);
       name = ifTrue (isNamed (x .kind)) (nameNumber ts (textOf s (x .kind) (x .start))) 0;
       word = wordOf (x .kind) (textOf s (x .kind) (x .start));

@@ -11,9 +11,9 @@ ghost use Prim.Native.Nat.{_+_, _*_, _≤_, _<_, _-_, min};
 ghost use lib.ListN.{length, take};
 ghost use Rattle.base_prelude.specs.Fault.{none};
 ghost use Rattle.lex_spelling.specs.Text.{nameAt, hashOf};
-ghost use Rattle.lex_source.specs.Token.{isSubstitute, substituteValue, valueOf};
+ghost use Rattle.lex_source.specs.Token.{isSubstitute, substituteValue, tokenValue};
 ghost use Rattle.lex_source.specs.Faults.{rangeFault, lengthFault, limitFault, followFault, faultOf};
-ghost use Rattle.lex_source.specs.Filling.{rowNamed, findName, wordNamed, rowFrom, putRow, turned, fillBy, fillTurn, turnAt};
+ghost use Rattle.lex_source.specs.Filling.{rowNamed, findName, wordNamed, rowFrom, putRow, filled, fillBy, fillReading, fillAt};
 ghost use mathlib.Core.List.{[]};
 ghost use Rattle.base_prelude.specs.Lists.{zeros};
 ghost use Rattle.base_limits.specs.Limits.{tokenRow};
@@ -37,8 +37,8 @@ pub struct Row {
     pub hash: u32,
 }
 
-// What one turn comes to: a token more, with the place behind it; the end; or a fault.
-pub enum Turn {
+// What reading one token comes to: a token more, with the place behind it; the end; or a fault.
+pub enum FillStep {
     More(usize),
     Done,
     Fault(u64),
@@ -71,7 +71,7 @@ fn substitute_value(w: Width, k: u32) -> u32
 
 fn value_of(w: Width, kind: u32, value: u32, size: usize, word: u32) -> u32
     requires { ⌜ size < 4294967296 ⌝ }
-    ensures { λ r. ⌜ r ≡ valueOf w kind value size word ⌝ }
+    ensures { λ r. ⌜ r ≡ tokenValue w kind value size word ⌝ }
 {
     if is_substitute(kind) {
         return substitute_value(w, word);
@@ -258,30 +258,30 @@ fn add_token(w: Width, s: &[u8], t: &mut [u32], n: usize, x: Lexeme)
     put_row(t, n, r);
 }
 
-fn fill(w: Width, s: &[u8], t: &mut [u32], n: usize, r: Reading) -> Turn
+fn fill(w: Width, s: &[u8], t: &mut [u32], n: usize, r: Reading) -> FillStep
     requires { ⌜ ReadingFits (now s) (now t) n r ⌝ }
-    ensures { λ x. ⌜ turned x (now (t .exit)) ≡ fillBy w (now (s .entry)) (now (t .entry)) n r ⌝ }
+    ensures { λ x. ⌜ filled x (now (t .exit)) ≡ fillBy w (now (s .entry)) (now (t .entry)) n r ⌝ }
 {
     match r {
-        Reading::End => Turn::Done,
-        Reading::Lone(_) => Turn::Fault(1099511627776),
-        Reading::Broken(_) => Turn::Fault(1099511627776),
-        Reading::Open(_) => Turn::Fault(1099511627776),
+        Reading::End => FillStep::Done,
+        Reading::Lone(_) => FillStep::Fault(1099511627776),
+        Reading::Broken(_) => FillStep::Fault(1099511627776),
+        Reading::Open(_) => FillStep::Fault(1099511627776),
         Reading::Whole(x) => {
             add_token(w, s, t, n, x);
-            Turn::More(x.next)
+            FillStep::More(x.next)
         }
     }
 }
 
-fn take_turn(w: Width, s: &[u8], t: &mut [u32], n: usize, at: usize) -> Turn
+fn fill_at(w: Width, s: &[u8], t: &mut [u32], n: usize, at: usize) -> FillStep
     requires { ⌜ (length (now s) ≤ 16384) × (length (now t) ≡ 32768) × (n ≤ 4096) × (at ≤ length (now s)) ⌝ }
-    ensures { λ x. ⌜ turned x (now (t .exit)) ≡ turnAt w (now (s .entry)) (now (t .entry)) n at ⌝ }
+    ensures { λ x. ⌜ filled x (now (t .exit)) ≡ fillAt w (now (s .entry)) (now (t .entry)) n at ⌝ }
 {
     let r = lex_lexeme::next_token(w, s, at);
     let k = fault_of(s, n, r);
     if k < 1099511627776 {
-        return Turn::Fault(k);
+        return FillStep::Fault(k);
     }
     fill(w, s, t, n, r)
 }
@@ -294,16 +294,16 @@ fn lex_from(w: Width, s: &[u8], t: &mut [u32]) -> Lexed
     let mut at: usize = 0;
     let mut n: usize = 0;
     loop {
-        match take_turn(w, s, t, n, at) {
-            Turn::More(next) => {
+        match fill_at(w, s, t, n, at) {
+            FillStep::More(next) => {
                 n += 1;
                 at = next;
             }
-            Turn::Done => {
+            FillStep::Done => {
                 base_prelude::clear_from(t, n * Machine::TOKEN_ROW);
                 return Lexed::Tokens(n);
             }
-            Turn::Fault(k) => {
+            FillStep::Fault(k) => {
                 base_prelude::clear_from(t, 0);
                 return Lexed::Refused {
                     number: (k % 64) as u32,

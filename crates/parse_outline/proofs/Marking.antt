@@ -33,11 +33,11 @@ pub rows-fit : (s : Marks) (k r : ℕ) → s .row ≤ 8195 → r ≡ rowsOf k �
 rows-fit s k r h e = omega (arith, rows-few k)
 
 module _ (t : List ℕ) (s : Marks) (x : List ℕ) (u : Span) (k : ℕ) (h : MarksFit t x s) (pu : u ≡ unitAt t (s .at)) where
-  pub turn-near : u .word ≤ 4097
-  turn-near = subst (λ (v : Span). v .word ≤ 4097) (sym pu) (unit-near t (s .at) (h .tokens) (h .near))
+  pub step-near : u .word ≤ 4097
+  step-near = subst (λ (v : Span). v .word ≤ 4097) (sym pu) (unit-near t (s .at) (h .tokens) (h .near))
 
-  pub turn-small : u .word < 4294967295
-  turn-small = omega (arith, turn-near)
+  pub step-small : u .word < 4294967295
+  step-small = omega (arith, step-near)
 
 pub marks-few : (t : List ℕ) (x : List ℕ) (s : Marks) → MarksFit t x s → s .labels ≤ 4097
 marks-few t x s h = omega (arith, h .few, h .near)
@@ -53,16 +53,16 @@ module _ (t : List ℕ) (s : Marks) (x : List ℕ) (u : Span) (k c : ℕ) (x′ 
   unfolding markStep
   on-is = ap₂ (λ (v : Span) (i : ℕ). markOn t v i (marking s x)) (sym pu) (sym kind-is)
 
-  pub turn-over : k ≡ 0 → going Over x′ ≡ markStep t (marking s x)
+  pub step-over : k ≡ 0 → going Over x′ ≡ markStep t (marking s x)
   unfolding markOn
-  turn-over e = ap (λ (m : Marked). stop (m .table)) pc ∙ sym (on-is ∙ ifEq-yes _ _ e)
+  step-over e = ap (λ (m : Marked). stop (m .table)) pc ∙ sym (on-is ∙ ifEq-yes _ _ e)
 
-  pub turn-on : (y : Marks) → (k ≡ 0 → ⊥) → y ≡ marksBehind u k s c → going (On y) x′ ≡ markStep t (marking s x)
+  pub step-on : (y : Marks) → (k ≡ 0 → ⊥) → y ≡ marksBehind u k s c → going (On y) x′ ≡ markStep t (marking s x)
   unfolding markOn
-  turn-on y e q =
+  step-on y e q =
       ap (λ (z : Marks). go (marking z x′)) q ∙ ap (λ (m : Marked). go (marking (marksBehind u k s (m .count)) (m .table))) pc ∙ sym (on-is ∙ ifEq-no _ _ e)
 
-pub ruleset turning = (turn-over, turn-on)
+pub ruleset stepping = (step-over, step-on)
 
 abbrev StepGood : List ℕ → Marks → Step Marking (List ℕ) → Type 0
 StepGood t s (go m) = MarksFit t (m .table) (m .state) × (s .at < m .state .at)

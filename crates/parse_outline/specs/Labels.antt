@@ -73,7 +73,7 @@ markOn t u k m =
 unfoldable pub markStep : List ℕ → Marking → Step Marking (List ℕ)
 markStep t m = markOn t (unitAt t (m .state .at)) (lineKind t (unitAt t (m .state .at) .word)) m
 
--- what a turn of the code comes to
+-- what one step of the code's loop comes to
 abbrev pub going : Going → List ℕ → Step Marking (List ℕ)
 going (On s) x = go (marking s x)
 going Over x = stop x

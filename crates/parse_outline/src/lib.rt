@@ -143,7 +143,7 @@ pub enum Going {
     Over,
 }
 
-fn mark_turn(t: &[u32], x: &mut [u32], s: Marks) -> Going
+fn mark_step(t: &[u32], x: &mut [u32], s: Marks) -> Going
     requires { ⌜ MarksFit (now t) (now x) s ⌝ }
     ensures { λ r. ⌜ going r (now (x .exit)) ≡ markStep (now (t .entry)) (marking s (now (x .entry))) ⌝ }
 {
@@ -162,7 +162,7 @@ fn marks_from(t: &[u32], x: &mut [u32], start: Marks)
 {
     let mut s = start;
     loop {
-        match mark_turn(t, x, s) {
+        match mark_step(t, x, s) {
             Going::On(y) => {
                 s = y;
             }

@@ -1,3 +1,3 @@
 pub mod Cases
 pub mod Bounds
-pub mod Turns
+pub mod UnitSteps

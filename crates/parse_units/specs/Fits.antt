@@ -17,7 +17,7 @@ pub record StepFits (rows : List ℕ) (u : Span) (k : ℕ) (s : State) : Type 0 
   pub lets : k ≡ kind.letLocal → s .locals < 64
   pub deep : k ≡ kind.block → s .depth < 16
 
-pub record TurnFits (t rows : List ℕ) (s : State) : Type 0 where
+pub record UnitStepFits (t rows : List ℕ) (s : State) : Type 0 where
   pub tokens : length t ≡ 32768
   pub long : length rows ≡ 8200
   pub near : s .at ≤ 4097

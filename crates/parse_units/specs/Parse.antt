@@ -21,8 +21,8 @@ use Rattle.parse_units.specs.Outline.{rowAt, putRow, rowIn, behind}
 use Rattle.parse_units.specs.Places.{groundIn, unitFault}
 use Rattle.parse_units.specs.declared.Row.{Row}
 use Rattle.parse_units.specs.declared.State.{State}
-use Rattle.parse_units.specs.declared.Turn.{Turn}
-use Rattle.parse_units.specs.declared.Turn.the-variants.{More, Done}
+use Rattle.parse_units.specs.declared.UnitStep.{UnitStep}
+use Rattle.parse_units.specs.declared.UnitStep.the-variants.{More, Done}
 use Rattle.parse_units.specs.declared.Verdict.{Verdict}
 use Rattle.parse_units.specs.declared.Verdict.the-variants.{Accepted, Refused}
 
@@ -101,8 +101,8 @@ pub record Result : Type 0 where
 abbrev pub result : Verdict → List ℕ → Result
 result v t = record { verdict = v; outline = t }
 
--- what a turn of the code comes to
-abbrev pub stepped : Turn → List ℕ → Step World Result
+-- what one step of the code's loop comes to
+abbrev pub stepped : UnitStep → List ℕ → Step World Result
 stepped (More s) t = go (world s t)
 stepped (Done v) t = stop (result v t)
 
@@ -113,21 +113,21 @@ unfoldable pub faultIn : Width → List ℕ → ℕ → Span → World → ℕ
 faultIn w t n u x = unitFault w t n u (lineKind t (u .word)) (groundIn (x .state) (openRow x)) (x .state)
 
 -- the unit at the state's token: refused, the end, or on to the next
-unfoldable pub turnOn : Width → List ℕ → ℕ → Span → World → Step World Result
-turnOn w t n u x =
+unfoldable pub unitStepOn : Width → List ℕ → ℕ → Span → World → Step World Result
+unitStepOn w t n u x =
     ifLt (faultIn w t n u x) none (stop (result (Refused (faultIn w t n u x)) (x .table)))
     (ifEq (lineKind t (u .word)) kind.edge (stop (result (Accepted (x .state .count) (x .state .labels)) (x .table)))
     (go (advance t n u (lineKind t (u .word)) x)))
 
-unfoldable pub turnOf : Width → List ℕ → ℕ → World → Step World Result
-turnOf w t n x = turnOn w t n (unitAt t (x .state .at)) x
+unfoldable pub unitStep : Width → List ℕ → ℕ → World → Step World Result
+unitStep w t n x = unitStepOn w t n (unitAt t (x .state .at)) x
 
 -- before the first unit
 abbrev pub begin : State
 begin = record { at = 0; count = 1; top = 0; section = ground.beforeSections; locals = 0; depth = 0; labels = 0 }
 
 unfoldable pub parseFrom : Width → List ℕ → ℕ → World → Result
-parseFrom w t n x = walk (turnOf w t n) (result (Refused none) []) (suc (length t)) x
+parseFrom w t n x = walk (unitStep w t n) (result (Refused none) []) (suc (length t)) x
 
 -- the tokens t of a source of n bytes; 8,200 words hold the edge and 1,024 rows
 unfoldable pub parseOf : Width → List ℕ → ℕ → Result

@@ -24,8 +24,8 @@ ghost use Rattle.parse_shapes.specs.Shapes.{operandCount};
 ghost use Rattle.base_prelude.specs.Lists.{zeros};
 ghost use Rattle.lang_kinds.specs.Kinds as kind;
 ghost use Rattle.lang_words.specs.Numbers as word;
-ghost use Rattle.parse_units.specs.Parse.{world, putState, putKind, growTwo, growBy, localsBehind, depthBehind, sectionBehind, stateBehind, joinState, advance, result, stepped, turnOf, parseFrom, parseOf, begin};
-ghost use Rattle.parse_units.specs.Fits.{StepFits, TurnFits};
+ghost use Rattle.parse_units.specs.Parse.{world, putState, putKind, growTwo, growBy, localsBehind, depthBehind, sectionBehind, stateBehind, joinState, advance, result, stepped, unitStep, parseFrom, parseOf, begin};
+ghost use Rattle.parse_units.specs.Fits.{StepFits, UnitStepFits};
 
 // Sizes of the outline's tables.
 pub struct Outline {}
@@ -118,8 +118,8 @@ pub enum Verdict {
     Refused(u64),
 }
 
-// What a turn comes to: the next state, or the verdict.
-pub enum Turn {
+// What one unit comes to: the next state, or the verdict.
+pub enum UnitStep {
     More(State),
     Done(Verdict),
 }
@@ -537,37 +537,37 @@ fn step_on(t: &[u32], n: u32, rows: &mut [u32], u: Span, k: u32, s: State) -> St
     join_state(b, g)
 }
 
-fn take_turn(w: Width, t: &[u32], n: u32, rows: &mut [u32], s: State) -> Turn
-    requires { ⌜ TurnFits (now t) (now rows) s ⌝ }
-    ensures { λ r. ⌜ stepped r (now (rows .exit)) ≡ turnOf w (now (t .entry)) n (world s (now (rows .entry))) ⌝ }
+fn step_unit(w: Width, t: &[u32], n: u32, rows: &mut [u32], s: State) -> UnitStep
+    requires { ⌜ UnitStepFits (now t) (now rows) s ⌝ }
+    ensures { λ r. ⌜ stepped r (now (rows .exit)) ≡ unitStep w (now (t .entry)) n (world s (now (rows .entry))) ⌝ }
 {
     let u = parse_lines::unit_at(t, s.at);
     let k = parse_lines::line_kind(t, u.word);
     let o = row_at(rows, s.top);
     let f = unit_fault(w, t, n, u, k, ground_in(s, o), s);
     if f < 1099511627776 {
-        return Turn::Done(Verdict::Refused(f));
+        return UnitStep::Done(Verdict::Refused(f));
     }
     if k == Kind::EDGE {
-        return Turn::Done(Verdict::Accepted {
+        return UnitStep::Done(Verdict::Accepted {
             count: s.count,
             labels: s.labels,
         });
     }
-    Turn::More(step_on(t, n, rows, u, k, s))
+    UnitStep::More(step_on(t, n, rows, u, k, s))
 }
 
 fn parse_from(w: Width, t: &[u32], n: u32, rows: &mut [u32], start: State) -> Verdict
-    requires { ⌜ TurnFits (now t) (now rows) start × (start .labels ≤ start .at) ⌝ }
+    requires { ⌜ UnitStepFits (now t) (now rows) start × (start .labels ≤ start .at) ⌝ }
     ensures { λ r. ⌜ result r (now (rows .exit)) ≡ parseFrom w (now (t .entry)) n (world start (now (rows .entry))) ⌝ }
 {
     let mut s = start;
     loop {
-        match take_turn(w, t, n, rows, s) {
-            Turn::More(x) => {
+        match step_unit(w, t, n, rows, s) {
+            UnitStep::More(x) => {
                 s = x;
             }
-            Turn::Done(v) => {
+            UnitStep::Done(v) => {
                 return v;
             }
         }

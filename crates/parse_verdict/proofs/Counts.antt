@@ -20,12 +20,12 @@ use Rattle.parse_lines.specs.declared.Span.{Span}
 use Rattle.parse_rules.specs.Rules.{labelLimit, labelKey, labelled, labelStep, labelsFrom, labelsRule}
 use Rattle.parse_rules.specs.declared.Labelled.{Labelled}
 use Rattle.parse_units.specs.Places.{groundIn, lineFaults, unitFault}
-use Rattle.parse_units.specs.Parse.{World, world, Result, result, begin, stateBehind, joinState, advance, openRow, faultIn, turnOn, turnOf, parseFrom, parseOf}
-use Rattle.parse_units.specs.Fits.{TurnFits}
+use Rattle.parse_units.specs.Parse.{World, world, Result, result, begin, stateBehind, joinState, advance, openRow, faultIn, unitStepOn, unitStep, parseFrom, parseOf}
+use Rattle.parse_units.specs.Fits.{UnitStepFits}
 use Rattle.parse_units.specs.declared.State.{State}
 use Rattle.parse_units.specs.declared.Verdict.{Verdict}
 use Rattle.parse_units.specs.declared.Verdict.the-variants.{Accepted, Refused}
-use Rattle.parse_units.proofs.Turns.{TurnGood, turn-good}
+use Rattle.parse_units.proofs.UnitSteps.{UnitStepGood, unit-step-good}
 use Rattle.parse_outline.specs.Outline.{answerOf, outlineOf}
 use Rattle.parse_outline.specs.declared.Parsed.{Parsed}
 use Rattle.parse_outline.specs.declared.Parsed.the-variants as answer
@@ -80,7 +80,7 @@ labels-clean w t n u k g s c = omega (arith, lines-clean w t n u k g s c)
 
 -- between two units
 abbrev Counted : List ℕ → World → Type 0
-Counted t x = TurnFits t (x .table) (x .state) × (x .state .labels ≤ x .state .at) × (x .state .labels ≤ 256)
+Counted t x = UnitStepFits t (x .table) (x .state) × (x .state .labels ≤ x .state .at) × (x .state .labels ≤ 256)
 
 -- an answer
 abbrev Few : Verdict → Type 0
@@ -99,16 +99,16 @@ module _ (w : Width) (t : List ℕ) (n : ℕ) (x : World) (h : Counted t x) wher
       unit-few t n (unitAt t (x .state .at)) (x .state .labels) (h .2)
       (labels-clean w t n (unitAt t (x .state .at)) (lineKind t (unitAt t (x .state .at) .word)) (groundIn (x .state) (openRow x)) (x .state) c)
 
-  turn-few : FewLabels (turnOf w t n x)
-  unfolding turnOf turnOn
-  turn-few =
+  unit-step-few : FewLabels (unitStep w t n x)
+  unfolding unitStep unitStepOn
+  unit-step-few =
       either FewLabels (faultIn w t n (unitAt t (x .state .at)) x) none _ _ (λ _. tt) (λ c.
       either-eq FewLabels (lineKind t (unitAt t (x .state .at) .word)) 0 _ _ (λ _. (h .0 .free, h .2)) (λ _. behind-few c))
 
-  turn-counted : Kept (Counted t) (λ (r : Result). Few (r .verdict)) (turnOf w t n x)
-  turn-counted = by (turnOf w t n x) (turn-good w t n (x .state) (x .table) (h .0) (h .1)) turn-few
+  unit-step-counted : Kept (Counted t) (λ (r : Result). Few (r .verdict)) (unitStep w t n x)
+  unit-step-counted = by (unitStep w t n x) (unit-step-good w t n (x .state) (x .table) (h .0) (h .1)) unit-step-few
     where
-      by : (s : Step World Result) → TurnGood t (x .state) s → FewLabels s → Kept (Counted t) (λ (r : Result). Few (r .verdict)) s
+      by : (s : Step World Result) → UnitStepGood t (x .state) s → FewLabels s → Kept (Counted t) (λ (r : Result). Few (r .verdict)) s
       by (go y) g f = (g .0 .0, g .0 .1, f)
       by (stop r) g f = f
 
@@ -122,7 +122,7 @@ begin-counted t e = (
 parse-few : (w : Width) (t : List ℕ) (n : ℕ) → length t ≡ 32768 → Few (parseOf w t n .verdict)
 unfolding parseOf parseFrom
 parse-few w t n e =
-    walk-kept (Counted t) (λ (r : Result). Few (r .verdict)) (turnOf w t n) (result (Refused none) []) tt (turn-counted w t n)
+    walk-kept (Counted t) (λ (r : Result). Few (r .verdict)) (unitStep w t n) (result (Refused none) []) tt (unit-step-counted w t n)
     (suc (length t)) (world begin (zeros 8200)) (begin-counted t e)
 
 abbrev FewAnswer : Parsed → Type 0

@@ -23,12 +23,12 @@ use Rattle.parse_lines.specs.Units.{spanFrom, spanOf, unitAt}
 use Rattle.parse_lines.specs.Lines.{otherKind, lineKind}
 use Rattle.parse_lines.specs.declared.Span.{Span}
 use Rattle.parse_units.specs.Places.{groundIn, unitFault}
-use Rattle.parse_units.specs.Parse.{World, world, Result, result, begin, stateBehind, joinState, advance, openRow, faultIn, turnOn, turnOf, parseFrom, parseOf}
-use Rattle.parse_units.specs.Fits.{TurnFits}
+use Rattle.parse_units.specs.Parse.{World, world, Result, result, begin, stateBehind, joinState, advance, openRow, faultIn, unitStepOn, unitStep, parseFrom, parseOf}
+use Rattle.parse_units.specs.Fits.{UnitStepFits}
 use Rattle.parse_units.specs.declared.Verdict.{Verdict}
 use Rattle.parse_units.specs.declared.Verdict.the-variants.{Accepted, Refused}
 use Rattle.parse_units.proofs.Bounds.{unit-order, line-some}
-use Rattle.parse_units.proofs.Turns.{TurnGood, turn-good}
+use Rattle.parse_units.proofs.UnitSteps.{UnitStepGood, unit-step-good}
 use Rattle.parse_verdict.specs.Verdict.{kindIn, faultAt, nextWorld, faultsFrom, allFaults, verdictOf, All, Clean, keyOf, Rising}
 use Rattle.parse_verdict.proofs.Found.{Found, nothing, found, unit-found}
 
@@ -189,17 +189,17 @@ module _ (t : List ℕ) (n : ℕ) (r : Rising t n) where
               ⊎-elim (λ g. omega arith) (λ z. absurd (e z)) (rest-low k x (later-low k (nextWorld t n x)))
         ])
 
-    turn-fault : (x : World) → faultAt w t n x < none → turnOf w t n x ≡ stop (result (Refused (faultAt w t n x)) (x .table))
-    unfolding turnOf turnOn faultAt
-    turn-fault x h = ifLt-yes _ _ h
+    unit-step-fault : (x : World) → faultAt w t n x < none → unitStep w t n x ≡ stop (result (Refused (faultAt w t n x)) (x .table))
+    unfolding unitStep unitStepOn faultAt
+    unit-step-fault x h = ifLt-yes _ _ h
 
-    turn-edge : (x : World) → none ≤ faultAt w t n x → kindIn t x ≡ 0 → turnOf w t n x ≡ stop (result (Accepted (x .state .count) (x .state .labels)) (x .table))
-    unfolding turnOf turnOn faultAt kindIn
-    turn-edge x h e = ifLt-no _ _ h ∙ ifEq-yes _ _ e
+    unit-step-edge : (x : World) → none ≤ faultAt w t n x → kindIn t x ≡ 0 → unitStep w t n x ≡ stop (result (Accepted (x .state .count) (x .state .labels)) (x .table))
+    unfolding unitStep unitStepOn faultAt kindIn
+    unit-step-edge x h e = ifLt-no _ _ h ∙ ifEq-yes _ _ e
 
-    turn-on : (x : World) → none ≤ faultAt w t n x → (kindIn t x ≡ 0 → ⊥) → turnOf w t n x ≡ go (nextWorld t n x)
-    unfolding turnOf turnOn faultAt kindIn nextWorld
-    turn-on x h e = ifLt-no _ _ h ∙ ifEq-no _ _ e
+    unit-step-on : (x : World) → none ≤ faultAt w t n x → (kindIn t x ≡ 0 → ⊥) → unitStep w t n x ≡ go (nextWorld t n x)
+    unfolding unitStep unitStepOn faultAt kindIn nextWorld
+    unit-step-on x h e = ifLt-no _ _ h ∙ ifEq-no _ _ e
 
     skip-first : (k : ℕ) (x : World) → none ≤ faultAt w t n x → leastOf (faultsFrom (suc k) w t n x) ≡ leastOf (ifEq (kindIn t x) 0 [] (faultsFrom k w t n (nextWorld t n x)))
     unfolding faultsFrom
@@ -208,15 +208,15 @@ module _ (t : List ℕ) (n : ℕ) (r : Rising t n) where
         ∙ min-eq-right (omega (arith, least-none (ifEq (kindIn t x) 0 [] (faultsFrom k w t n (nextWorld t n x)))))
 
     -- the walk over units finds the least over all of them
-    decides : (k : ℕ) (x : World) → keyOf (walk (turnOf w t n) (result (Refused none) []) k x .verdict) ≡ leastOf (faultsFrom k w t n x)
+    decides : (k : ℕ) (x : World) → keyOf (walk (unitStep w t n) (result (Refused none) []) k x .verdict) ≡ leastOf (faultsFrom k w t n x)
     unfolding walk faultsFrom leastOf
     decides zero x = refl
     decides (suc k) x =
         elim (decLt (faultAt w t n x) none) [
-          | yes h ↦ ap (λ (y : Result). keyOf (y .verdict)) (walk-stop (turnOf w t n) (result (Refused none) []) k x _ (turn-fault x h)) ∙ sym (first-least k x h)
+          | yes h ↦ ap (λ (y : Result). keyOf (y .verdict)) (walk-stop (unitStep w t n) (result (Refused none) []) k x _ (unit-step-fault x h)) ∙ sym (first-least k x h)
           | no h ↦ elim (ℕ-discrete (kindIn t x) 0) [
-            | yes e ↦ ap (λ (y : Result). keyOf (y .verdict)) (walk-stop (turnOf w t n) (result (Refused none) []) k x _ (turn-edge x (omega arith) e)) ∙ sym (skip-first k x (omega arith) ∙ rest-edge k x e)
-            | no e ↦ ap (λ (y : Result). keyOf (y .verdict)) (walk-go (turnOf w t n) (result (Refused none) []) k x _ (turn-on x (omega arith) e)) ∙ decides k (nextWorld t n x)
+            | yes e ↦ ap (λ (y : Result). keyOf (y .verdict)) (walk-stop (unitStep w t n) (result (Refused none) []) k x _ (unit-step-edge x (omega arith) e)) ∙ sym (skip-first k x (omega arith) ∙ rest-edge k x e)
+            | no e ↦ ap (λ (y : Result). keyOf (y .verdict)) (walk-go (unitStep w t n) (result (Refused none) []) k x _ (unit-step-on x (omega arith) e)) ∙ decides k (nextWorld t n x)
                 ∙ sym (skip-first k x (omega arith) ∙ ap leastOf (ifEq-no [] (faultsFrom k w t n (nextWorld t n x)) e))
           ]
         ]
@@ -244,23 +244,23 @@ abbrev StopReal : Step World Result → Type 0
 StopReal (go z) = Unit {0}
 StopReal (stop z) = RealV (z .verdict)
 
-turn-stop : (w : Width) (t : List ℕ) (n : ℕ) (x : World) → StopReal (turnOf w t n x)
-unfolding turnOf turnOn
-turn-stop w t n x =
+unit-step-stop : (w : Width) (t : List ℕ) (n : ℕ) (x : World) → StopReal (unitStep w t n x)
+unfolding unitStep unitStepOn
+unit-step-stop w t n x =
     either StopReal (faultIn w t n (unitAt t (x .state .at)) x) none _ _ (λ h. h) (λ _.
     either-eq StopReal (lineKind t (unitAt t (x .state .at) .word)) 0 _ _ (λ _. tt) (λ _. tt))
 
-stop-real : (w : Width) (t : List ℕ) (n : ℕ) (x : World) (y : Result) → turnOf w t n x ≡ stop y → RealV (y .verdict)
-stop-real w t n x y e = subst StopReal e (turn-stop w t n x)
+stop-real : (w : Width) (t : List ℕ) (n : ℕ) (x : World) (y : Result) → unitStep w t n x ≡ stop y → RealV (y .verdict)
+stop-real w t n x y e = subst StopReal e (unit-step-stop w t n x)
 
 abbrev FitWorld : List ℕ → World → Type 0
-FitWorld t x = TurnFits t (x .table) (x .state) × (x .state .labels ≤ x .state .at)
+FitWorld t x = UnitStepFits t (x .table) (x .state) × (x .state .labels ≤ x .state .at)
 
-turn-real : (w : Width) (t : List ℕ) (n : ℕ) (x : World) → FitWorld t x
-    → Ends (FitWorld t) (λ (y : Result). RealV (y .verdict)) (λ (y : World). 4097 - y .state .at) x (turnOf w t n x)
-turn-real w t n x h = by (turnOf w t n x) refl (turn-good w t n (x .state) (x .table) (h .0) (h .1))
+unit-step-real : (w : Width) (t : List ℕ) (n : ℕ) (x : World) → FitWorld t x
+    → Ends (FitWorld t) (λ (y : Result). RealV (y .verdict)) (λ (y : World). 4097 - y .state .at) x (unitStep w t n x)
+unit-step-real w t n x h = by (unitStep w t n x) refl (unit-step-good w t n (x .state) (x .table) (h .0) (h .1))
   where
-    by : (s : Step World Result) → turnOf w t n x ≡ s → TurnGood t (x .state) s → Ends (FitWorld t) (λ (y : Result). RealV (y .verdict)) (λ (y : World). 4097 - y .state .at) x s
+    by : (s : Step World Result) → unitStep w t n x ≡ s → UnitStepGood t (x .state) s → Ends (FitWorld t) (λ (y : Result). RealV (y .verdict)) (λ (y : World). 4097 - y .state .at) x s
     by (go y) e g = (g .0, omega (arith, g .1, g .0 .0 .near))
     by (stop y) e g = stop-real w t n x y e
 
@@ -270,7 +270,7 @@ begin-fits t e = (record { tokens = e; long = length-replicate {A = ℕ} 8200 0;
 pub parse-real : (w : Width) (t : List ℕ) (n : ℕ) → length t ≡ 32768 → RealV (parseOf w t n .verdict)
 unfolding parseOf parseFrom
 parse-real w t n e =
-    walk-ends (FitWorld t) (λ (y : Result). RealV (y .verdict)) (λ (y : World). 4097 - y .state .at) (turnOf w t n) (result (Refused none) []) (turn-real w t n)
+    walk-ends (FitWorld t) (λ (y : Result). RealV (y .verdict)) (λ (y : World). 4097 - y .state .at) (unitStep w t n) (result (Refused none) []) (unit-step-real w t n)
     (suc (length t)) (world begin (zeros 8200)) (omega arith) (begin-fits t e)
 
 real-none : (v : Verdict) → RealV v → keyOf v ≡ none → isAccepted v ≡ true

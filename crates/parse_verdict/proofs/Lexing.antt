@@ -27,7 +27,7 @@ use Rattle.lex_lexeme.proofs.Gaps.{gap-in}
 use Rattle.lex_lexeme.proofs.Within.{LexemeIn, ReadingIn, next-in}
 use Rattle.lex_source.specs.Token.{Token, tokenOf}
 use Rattle.lex_source.specs.Faults.{rangeFault, lengthFault, limitFault, followFault, faultOf}
-use Rattle.lex_source.specs.Lex.{State, state, Outcome, accepted, refused, tokenStep, turnOf, lexStep, tokensFrom, lexOf}
+use Rattle.lex_source.specs.Lex.{State, state, Outcome, accepted, refused, tokenStep, readStep, lexStep, tokensFrom, lexOf}
 use Rattle.lex_source.proofs.Least.{lone-fault, broken-fault, open-fault, fault-end, fault-lone, fault-broken, fault-open, fault-whole}
 use Rattle.parse_verdict.specs.Verdict.{All, Clean}
 use Rattle.parse_verdict.specs.Lexing.{faultsBehind, tokenFaults, lexFaults, lexKey}
@@ -45,11 +45,11 @@ module _ (w : Width) (s : List ℕ) where
   faultIn q = faultOf s (length (q .tokens)) (nextRead w s (q .at))
 
   step-fault : (q : State) → faultIn q < none → lexStep w s q ≡ stop (refused (faultIn q))
-  unfolding lexStep turnOf
+  unfolding lexStep readStep
   step-fault q h = ifLt-yes _ _ h
 
   step-fine : (q : State) → none ≤ faultIn q → lexStep w s q ≡ tokenStep w s q (readIn q)
-  unfolding lexStep turnOf
+  unfolding lexStep readStep
   step-fine q h = ifLt-no _ _ h
 
   -- an accepted source has no fault

@@ -8,13 +8,12 @@ use native.Mathlib.Nat.{not-suc-le-zero}
 use native.Mathlib.Decide.{ℕ-discrete}
 use native.Mathlib.Omega.{arith}
 use borrow.Author.Tests.{eq-eqb, ne-eqb, le-leb, lt-leb}
-use lib.Dec.{eqb, ltb, leb}
+use lib.Dec.{eqb, leb}
 use Rattle.base_prelude.specs.Choice.{ifTrue, ifEq}
-use Rattle.prog_tables.specs.Tests.{oneOf, firstFrom, countBelow, someBelow}
+use Rattle.prog_tables.specs.Tests.{firstFrom, countBelow}
 use Rattle.prog_tables.specs.Statement.{Row, isTest}
 use Rattle.prog_tables.specs.Nesting.{isArm, isEndIf, nextArm, endIfOf, pastArm, targetOf, encloses}
-use Rattle.prog_tables.specs.Frames.{letsBefore, firstLet, letSeen, isParameter, seenAt, inScope, localsAt}
-use Rattle.prog_tables.proofs.Each.{some-at}
+use Rattle.prog_tables.specs.Frames.{letsBefore, firstLet, letSeen, localsAt}
 
 -- ---- one row
 
@@ -163,25 +162,7 @@ module _ (f : ℕ → Row) (s i : ℕ) where
     unfolding letSeen
     seen-other h = rw (← g, ne-eqb _ _ h)
 
-  module _ (w : ℕ) (b : Bool) (d : b ≡ letSeen f s i) where
-    pub seen-word : (a : ℕ) → b ≡ true → a ≡ f i .a → eqb a w ≡ seenAt f s w i
-    unfolding seenAt
-    seen-word a q e = rw (← d, q, ← e)
-
-    pub seen-not : b ≡ false → false ≡ seenAt f s w i
-    unfolding seenAt
-    seen-not q = rw (← d, q)
-
-module _ (p w : ℕ) where
-  pub parameter-in : 3 ≤ w → ltb (w - 3) p ≡ isParameter p w
-  unfolding isParameter
-  parameter-in h = rw (le-leb _ _ h)
-
-  pub parameter-low : w < 3 → false ≡ isParameter p w
-  unfolding isParameter
-  parameter-low h = rw (lt-leb _ _ h)
-
-pub ruleset seeing = (seen-let, seen-other, seen-word, seen-not, parameter-in, parameter-low)
+pub ruleset seeing = (seen-let, seen-other)
 
 -- the loop of `locals_at`
 pub record Seeing (f : ℕ → Row) (s n seen i : ℕ) : Type 0 where
@@ -209,32 +190,3 @@ module _ (f : ℕ → Row) (s n seen i : ℕ) (h : Seeing f s n seen i) where
   seeing-done g p l q d r = let e : i ≡ n = omega (arith, h .below) in rw (← q, ← d, ← r) (ap (λ (k : ℕ). p + k) (rw e at (h .same)))
 
 pub ruleset counted = (seeing-start, seeing-let, seeing-other, seeing-done)
-
--- the loop of `is_in_scope`
-pub record Looking (f : ℕ → Row) (s w n i : ℕ) : Type 0 where
-  pub below : i ≤ n
-  pub none : someBelow (seenAt f s w) i ≡ false
-
-pub looking-start : (f : ℕ → Row) (s w n : ℕ) → Looking f s w n 0
-unfolding someBelow
-looking-start f s w n = record { below = omega arith; none = refl }
-
-module _ (f : ℕ → Row) (n w g p : ℕ) (v : Bool) (d : g ≡ f n .func) (r : p ≡ f g .b) (t : v ≡ isParameter p w) where
-  pub scope-parameter : v ≡ true → true ≡ inScope f n w
-  unfolding inScope
-  scope-parameter q = rw (← d, ← r, ← t, q)
-
-  module _ (s i : ℕ) (e : s ≡ f n .scope) (q : v ≡ false) (h : Looking f s w n i) where
-    pub looking-found : (b : Bool) → i < n → b ≡ seenAt f s w i → b ≡ true → true ≡ inScope f n w
-    unfolding inScope
-    looking-found b l a k = rw (← d, ← r, ← t, q, ← e) (sym (some-at (seenAt f s w) n i l (sym a ∙ k)))
-
-    pub looking-none : n ≤ i → false ≡ inScope f n w
-    unfolding inScope
-    looking-none l = let o : i ≡ n = omega (arith, h .below) in rw (← d, ← r, ← t, q, ← e) (sym (rw o at (h .none)))
-
-pub looking-more : (f : ℕ → Row) (n w s i : ℕ) (b : Bool) → Looking f s w n i → i < n → b ≡ seenAt f s w i → b ≡ false → Looking f s w n (i + 1)
-unfolding someBelow
-looking-more f n w s i b h l a k = record { below = omega arith; none = rw (add-one i, ← a, k) (h .none) }
-
-pub ruleset looking = (looking-start, looking-more, looking-found, looking-none, scope-parameter)

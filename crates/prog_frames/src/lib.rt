@@ -1,11 +1,10 @@
-// Nesting and frames: targets, what a frame needs, the words of lets and blocks, what is in scope.
+// Nesting and frames: targets, what a frame needs, the words of lets and blocks, the locals in scope.
 use lang_kinds::Kind;
-use prog_tables::Table;
 ghost use mathlib.Core.Path.{_≡_};
 ghost use Prim.Native.Nat.{_+_, _*_, _≤_, _<_, max};
 ghost use Rattle.prog_tables.specs.Statement.{rowAt};
 ghost use Rattle.prog_tables.specs.Nesting.{isArm, isEndIf, nextArm, endIfOf, targetOf, encloses};
-ghost use Rattle.prog_tables.specs.Frames.{isIn, letsBefore, needOf, frameSize, firstLet, blockWord, letWord, letSeen, isParameter, seenAt, inScope, localsAt};
+ghost use Rattle.prog_tables.specs.Frames.{isIn, letsBefore, needOf, firstLet, blockWord, letWord, letSeen, localsAt};
 
 // Whether a row is of a kind and stands in a frame.
 pub fn is_in(t: &[u32], k: u32, s: u32, i: u32) -> bool
@@ -63,14 +62,6 @@ pub fn need(t: &[u32], c: u32, depth: u32, s: u32) -> u32
         }
     }
     lets + most
-}
-
-// The frame size of a function.
-pub fn frame_size(t: &[u32], c: u32, s: u32) -> u32
-    requires { ⌜ (c ≤ 1024) × (rowAt (now t) s .b ≤ 8) ⌝ }
-    ensures { λ r. ⌜ r ≡ frameSize (rowAt (now (t .entry))) c s ⌝ }
-{
-    Table::FRAME_HEAD + prog_tables::parameters_at(t, s) + need(t, c, 17, s)
 }
 
 // Whether a row changes or ends an if, with u around it.
@@ -234,43 +225,4 @@ pub fn locals_at(t: &[u32], n: u32) -> u64
         }
     }
     p as u64 + seen as u64
-}
-
-// Whether a word is that of a parameter.
-fn is_parameter(p: u32, w: u32) -> bool
-    ensures { λ r. ⌜ r ≡ isParameter p w ⌝ }
-{
-    if Table::FRAME_HEAD <= w {
-        return w - Table::FRAME_HEAD < p;
-    }
-    false
-}
-
-// Whether the let at row i has the word w and is in scope in frame s.
-fn is_seen_at(t: &[u32], s: u32, w: u32, i: u32) -> bool
-    ensures { λ r. ⌜ r ≡ seenAt (rowAt (now (t .entry))) s w i ⌝ }
-{
-    if is_seen(t, s, i) {
-        return prog_tables::a_at(t, i) == w;
-    }
-    false
-}
-
-// Whether a word is that of a local in scope at a row.
-pub fn is_in_scope(t: &[u32], n: u32, w: u32) -> bool
-    ensures { λ r. ⌜ r ≡ inScope (rowAt (now (t .entry))) n w ⌝ }
-{
-    let s = prog_tables::scope_at(t, n);
-    let p = prog_tables::parameters_at(t, prog_tables::func_at(t, n));
-    if is_parameter(p, w) {
-        return true;
-    }
-    let mut i: u32 = 0;
-    while i < n {
-        if is_seen_at(t, s, w, i) {
-            return true;
-        }
-        i += 1;
-    }
-    false
 }

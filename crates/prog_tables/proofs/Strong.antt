@@ -8,7 +8,7 @@ use lib.ListN.{set, replicate}
 use Rattle.base_prelude.specs.Choice.{ifLt, ifEq, ifTrue}
 use Rattle.base_prelude.specs.Lists.{sameList}
 use Rattle.lang_kinds.specs.Nesting.{statementIn, standsIn, enters, leaves, groundOf, isFrame}
-use Rattle.lang_words.specs.Words.{words, firstOf, isNamed, isNumber, entryNamed, entryOf, numberOf, leastOperands}
+use Rattle.lang_words.specs.Words.{words, firstOf, isSpelled, isNumber, entryNamed, entryOf, numberOf, leastOperands}
 use Rattle.prog_tables.specs.Layout.{statementRow, labelRow}
 use Rattle.prog_tables.specs.Tests.{all, some, allOf, someOf, allBelow, someBelow, countBelow, greatestBelow, firstFrom}
 use Rattle.prog_tables.specs.Statement.{operandOf, operandKind, operandNumber, hasExpression, isTest, isOperator, isCall, expressionUses, usedBy, operandAt, slots, rowFrom, rowAt, slotWords, encode}
@@ -257,5 +257,5 @@ pub record Strong : Type 0 where
   pub unused : canonical (statement arms 8 5 9) ≡ false
 
 pub strong : Strong
-unfolding ifLt ifEq ifTrue sameList words firstOf isNamed isNumber entryNamed entryOf numberOf leastOperands statementIn standsIn enters leaves groundOf isFrame all some allOf someOf allBelow someBelow countBelow greatestBelow firstFrom operandOf operandKind operandNumber hasExpression isTest isOperator isCall expressionUses usedBy operandAt slots rowFrom rowAt slotWords encode labelAt isData isFunctionLabel behind openBefore groundIn funcIn scopeIn upIn isListed mayStand followsJump stands allClosed isArm isEndIf nextArm endIfOf pastArm targetOf hasTarget depthOf encloses isIn letsBefore blockNeed needOf frameSize firstLet blockWord letWord letSeen isParameter seenAt inScope localsAt expressionListed inFunction sizeAt operandFault addressListed kindFault targetFault calleeFault sizeFault ownWord hasWord wordFault operandsFault addressFault rowFault labelFault countFault tablesFault shallow aimed labelled jumps calls hasOperands shaped operandGood operandsGood addressGood setsLocal framed fewLocals rowTests names nameGood nameNew labelTests countsGood wellFormed usesWord unusedZero labelUnusedZero zeroFrom canonical
+unfolding ifLt ifEq ifTrue sameList words firstOf isSpelled isNumber entryNamed entryOf numberOf leastOperands statementIn standsIn enters leaves groundOf isFrame all some allOf someOf allBelow someBelow countBelow greatestBelow firstFrom operandOf operandKind operandNumber hasExpression isTest isOperator isCall expressionUses usedBy operandAt slots rowFrom rowAt slotWords encode labelAt isData isFunctionLabel behind openBefore groundIn funcIn scopeIn upIn isListed mayStand followsJump stands allClosed isArm isEndIf nextArm endIfOf pastArm targetOf hasTarget depthOf encloses isIn letsBefore blockNeed needOf frameSize firstLet blockWord letWord letSeen isParameter seenAt inScope localsAt expressionListed inFunction sizeAt operandFault addressListed kindFault targetFault calleeFault sizeFault ownWord hasWord wordFault operandsFault addressFault rowFault labelFault countFault tablesFault shallow aimed labelled jumps calls hasOperands shaped operandGood operandsGood addressGood setsLocal framed fewLocals rowTests names nameGood nameNew labelTests countsGood wellFormed usesWord unusedZero labelUnusedZero zeroFrom canonical
 strong = record { page-good = refl; page-canonical = refl; page-sound = refl; arms-good = refl; arms-canonical = refl; arms-sound = refl; frames-good = refl; frames-canonical = refl; frames-sound = refl; kind = refl; func = refl; scope = refl; up = refl; cut = refl; let-in-if = refl; jump-test = refl; false-test = refl; false-else = refl; else-past = refl; jump = refl; goto-place = refl; goto-scope = refl; callee = refl; arguments = refl; operands = refl; operand-kind = refl; expression = refl; own-word = refl; header = refl; later-let = refl; address = refl; address-slot = refl; let-word = refl; base = refl; end-base = refl; own-lets = refl; before = refl; size = refl; size-small = refl; label-kind = refl; label-function = refl; label-place = refl; label-address = refl; label-empty = refl; label-long = refl; label-reserved = refl; label-twice = refl; fault-word = refl; fault-header = refl; fault-address = refl; fault-address-end = refl; fault-block = refl; fault-size = refl; fault-target = refl; fault-else = refl; fault-goto = refl; fault-callee = refl; fault-arguments = refl; fault-kind = refl; fault-unused = refl; fault-label = refl; fault-label-end = refl; fault-place = refl; fault-name = refl; fault-count = refl; unused = refl }

@@ -60,7 +60,7 @@ sizesOf =
 abbrev pub frameHead : ℕ
 frameHead = 3
 
--- expression kinds: none, one operand alone, a call; an operator has its number in the vocabulary
+-- expression kinds: none, one operand alone, a call; an operator has its number in the word list
 abbrev pub noExpression : ℕ
 noExpression = 0
 

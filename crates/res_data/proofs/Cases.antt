@@ -10,7 +10,6 @@ use native.Mathlib.Omega.{arith}
 use lib.ListN.{length, take, drop, set, length-set, length-take, length-append, length-drop, drop-of-length-le}
 use lib.Seq.{take-all}
 use Rattle.base_prelude.specs.Choice.{ifLt, ifEq}
-use Rattle.base_prelude.specs.Fault.{none}
 use Rattle.base_prelude.specs.Lists.{overlay}
 use Rattle.base_prelude.proofs.Choice.{tests, ifEq-yes, ifEq-no}
 use Rattle.base_limits.specs.Width.{bytesOf, dataLimit}
@@ -20,9 +19,9 @@ use Rattle.base_word.specs.Bytes.{wordBytes}
 use Rattle.lex_spelling.specs.Text.{spelledAt, stringAt}
 use Rattle.lex_spelling.proofs.Loops.{overlayFrom, overlay-none, overlay-start, overlay-end, overlay-past, overlay-more}
 use Rattle.parse_shapes.specs.Shapes.{operandCount}
-use Rattle.parse_lines.specs.Tokens.{tokenWord, keyAt}
+use Rattle.parse_lines.specs.Tokens.{tokenWord}
 use Rattle.parse_lines.specs.declared.Span.{Span}
-use Rattle.res_data.specs.Sizes.{alignOf, fillOf, alignSize, sizeOf, cursorBehind, addLine, nextOf, lengthIn, bigIn}
+use Rattle.res_data.specs.Sizes.{alignOf, fillOf, alignSize, sizeOf, cursorBehind, addLine, nextOf, lengthIn}
 use Rattle.res_data.specs.Image.{lineBytes, putBytes}
 use Rattle.res_data.specs.declared.Cursor.{Cursor}
 use Rattle.res_data.specs.declared.Next.{Next}
@@ -91,15 +90,7 @@ module _ (m : Measured) where
   unfolding lengthIn
   in-big i e = rw e
 
-  pub fault-none : (t : List ℕ) (n l : ℕ) → m ≡ Length l → none ≡ bigIn t n m
-  unfolding bigIn
-  fault-none t n l e = rw e
-
-  pub fault-big : (t : List ℕ) (n i k : ℕ) → m ≡ Big i → k ≡ keyAt t n i 15 → k ≡ bigIn t n m
-  unfolding bigIn
-  fault-big t n i k e q = rw (e, q)
-
-pub ruleset telling = (in-length, in-big, fault-none, fault-big)
+pub ruleset telling = (in-length, in-big)
 
 -- the loop of `write_number`
 pub record Writing (count value : ℕ) (out₀ out : List ℕ) (v k : ℕ) : Type 0 where

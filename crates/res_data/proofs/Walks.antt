@@ -94,7 +94,7 @@ pub ruleset measuring = (measuring-start, measuring-more, measuring-full, measur
 pub first-fits : (t : List ℕ) (s : Cursor) → length t ≡ 32768 → s ≡ firstCursor → CursorFits t s
 first-fits t s a e = subst (CursorFits t) (sym e) (record { tokens = a; near = omega arith })
 
--- a turn of `lay_from`
+-- a step of `lay_from`
 module _ (w : Width) (s t : List ℕ) (c : Cursor) (out : List ℕ) (u : Span) (k : ℕ) (r : Next) (p : u ≡ unitAt t (c .at)) (q : k ≡ lineKind t (u .word)) (g : r ≡ nextOf w t 4098 u k c) where
   put-is : (x : List ℕ) → x ≡ putBytes out (c .size) (lineBytes w s t u k) → x ≡ putUnit w s t (laying c out)
   unfolding putUnit
@@ -105,16 +105,16 @@ module _ (w : Width) (s t : List ℕ) (c : Cursor) (out : List ℕ) (u : Span) (
   unfolding layStep
   lay-is y e = ap (λ (z : Next). laid z (putUnit w s t (laying c out)) out) (sym (next-is t c u p w 4098 k r q g) ∙ e)
 
-  pub turn-on : (y : Cursor) (x : List ℕ) → r ≡ On y → x ≡ putBytes out (c .size) (lineBytes w s t u k) → laid (On y) x x ≡ layStep w s t (laying c out)
-  turn-on y x e f = ap (λ (z : List ℕ). go (laying y z)) (put-is x f) ∙ sym (lay-is (On y) e)
+  pub step-on : (y : Cursor) (x : List ℕ) → r ≡ On y → x ≡ putBytes out (c .size) (lineBytes w s t u k) → laid (On y) x x ≡ layStep w s t (laying c out)
+  step-on y x e f = ap (λ (z : List ℕ). go (laying y z)) (put-is x f) ∙ sym (lay-is (On y) e)
 
-  pub turn-full : (i : ℕ) → r ≡ Full i → laid (Full i) out out ≡ layStep w s t (laying c out)
-  turn-full i e = sym (lay-is (Full i) e)
+  pub step-full : (i : ℕ) → r ≡ Full i → laid (Full i) out out ≡ layStep w s t (laying c out)
+  step-full i e = sym (lay-is (Full i) e)
 
-  pub turn-over : r ≡ Over → laid Over out out ≡ layStep w s t (laying c out)
-  turn-over e = sym (lay-is Over e)
+  pub step-over : r ≡ Over → laid Over out out ≡ layStep w s t (laying c out)
+  step-over e = sym (lay-is Over e)
 
-pub ruleset turning = (turn-on, turn-full, turn-over)
+pub ruleset stepping = (step-on, step-full, step-over)
 
 -- the loop of `lay_from`
 pub record Imaging (w : Width) (s t : List ℕ) (start : Cursor) (out₀ : List ℕ) (c : Cursor) (out : List ℕ) : Type 0 where

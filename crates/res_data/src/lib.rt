@@ -10,7 +10,7 @@ ghost use lib.ListN.{length};
 ghost use Rattle.base_prelude.specs.Lists.{overlay};
 ghost use Rattle.base_limits.specs.Width.{dataLimit};
 ghost use Rattle.base_word.specs.Bytes.{wordBytes};
-ghost use Rattle.res_data.specs.Sizes.{alignOf, fillOf, alignSize, sizeOf, cursorBehind, addLine, nextOf, nextAt, measureFrom, measureOf, lengthIn, addressOf, bigIn, bigRule, firstCursor};
+ghost use Rattle.res_data.specs.Sizes.{alignOf, fillOf, alignSize, sizeOf, cursorBehind, addLine, nextOf, nextAt, measureFrom, measureOf, lengthIn, addressOf, firstCursor};
 ghost use Rattle.res_data.specs.Image.{lineBytes, putBytes, laying, layStep, layFrom, laid, imageOf};
 ghost use Rattle.res_data.specs.Fits.{CursorFits};
 
@@ -220,7 +220,7 @@ fn put_line(w: Width, s: &[u8], t: &[u32], u: Span, k: u32, size: u32, out: &mut
     }
 }
 
-fn lay_turn(w: Width, s: &[u8], t: &[u32], c: Cursor, out: &mut [u8]) -> Next
+fn lay_step(w: Width, s: &[u8], t: &[u32], c: Cursor, out: &mut [u8]) -> Next
     requires { ⌜ CursorFits (now t) c ⌝ }
     ensures { λ r. ⌜ laid r (now (out .exit)) (now (out .exit)) ≡ layStep w (now (s .entry)) (now (t .entry)) (laying c (now (out .entry))) ⌝ }
 {
@@ -246,7 +246,7 @@ fn lay_from(w: Width, s: &[u8], t: &[u32], start: Cursor, out: &mut [u8])
 {
     let mut c = start;
     loop {
-        match lay_turn(w, s, t, c, out) {
+        match lay_step(w, s, t, c, out) {
             Next::On(y) => {
                 c = y;
             }
@@ -269,29 +269,12 @@ fn length_in(m: Measured) -> u32
     }
 }
 
-fn big_in(t: &[u32], n: u32, m: Measured) -> u64
-    ensures { λ r. ⌜ r ≡ bigIn (now (t .entry)) n m ⌝ }
-{
-    match m {
-        Measured::Length(_) => 1099511627776,
-        Measured::Big(i) => parse_lines::key_at(t, n, i, 15),
-    }
-}
-
 // The address of what a label names, by the token of its magic word.
 pub fn address_of(w: Width, t: &[u32], word: u32) -> u32
     requires { ⌜ length (now t) ≡ 32768 ⌝ }
     ensures { λ r. ⌜ r ≡ addressOf w (now (t .entry)) word ⌝ }
 {
     length_in(measure(w, t, word))
-}
-
-// The key of refusal 15 for a source of n bytes.
-pub fn big_fault(w: Width, t: &[u32], n: u32) -> u64
-    requires { ⌜ length (now t) ≡ 32768 ⌝ }
-    ensures { λ r. ⌜ r ≡ bigRule w (now (t .entry)) n ⌝ }
-{
-    big_in(t, n, measure(w, t, 4098))
 }
 
 // The data of the source s, over a buffer that is zeros where an `align` fills.

@@ -25,15 +25,15 @@ use Rattle.res_exports.specs.declared.Going.{Going}
 use Rattle.res_exports.specs.declared.Going.the-variants.{On, Over}
 
 module _ (t : List ℕ) (at : ℕ) (h : UnitFits t at) (u : Span) (e : u ≡ unitAt t at) where
-  pub turn-near : u .word ≤ 4097
-  turn-near = subst (λ (v : Span). v .word ≤ 4097) (sym e) (unit-near t at (h .tokens) (h .near))
+  pub step-near : u .word ≤ 4097
+  step-near = subst (λ (v : Span). v .word ≤ 4097) (sym e) (unit-near t at (h .tokens) (h .near))
 
-  pub turn-small : u .word < 4294967295
-  turn-small = omega (arith, turn-near)
+  pub step-small : u .word < 4294967295
+  step-small = omega (arith, step-near)
 
   module _ (k : ℕ) (d : k ≡ lineKind t (u .word)) (g : k ≡ 0 → ⊥) where
-    pub turn-next : u .next ≤ 4097
-    turn-next =
+    pub step-next : u .next ≤ 4097
+    step-next =
         let i : u .word < 4096 = line-some t (u .word) (h .tokens) (λ q. g (d ∙ q)) in
         let j : unitAt t at .word < 4097 = subst (λ (v : Span). v .word < 4097) e (omega arith) in
         subst (λ (v : Span). v .next ≤ 4097) (sym e) (unit-next t at (h .tokens) j)
@@ -60,7 +60,7 @@ seek-good t at h =
     let o = unit-order t at in (
       record {
         tokens = h .tokens;
-        near = turn-next t at h (unitAt t at) refl (lineKind t (unitAt t at .word)) refl
+        near = step-next t at h (unitAt t at) refl (lineKind t (unitAt t at .word)) refl
             (λ q. absurd (subst (λ (b : Bool). NotTrue b) (sym f ∙ zero-ends _ q) tt));
       },
       omega (arith, o .0, o .1, o .2),
@@ -121,17 +121,17 @@ module _ (same : ℕ → ℕ → Bool) (t : List ℕ) (n : ℕ) (y : List ℕ) (
     on-is =
         ap₂ (λ (v : Span) (i : ℕ). exportOn same t n y l uses v i (world s f)) (sym pu) (sym (pk ∙ ap (λ (v : Span). lineKind t (v .word)) pu))
 
-    pub turn-over : k ≡ 0 → going (Over (s .best)) f ≡ exportStep same t n y l uses (world s f)
+    pub step-over : k ≡ 0 → going (Over (s .best)) f ≡ exportStep same t n y l uses (world s f)
     unfolding exportOn
-    turn-over h = sym (on-is ∙ ifEq-yes _ _ h)
+    step-over h = sym (on-is ∙ ifEq-yes _ _ h)
 
-    pub turn-on : (best : ℕ) (g : List ℕ) → (k ≡ 0 → ⊥) → exported best g ≡ exportPart same t n y l uses u k (exported (s .best) f)
+    pub step-on : (best : ℕ) (g : List ℕ) → (k ≡ 0 → ⊥) → exported best g ≡ exportPart same t n y l uses u k (exported (s .best) f)
         → going (On (record { at = u .next; best = best })) g ≡ exportStep same t n y l uses (world s f)
     unfolding exportOn
-    turn-on best g h q =
+    step-on best g h q =
         ap (λ (z : Exported). go (world (exports (u .next) (z .fault)) (z .flags))) q ∙ sym (on-is ∙ ifEq-no _ _ h)
 
-  pub ruleset turning = (turn-over, turn-on)
+  pub ruleset stepping = (step-over, step-on)
 
   abbrev StepGood : Exports → List ℕ → Step World Exported → Type 0
   StepGood s f (go x) = UnitFits t (x .state .at) × (s .at < x .state .at) × (length (x .flags) ≡ length f)
@@ -142,7 +142,7 @@ module _ (same : ℕ → ℕ → Bool) (t : List ℕ) (n : ℕ) (y : List ℕ) (
   step-good s f h =
       either-eq (StepGood s f) (lineKind t (unitAt t (s .at) .word)) 0 _ _ (λ _. refl) (λ e.
       let o = unit-order t (s .at) in (
-        record { tokens = h .tokens; near = turn-next t (s .at) h (unitAt t (s .at)) refl (lineKind t (unitAt t (s .at) .word)) refl e },
+        record { tokens = h .tokens; near = step-next t (s .at) h (unitAt t (s .at)) refl (lineKind t (unitAt t (s .at) .word)) refl e },
         omega (arith, o .0, o .1, o .2),
         part-long (unitAt t (s .at)) (lineKind t (unitAt t (s .at) .word)) (exported (s .best) f),
       ))

@@ -45,7 +45,7 @@ seekOn u k = ifTrue (isDefinition k) (stop u) (ifTrue (endsSearch k) (stop nowhe
 unfoldable pub seekStep : List ℕ → ℕ → Step ℕ Span
 seekStep t at = seekOn (unitAt t at) (lineKind t (unitAt t at .word))
 
--- what a turn of the code comes to
+-- what one step of the code's loop comes to
 abbrev pub sought : Seek → Step ℕ Span
 sought (seek.Further at) = go at
 sought (seek.Here u) = stop u
@@ -122,7 +122,7 @@ unfoldable pub exportStep : (ℕ → ℕ → Bool) → List ℕ → ℕ → List
 exportStep same t n y l uses x =
     exportOn same t n y l uses (unitAt t (x .state .at)) (lineKind t (unitAt t (x .state .at) .word)) x
 
--- what a turn of the code comes to
+-- what one step of the code's loop comes to
 abbrev pub going : Going → List ℕ → Step World Exported
 going (On s) flags = go (world s flags)
 going (Over best) flags = stop (exported best flags)

@@ -70,7 +70,7 @@ fn seek_on(u: Span, k: u32) -> Seek
     Seek::Further(u.next)
 }
 
-fn seek_turn(t: &[u32], at: u32) -> Seek
+fn seek_step(t: &[u32], at: u32) -> Seek
     requires { ⌜ UnitFits (now t) at ⌝ }
     ensures { λ r. ⌜ sought r ≡ seekStep (now (t .entry)) at ⌝ }
 {
@@ -85,7 +85,7 @@ fn find_definition(t: &[u32], from: u32) -> Span
 {
     let mut at = from;
     loop {
-        match seek_turn(t, at) {
+        match seek_step(t, at) {
             Seek::Further(x) => {
                 at = x;
             }
@@ -203,7 +203,7 @@ fn export_part(
     best
 }
 
-fn export_turn(
+fn export_step(
     t: &[u32],
     n: u32,
     y: &[u32],
@@ -241,7 +241,7 @@ fn exports_from(
 {
     let mut s = start;
     loop {
-        match export_turn(t, n, y, l, uses, flags, s) {
+        match export_step(t, n, y, l, uses, flags, s) {
             Going::On(x) => {
                 s = x;
             }

@@ -12,32 +12,32 @@ use Rattle.base_prelude.proofs.Choice.{tests}
 use Rattle.prog_tables.specs.Statement.{Row}
 use Rattle.prog_tables.specs.Nesting.{hasTarget, targetOf}
 use Rattle.prog_tables.specs.Frames.{frameSize, blockWord, letWord}
-use Rattle.res_frame_words.specs.Framing.{valueOf, wordOf, wordsIn, wordsOf}
+use Rattle.res_frame_words.specs.Framing.{frameValue, wordOf, wordsIn, wordsOf}
 
 module _ (f : ℕ → Row) (c n k v : ℕ) (p : k ≡ f n .kind) where
-  pub value-function : k ≡ 1 → v ≡ frameSize f c n → v ≡ valueOf f c n
-  unfolding valueOf
+  pub value-function : k ≡ 1 → v ≡ frameSize f c n → v ≡ frameValue f c n
+  unfolding frameValue
   value-function e q = rw (← p) (search tests)
 
-  pub value-block : k ≡ 3 → v ≡ blockWord f c n → v ≡ valueOf f c n
-  unfolding valueOf
+  pub value-block : k ≡ 3 → v ≡ blockWord f c n → v ≡ frameValue f c n
+  unfolding frameValue
   value-block e q = rw (← p) (search tests)
 
-  pub value-end : (s : ℕ) → k ≡ 4 → s ≡ f n .scope → v ≡ blockWord f c s → v ≡ valueOf f c n
-  unfolding valueOf
+  pub value-end : (s : ℕ) → k ≡ 4 → s ≡ f n .scope → v ≡ blockWord f c s → v ≡ frameValue f c n
+  unfolding frameValue
   value-end s e d q = rw (← p, ← d) (search tests)
 
-  pub value-let : k ≡ 5 → v ≡ letWord f c n → v ≡ valueOf f c n
-  unfolding valueOf
+  pub value-let : k ≡ 5 → v ≡ letWord f c n → v ≡ frameValue f c n
+  unfolding frameValue
   value-let e q = rw (← p) (search tests)
 
   module _ (b : Bool) (a1 : k ≡ 1 → ⊥) (a3 : k ≡ 3 → ⊥) (a4 : k ≡ 4 → ⊥) (a5 : k ≡ 5 → ⊥) (d : b ≡ hasTarget k) where
-    pub value-target : b ≡ true → v ≡ targetOf f c n → v ≡ valueOf f c n
-    unfolding valueOf
+    pub value-target : b ≡ true → v ≡ targetOf f c n → v ≡ frameValue f c n
+    unfolding frameValue
     value-target e q = rw (← p, ← d) (search tests)
 
-    pub value-none : b ≡ false → 0 ≡ valueOf f c n
-    unfolding valueOf
+    pub value-none : b ≡ false → 0 ≡ frameValue f c n
+    unfolding frameValue
     value-none e = rw (← p, ← d) (search tests)
 
 pub ruleset values = (value-function, value-block, value-end, value-let, value-target, value-none)

@@ -10,7 +10,7 @@ use lib.ListN.{length, getD, set, length-set, length-replicate, getD-replicate, 
 use lib.Seq.{getD-set-same, getD-set-other}
 use Rattle.base_prelude.specs.Lists.{zeros}
 use Rattle.prog_tables.specs.Statement.{Row}
-use Rattle.res_frame_words.specs.Framing.{valueOf, wordOf, wordsIn, wordsOf}
+use Rattle.res_frame_words.specs.Framing.{frameValue, wordOf, wordsIn, wordsOf}
 
 length-words-in : (w : List ℕ) (f : ℕ → Row) (c n : ℕ) → length (wordsIn w f c n) ≡ length w
 unfolding wordsIn
@@ -60,4 +60,4 @@ module _ (f : ℕ → Row) (c n : ℕ) where
 
   pub word-small : wordOf f c n < 4294967296
   unfolding wordOf
-  word-small = mod-lt (valueOf f c n) (omega arith)
+  word-small = mod-lt (frameValue f c n) (omega arith)

@@ -12,8 +12,8 @@ use Rattle.prog_tables.specs.Frames.{frameSize, blockWord, letWord}
 
 -- of a function its frame size; of a block and its `end block` the word of the saved auto top; of a let its word; of a test, an
 -- `else` or an else-if jump its target
-unfoldable pub valueOf : (ℕ → Row) → ℕ → ℕ → ℕ
-valueOf f c n =
+unfoldable pub frameValue : (ℕ → Row) → ℕ → ℕ → ℕ
+frameValue f c n =
     ifEq (f n .kind) kind.function (frameSize f c n)
     (ifEq (f n .kind) kind.block (blockWord f c n)
     (ifEq (f n .kind) kind.endBlock (blockWord f c (f n .scope))
@@ -22,7 +22,7 @@ valueOf f c n =
 
 -- table words have 32 bits
 unfoldable pub wordOf : (ℕ → Row) → ℕ → ℕ → ℕ
-wordOf f c n = valueOf f c n % 4294967296
+wordOf f c n = frameValue f c n % 4294967296
 
 -- the words of rows 0 to n - 1, in the table w
 unfoldable pub wordsIn : List ℕ → (ℕ → Row) → ℕ → ℕ → List ℕ

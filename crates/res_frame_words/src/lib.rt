@@ -5,7 +5,7 @@ ghost use Prim.Native.Nat.{_≤_, _<_};
 ghost use lib.ListN.{length};
 ghost use Rattle.prog_tables.specs.Statement.{rowAt};
 ghost use Rattle.prog_tables.specs.Frames.{frameSize};
-ghost use Rattle.res_frame_words.specs.Framing.{valueOf, wordOf, wordsIn, wordsOf};
+ghost use Rattle.res_frame_words.specs.Framing.{frameValue, wordOf, wordsIn, wordsOf};
 
 // The frame size of a function, whatever its parameters.
 fn size_of(k: &[u32], c: u32, n: u32) -> u64
@@ -19,7 +19,7 @@ fn size_of(k: &[u32], c: u32, n: u32) -> u64
 
 fn value_of(k: &[u32], c: u32, n: u32) -> u64
     requires { ⌜ (c ≤ 1024) × (n < c) ⌝ }
-    ensures { λ r. ⌜ r ≡ valueOf (rowAt (now (k .entry))) c n ⌝ }
+    ensures { λ r. ⌜ r ≡ frameValue (rowAt (now (k .entry))) c n ⌝ }
 {
     let kind = prog_tables::kind_at(k, n);
     if kind == Kind::FUNCTION {

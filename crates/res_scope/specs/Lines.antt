@@ -21,10 +21,6 @@ labelToken y j = getD y (j * labelRow) 0
 unfoldable pub labelKind : List ℕ → ℕ → ℕ
 labelKind y j = getD y (j * labelRow + outline.kind) 0
 
--- in data the token of the magic word
-unfoldable pub labelWord : List ℕ → ℕ → ℕ
-labelWord y j = getD y (j * labelRow + outline.names) 0
-
--- else the statement
+-- where it is no data, its statement
 unfoldable pub labelStatement : List ℕ → ℕ → ℕ
 labelStatement y j = getD y (j * labelRow + outline.names) 0 - 1

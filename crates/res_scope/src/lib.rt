@@ -11,7 +11,7 @@ ghost use mathlib.Core.Path.{_≡_};
 ghost use Prim.Native.Nat.{_+_, _-_, _≤_, _<_, min};
 ghost use Rattle.prog_tables.specs.Statement.{rowAt};
 ghost use Rattle.prog_tables.specs.Tests.{firstFrom};
-ghost use Rattle.res_scope.specs.Lines.{firstToken, endToken, labelToken, labelKind, labelWord, labelStatement};
+ghost use Rattle.res_scope.specs.Lines.{firstToken, endToken, labelToken, labelKind, labelStatement};
 ghost use Rattle.res_scope.specs.Names.{hasName, sameNumber, letNamed, letHere, letOf, parameterOf, labelOf, labelMeaning, outerMeaning, meaningOf};
 ghost use Rattle.res_scope.specs.Parts.{parts, symbolParts, expressionParts, returnParts, listsOperands, plainParts, partsOf};
 
@@ -62,13 +62,6 @@ pub fn label_kind(y: &[u32], j: u32) -> u32
     ensures { λ r. ⌜ r ≡ labelKind (now (y .entry)) j ⌝ }
 {
     prog_tables::word_at(y, j as usize * Table::LABEL_ROW + OutlineLabel::KIND)
-}
-
-// The token of the magic word that a label of data names.
-pub fn label_word(y: &[u32], j: u32) -> u32
-    ensures { λ r. ⌜ r ≡ labelWord (now (y .entry)) j ⌝ }
-{
-    prog_tables::word_at(y, j as usize * Table::LABEL_ROW + OutlineLabel::NAMES)
 }
 
 fn less_one(n: u32) -> u32

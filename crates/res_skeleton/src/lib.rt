@@ -7,7 +7,7 @@ ghost use mathlib.Core.Path.{_≡_};
 ghost use Prim.Native.Nat.{_+_, _*_, _-_, _≤_, _<_};
 ghost use lib.ListN.{length};
 ghost use Rattle.parse_units.specs.Outline.{rowAt};
-ghost use Rattle.res_skeleton.specs.Skeleton.{parametersOf, bare, statementOf, putRow, rowsIn, skeletonOf, tokenOf, nextOf};
+ghost use Rattle.res_skeleton.specs.Skeleton.{parametersOf, bare, statementOf, putRow, rowsIn, skeletonOf};
 
 // What a row has; all its other words are 0.
 pub struct SkeletonRow {
@@ -97,18 +97,4 @@ pub fn make_skeleton(x: &[u32], c: u32, k: &mut [u32])
 {
     base_prelude::clear_from(k, 0);
     put_rows(x, c, k);
-}
-
-// The first token of statement n.
-pub fn token_of(k: &[u32], n: u32) -> u32
-    ensures { λ r. ⌜ r ≡ tokenOf (now (k .entry)) n ⌝ }
-{
-    prog_tables::word_at(k, n as usize * Table::STATEMENT_ROW + StatementRow::TOKEN)
-}
-
-// The token behind its line.
-pub fn next_of(k: &[u32], n: u32) -> u32
-    ensures { λ r. ⌜ r ≡ nextOf (now (k .entry)) n ⌝ }
-{
-    prog_tables::word_at(k, n as usize * Table::STATEMENT_ROW + StatementRow::NEXT)
 }

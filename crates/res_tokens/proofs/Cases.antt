@@ -10,7 +10,7 @@ use lib.ListN.{length, getD, take, drop, set, length-set}
 use lib.Seq.{paste, paste-suc}
 use Rattle.base_prelude.proofs.Choice.{either, ifLt-yes, ifLt-no}
 use Rattle.res_scope.specs.Lines.{firstToken}
-use Rattle.res_tokens.specs.Begins.{copied, beginPut, beginsBelow}
+use Rattle.res_tokens.specs.TokenTable.{copied, statementMarked, statementsMarked}
 
 -- ---- the loop of `copy_words`
 
@@ -57,49 +57,49 @@ pub ruleset copying = (copying-start, copying-more, copying-done)
 -- ---- where a statement begins
 
 module _ (k : List ℕ) (n r : ℕ) (out : List ℕ) (i : ℕ) (e : i ≡ firstToken k r) where
-  pub begin-yes : i < n → set out (i * 8 + 7) (r + 1) ≡ beginPut k n r out
-  unfolding beginPut
+  pub begin-yes : i < n → set out (i * 8 + 7) (r + 1) ≡ statementMarked k n r out
+  unfolding statementMarked
   begin-yes h = rw (← e) (sym (ifLt-yes _ _ h))
 
-  pub begin-no : n ≤ i → out ≡ beginPut k n r out
-  unfolding beginPut
+  pub begin-no : n ≤ i → out ≡ statementMarked k n r out
+  unfolding statementMarked
   begin-no h = rw (← e) (sym (ifLt-no _ _ h))
 
 pub ruleset beginning = (begin-yes, begin-no)
 
-length-begin : (k : List ℕ) (n r : ℕ) (out : List ℕ) → length (beginPut k n r out) ≡ length out
-unfolding beginPut
+length-begin : (k : List ℕ) (n r : ℕ) (out : List ℕ) → length (statementMarked k n r out) ≡ length out
+unfolding statementMarked
 length-begin k n r out = either (λ (x : List ℕ). length x ≡ length out) _ n _ _ (λ _. length-set out _ _) (λ _. refl)
 
--- ---- the loop of `put_begins`
+-- ---- the loop of `mark_statements`
 
 pub record Marking (k : List ℕ) (c n : ℕ) (out₀ out : List ℕ) (r : ℕ) : Type 0 where
   pub long : length out ≡ length out₀
   pub below : r ≤ c
-  pub so-far : out ≡ beginsBelow r k n out₀
+  pub so-far : out ≡ statementsMarked r k n out₀
 
 module _ (k : List ℕ) (c n : ℕ) (out₀ : List ℕ) where
   pub marking-start : Marking k c n out₀ out₀ 0
-  unfolding beginsBelow
+  unfolding statementsMarked
   marking-start = record { long = refl; below = omega arith; so-far = refl }
 
   module _ (out : List ℕ) (r : ℕ) (h : Marking k c n out₀ out r) where
     pub marking-room : n * 8 ≤ length out₀ → n * 8 ≤ length out
     marking-room f = omega (arith, h .long)
 
-    pub marking-more : (out′ : List ℕ) → r < c → out′ ≡ beginPut k n r out → Marking k c n out₀ out′ (r + 1)
-    unfolding beginsBelow
+    pub marking-more : (out′ : List ℕ) → r < c → out′ ≡ statementMarked k n r out → Marking k c n out₀ out′ (r + 1)
+    unfolding statementsMarked
     marking-more out′ g e =
         record {
           long = ap length e ∙ length-begin k n r out ∙ h .long;
           below = omega arith;
-          so-far = rw (add-one r) (e ∙ ap (beginPut k n r) (h .so-far));
+          so-far = rw (add-one r) (e ∙ ap (statementMarked k n r) (h .so-far));
         }
 
     pub marking-same : length out ≡ length out₀
     marking-same = h .long
 
-    pub marking-done : c ≤ r → out ≡ beginsBelow c k n out₀
-    marking-done g = let e : r ≡ c = omega (arith, h .below) in h .so-far ∙ ap (λ (j : ℕ). beginsBelow j k n out₀) e
+    pub marking-done : c ≤ r → out ≡ statementsMarked c k n out₀
+    marking-done g = let e : r ≡ c = omega (arith, h .below) in h .so-far ∙ ap (λ (j : ℕ). statementsMarked j k n out₀) e
 
 pub ruleset marking = (marking-start, marking-more, marking-done)

@@ -5,7 +5,7 @@ ghost use mathlib.Core.Path.{_≡_};
 ghost use Prim.Native.Nat.{_*_, _≤_, _<_};
 ghost use lib.ListN.{length};
 ghost use Rattle.base_limits.specs.Limits.{tokenRow};
-ghost use Rattle.res_tokens.specs.Begins.{copied, beginPut, beginsBelow, tokenTable};
+ghost use Rattle.res_tokens.specs.TokenTable.{copied, statementMarked, statementsMarked, tokenTable};
 
 fn copy_words(t: &[u32], m: usize, out: &mut [u32])
     requires { ⌜ (m ≤ length (now t)) × (m ≤ length (now out)) ⌝ }
@@ -18,9 +18,9 @@ fn copy_words(t: &[u32], m: usize, out: &mut [u32])
     }
 }
 
-fn put_begin(k: &[u32], n: u32, r: u32, out: &mut [u32])
+fn mark_statement(k: &[u32], n: u32, r: u32, out: &mut [u32])
     requires { ⌜ (n * tokenRow ≤ length (now out)) × (r < 4294967295) ⌝ }
-    ensures { λ _. ⌜ now (out .exit) ≡ beginPut (now (k .entry)) n r (now (out .entry)) ⌝ }
+    ensures { λ _. ⌜ now (out .exit) ≡ statementMarked (now (k .entry)) n r (now (out .entry)) ⌝ }
 {
     let i = res_scope::first_token(k, r);
     if i < n {
@@ -28,13 +28,13 @@ fn put_begin(k: &[u32], n: u32, r: u32, out: &mut [u32])
     }
 }
 
-fn put_begins(k: &[u32], c: u32, n: u32, out: &mut [u32])
+fn mark_statements(k: &[u32], c: u32, n: u32, out: &mut [u32])
     requires { ⌜ n * tokenRow ≤ length (now out) ⌝ }
-    ensures { λ _. ⌜ now (out .exit) ≡ beginsBelow c (now (k .entry)) n (now (out .entry)) ⌝ }
+    ensures { λ _. ⌜ now (out .exit) ≡ statementsMarked c (now (k .entry)) n (now (out .entry)) ⌝ }
 {
     let mut r: u32 = 0;
     while r < c {
-        put_begin(k, n, r, out);
+        mark_statement(k, n, r, out);
         r += 1;
     }
 }
@@ -45,5 +45,5 @@ pub fn write_tokens(t: &[u32], k: &[u32], c: u32, n: u32, out: &mut [u32])
     ensures { λ _. ⌜ now (out .exit) ≡ tokenTable (now (t .entry)) (now (k .entry)) c n (now (out .entry)) ⌝ }
 {
     copy_words(t, n as usize * Machine::TOKEN_ROW, out);
-    put_begins(k, c, n, out);
+    mark_statements(k, c, n, out);
 }

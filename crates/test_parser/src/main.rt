@@ -199,7 +199,7 @@ fn read_width(l: &[u8], mut q: State) -> State {
 }
 
 // The digit of `at2` to `at9`, 1 for a bare `at`, else 0.
-fn turn_of(word: &[u8]) -> u64 {
+fn nth_of(word: &[u8]) -> u64 {
     match byte_at(word, 2) {
         32 => 1,
         50 => 2,
@@ -214,8 +214,8 @@ fn turn_of(word: &[u8]) -> u64 {
     }
 }
 
-fn word_place(word: &Source, size: usize, turn: u64, s: &[u8]) -> u64 {
-    let at = place_of(s, front(word, size), turn);
+fn word_place(word: &Source, size: usize, nth: u64, s: &[u8]) -> u64 {
+    let at = place_of(s, front(word, size), nth);
     if at < s.len() {
         return at as u64;
     }
@@ -223,10 +223,10 @@ fn word_place(word: &Source, size: usize, turn: u64, s: &[u8]) -> u64 {
 }
 
 // The place of a text in a source.
-fn text_place(l: &[u8], from: usize, turn: u64, s: &[u8]) -> u64 {
+fn text_place(l: &[u8], from: usize, nth: u64, s: &[u8]) -> u64 {
     let mut word = [0u8; Case::SOURCE];
     let size = add_text(l, from, &mut word, 0);
-    word_place(&word, size, turn, s)
+    word_place(&word, size, nth, s)
 }
 
 // The place that a line names: `end`, `at TEXT`, `atK TEXT`, or a number.
@@ -236,7 +236,7 @@ fn place_in(l: &[u8], s: &[u8]) -> u64 {
         return s.len() as u64;
     }
     if starts_with(word, b"at") {
-        return text_place(l, field_start(l, 3), turn_of(word), s);
+        return text_place(l, field_start(l, 3), nth_of(word), s);
     }
     if has_numbers(l, 1, 3) {
         return field(l, 2);

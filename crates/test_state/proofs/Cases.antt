@@ -13,7 +13,7 @@ use Rattle.test_lines.specs.Lines.{oneMore, startsWith}
 use Rattle.test_lines.specs.Fields.{noNumber}
 use Rattle.test_lines.specs.Sources.{source, addText, addLine, addSource}
 use Rattle.test_text.specs.Fields.{countFields, hasWord}
-use Rattle.test_text.specs.Numbers.{valueOf, hasValues}
+use Rattle.test_text.specs.Numbers.{fieldValue, hasValues}
 use Rattle.test_text.specs.Answers.{addAll, plainBytes, recordBytes, wordsBytes, holdsBytes}
 use Rattle.test_text.specs.Records.{isRecordPoke, pokeRecord}
 use Rattle.test_text.specs.Buffers.{lesserOf, changedIn, stored, bytesStored}
@@ -114,11 +114,11 @@ module _ (l : List ℕ) (q : Progress) (m : List ℕ) where
   unfolding readMemory
   read-memory-1 c p0 h0 z p1 = rw (← p0, ← p1) (search tests)
 
-  pub read-memory-2 : (c : ℕ) → c ≡ countFields l → c ≡ 2 → (n : ℕ) → n ≡ valueOf l 1 → 65537 < n → (z : Progress) → z ≡ failedOf q 1 → on z m ≡ readMemory l q m
+  pub read-memory-2 : (c : ℕ) → c ≡ countFields l → c ≡ 2 → (n : ℕ) → n ≡ fieldValue l 1 → 65537 < n → (z : Progress) → z ≡ failedOf q 1 → on z m ≡ readMemory l q m
   unfolding readMemory
   read-memory-2 c p0 h0 n p1 h1 z p2 = rw (← p0, ← p1, ← p2) (search tests)
 
-  pub read-memory-3 : (c : ℕ) → c ≡ countFields l → c ≡ 2 → (n : ℕ) → n ≡ valueOf l 1 → n ≤ 65537 → (u : List ℕ) → u ≡ storeFrom m n (replicate (65537 - n) 0) → (z : Progress) → z ≡ memoryLent q n → on z u ≡ readMemory l q m
+  pub read-memory-3 : (c : ℕ) → c ≡ countFields l → c ≡ 2 → (n : ℕ) → n ≡ fieldValue l 1 → n ≤ 65537 → (u : List ℕ) → u ≡ storeFrom m n (replicate (65537 - n) 0) → (z : Progress) → z ≡ memoryLent q n → on z u ≡ readMemory l q m
   unfolding readMemory
   read-memory-3 c p0 h0 n p1 h1 u p2 z p3 = rw (← p0, ← p1, ← p2, ← p3) (search tests)
 
@@ -130,11 +130,11 @@ module _ (l : List ℕ) (q : Progress) (k : List ℕ) where
   unfolding readStack
   read-stack-1 c p0 h0 z p1 = rw (← p0, ← p1) (search tests)
 
-  pub read-stack-2 : (c : ℕ) → c ≡ countFields l → c ≡ 2 → (n : ℕ) → n ≡ valueOf l 1 → 16385 < n → (z : Progress) → z ≡ failedOf q 1 → on z k ≡ readStack l q k
+  pub read-stack-2 : (c : ℕ) → c ≡ countFields l → c ≡ 2 → (n : ℕ) → n ≡ fieldValue l 1 → 16385 < n → (z : Progress) → z ≡ failedOf q 1 → on z k ≡ readStack l q k
   unfolding readStack
   read-stack-2 c p0 h0 n p1 h1 z p2 = rw (← p0, ← p1, ← p2) (search tests)
 
-  pub read-stack-3 : (c : ℕ) → c ≡ countFields l → c ≡ 2 → (n : ℕ) → n ≡ valueOf l 1 → n ≤ 16385 → (u : List ℕ) → u ≡ storeFrom k n (replicate (16385 - n) 0) → (z : Progress) → z ≡ stackLent q n → on z u ≡ readStack l q k
+  pub read-stack-3 : (c : ℕ) → c ≡ countFields l → c ≡ 2 → (n : ℕ) → n ≡ fieldValue l 1 → n ≤ 16385 → (u : List ℕ) → u ≡ storeFrom k n (replicate (16385 - n) 0) → (z : Progress) → z ≡ stackLent q n → on z u ≡ readStack l q k
   unfolding readStack
   read-stack-3 c p0 h0 n p1 h1 u p2 z p3 = rw (← p0, ← p1, ← p2, ← p3) (search tests)
 
@@ -190,11 +190,11 @@ pub ruleset read-answer-ways = (read-answer-1, read-answer-2)
 
 -- `view_words`
 module _ (l : List ℕ) (q : Progress) (got : List ℕ) (k : List ℕ) where
-  pub view-words-1 : (i : ℕ) → i ≡ valueOf l 1 → 16385 ≤ i → (z : Progress) → z ≡ failedOf q 1 → on z got ≡ viewWords l q got k
+  pub view-words-1 : (i : ℕ) → i ≡ fieldValue l 1 → 16385 ≤ i → (z : Progress) → z ≡ failedOf q 1 → on z got ≡ viewWords l q got k
   unfolding viewWords
   view-words-1 i p0 h0 z p1 = rw (← p0, ← p1) (search tests)
 
-  pub view-words-2 : (i : ℕ) → i ≡ valueOf l 1 → i < 16385 → (n : ℕ) → n ≡ lesserOf (q .lent .stack) 16385 → (w : List ℕ) → w ≡ take n k → (s : ℕ) → (u : List ℕ) → source s u ≡ addAll (wordsBytes l i w) (source 0 got) → (z : Progress) → z ≡ compareLine l q u s → on z u ≡ viewWords l q got k
+  pub view-words-2 : (i : ℕ) → i ≡ fieldValue l 1 → i < 16385 → (n : ℕ) → n ≡ lesserOf (q .lent .stack) 16385 → (w : List ℕ) → w ≡ take n k → (s : ℕ) → (u : List ℕ) → source s u ≡ addAll (wordsBytes l i w) (source 0 got) → (z : Progress) → z ≡ compareLine l q u s → on z u ≡ viewWords l q got k
   unfolding viewWords
   view-words-2 i p0 h0 n p1 w p2 s u p3 z p4 = rw (← p0, ← p1, ← p2, ← p3, ← p4) (search tests)
 
@@ -202,11 +202,11 @@ pub ruleset view-words-ways = (view-words-1, view-words-2)
 
 -- `view_bytes`
 module _ (l : List ℕ) (q : Progress) (got : List ℕ) (m : List ℕ) where
-  pub view-bytes-1 : (i : ℕ) → i ≡ valueOf l 1 → 65537 ≤ i → (z : Progress) → z ≡ failedOf q 1 → on z got ≡ viewBytes l q got m
+  pub view-bytes-1 : (i : ℕ) → i ≡ fieldValue l 1 → 65537 ≤ i → (z : Progress) → z ≡ failedOf q 1 → on z got ≡ viewBytes l q got m
   unfolding viewBytes
   view-bytes-1 i p0 h0 z p1 = rw (← p0, ← p1) (search tests)
 
-  pub view-bytes-2 : (i : ℕ) → i ≡ valueOf l 1 → i < 65537 → (n : ℕ) → n ≡ lesserOf (q .lent .memory) 65537 → (w : List ℕ) → w ≡ take n m → (s : ℕ) → (u : List ℕ) → source s u ≡ addAll (holdsBytes l i w) (source 0 got) → (z : Progress) → z ≡ compareLine l q u s → on z u ≡ viewBytes l q got m
+  pub view-bytes-2 : (i : ℕ) → i ≡ fieldValue l 1 → i < 65537 → (n : ℕ) → n ≡ lesserOf (q .lent .memory) 65537 → (w : List ℕ) → w ≡ take n m → (s : ℕ) → (u : List ℕ) → source s u ≡ addAll (holdsBytes l i w) (source 0 got) → (z : Progress) → z ≡ compareLine l q u s → on z u ≡ viewBytes l q got m
   unfolding viewBytes
   view-bytes-2 i p0 h0 n p1 w p2 s u p3 z p4 = rw (← p0, ← p1, ← p2, ← p3, ← p4) (search tests)
 
@@ -250,15 +250,15 @@ pub ruleset read-view-ways = (read-view-1, read-view-2, read-view-3, read-view-4
 
 -- `read_bytes`
 module _ (l : List ℕ) (q : Progress) (m : List ℕ) where
-  pub read-bytes-1 : (i : ℕ) → i ≡ valueOf l 1 → 65537 ≤ i → (z : Progress) → z ≡ failedOf q 1 → on z m ≡ readBytes l q m
+  pub read-bytes-1 : (i : ℕ) → i ≡ fieldValue l 1 → 65537 ≤ i → (z : Progress) → z ≡ failedOf q 1 → on z m ≡ readBytes l q m
   unfolding readBytes
   read-bytes-1 i p0 h0 z p1 = rw (← p0, ← p1) (search tests)
 
-  pub read-bytes-2 : (i : ℕ) → i ≡ valueOf l 1 → i < 65537 → (d : Bool) → (u : List ℕ) → stored d u ≡ bytesStored l i (q .lent .memory) m → d ≡ true → on q u ≡ readBytes l q m
+  pub read-bytes-2 : (i : ℕ) → i ≡ fieldValue l 1 → i < 65537 → (d : Bool) → (u : List ℕ) → stored d u ≡ bytesStored l i (q .lent .memory) m → d ≡ true → on q u ≡ readBytes l q m
   unfolding readBytes
   read-bytes-2 i p0 h0 d u p1 h1 = rw (← p0, ← p1) (search tests)
 
-  pub read-bytes-3 : (i : ℕ) → i ≡ valueOf l 1 → i < 65537 → (d : Bool) → (u : List ℕ) → stored d u ≡ bytesStored l i (q .lent .memory) m → d ≡ false → (z : Progress) → z ≡ failedOf q 1 → on z u ≡ readBytes l q m
+  pub read-bytes-3 : (i : ℕ) → i ≡ fieldValue l 1 → i < 65537 → (d : Bool) → (u : List ℕ) → stored d u ≡ bytesStored l i (q .lent .memory) m → d ≡ false → (z : Progress) → z ≡ failedOf q 1 → on z u ≡ readBytes l q m
   unfolding readBytes
   read-bytes-3 i p0 h0 d u p1 h1 z p2 = rw (← p0, ← p1, ← p2) (search tests)
 
@@ -266,19 +266,19 @@ pub ruleset read-bytes-ways = (read-bytes-1, read-bytes-2, read-bytes-3)
 
 -- `poke_statement`
 module _ (l : List ℕ) (q : Progress) (t : List ℕ) where
-  pub poke-statement-1 : (i : ℕ) → i ≡ valueOf l 2 → 1024 ≤ i → (z : Progress) → z ≡ failedOf q 1 → on z t ≡ pokeStatement l q t
+  pub poke-statement-1 : (i : ℕ) → i ≡ fieldValue l 2 → 1024 ≤ i → (z : Progress) → z ≡ failedOf q 1 → on z t ≡ pokeStatement l q t
   unfolding pokeStatement
   poke-statement-1 i p0 h0 z p1 = rw (← p0, ← p1) (search tests)
 
-  pub poke-statement-2 : (i : ℕ) → i ≡ valueOf l 2 → i < 1024 → (j : ℕ) → j ≡ valueOf l 3 → 27 ≤ j → (z : Progress) → z ≡ failedOf q 1 → on z t ≡ pokeStatement l q t
+  pub poke-statement-2 : (i : ℕ) → i ≡ fieldValue l 2 → i < 1024 → (j : ℕ) → j ≡ fieldValue l 3 → 27 ≤ j → (z : Progress) → z ≡ failedOf q 1 → on z t ≡ pokeStatement l q t
   unfolding pokeStatement
   poke-statement-2 i p0 h0 j p1 h1 z p2 = rw (← p0, ← p1, ← p2) (search tests)
 
-  pub poke-statement-3 : (i : ℕ) → i ≡ valueOf l 2 → i < 1024 → (j : ℕ) → j ≡ valueOf l 3 → j < 27 → (h : Bool) → h ≡ hasValues l 4 5 → h ≡ true → (n : ℕ) → n ≡ valueOf l 4 → (v : ℕ) → v ≡ n % noNumber → on q (set t (i * 27 + j) v) ≡ pokeStatement l q t
+  pub poke-statement-3 : (i : ℕ) → i ≡ fieldValue l 2 → i < 1024 → (j : ℕ) → j ≡ fieldValue l 3 → j < 27 → (h : Bool) → h ≡ hasValues l 4 5 → h ≡ true → (n : ℕ) → n ≡ fieldValue l 4 → (v : ℕ) → v ≡ n % noNumber → on q (set t (i * 27 + j) v) ≡ pokeStatement l q t
   unfolding pokeStatement
   poke-statement-3 i p0 h0 j p1 h1 h p2 h2 n p3 v p4 = rw (← p0, ← p1, ← p2, ← p3, ← p4) (search tests)
 
-  pub poke-statement-4 : (i : ℕ) → i ≡ valueOf l 2 → i < 1024 → (j : ℕ) → j ≡ valueOf l 3 → j < 27 → (h : Bool) → h ≡ hasValues l 4 5 → h ≡ false → (z : Progress) → z ≡ failedOf q 1 → on z t ≡ pokeStatement l q t
+  pub poke-statement-4 : (i : ℕ) → i ≡ fieldValue l 2 → i < 1024 → (j : ℕ) → j ≡ fieldValue l 3 → j < 27 → (h : Bool) → h ≡ hasValues l 4 5 → h ≡ false → (z : Progress) → z ≡ failedOf q 1 → on z t ≡ pokeStatement l q t
   unfolding pokeStatement
   poke-statement-4 i p0 h0 j p1 h1 h p2 h2 z p3 = rw (← p0, ← p1, ← p2, ← p3) (search tests)
 
@@ -286,19 +286,19 @@ pub ruleset poke-statement-ways = (poke-statement-1, poke-statement-2, poke-stat
 
 -- `poke_label`
 module _ (l : List ℕ) (q : Progress) (t : List ℕ) where
-  pub poke-label-1 : (i : ℕ) → i ≡ valueOf l 2 → 256 ≤ i → (z : Progress) → z ≡ failedOf q 1 → on z t ≡ pokeLabel l q t
+  pub poke-label-1 : (i : ℕ) → i ≡ fieldValue l 2 → 256 ≤ i → (z : Progress) → z ≡ failedOf q 1 → on z t ≡ pokeLabel l q t
   unfolding pokeLabel
   poke-label-1 i p0 h0 z p1 = rw (← p0, ← p1) (search tests)
 
-  pub poke-label-2 : (i : ℕ) → i ≡ valueOf l 2 → i < 256 → (j : ℕ) → j ≡ valueOf l 3 → 4 ≤ j → (z : Progress) → z ≡ failedOf q 1 → on z t ≡ pokeLabel l q t
+  pub poke-label-2 : (i : ℕ) → i ≡ fieldValue l 2 → i < 256 → (j : ℕ) → j ≡ fieldValue l 3 → 4 ≤ j → (z : Progress) → z ≡ failedOf q 1 → on z t ≡ pokeLabel l q t
   unfolding pokeLabel
   poke-label-2 i p0 h0 j p1 h1 z p2 = rw (← p0, ← p1, ← p2) (search tests)
 
-  pub poke-label-3 : (i : ℕ) → i ≡ valueOf l 2 → i < 256 → (j : ℕ) → j ≡ valueOf l 3 → j < 4 → (h : Bool) → h ≡ hasValues l 4 5 → h ≡ true → (n : ℕ) → n ≡ valueOf l 4 → (v : ℕ) → v ≡ n % noNumber → on q (set t (i * 4 + j + 27648) v) ≡ pokeLabel l q t
+  pub poke-label-3 : (i : ℕ) → i ≡ fieldValue l 2 → i < 256 → (j : ℕ) → j ≡ fieldValue l 3 → j < 4 → (h : Bool) → h ≡ hasValues l 4 5 → h ≡ true → (n : ℕ) → n ≡ fieldValue l 4 → (v : ℕ) → v ≡ n % noNumber → on q (set t (i * 4 + j + 27648) v) ≡ pokeLabel l q t
   unfolding pokeLabel
   poke-label-3 i p0 h0 j p1 h1 h p2 h2 n p3 v p4 = rw (← p0, ← p1, ← p2, ← p3, ← p4) (search tests)
 
-  pub poke-label-4 : (i : ℕ) → i ≡ valueOf l 2 → i < 256 → (j : ℕ) → j ≡ valueOf l 3 → j < 4 → (h : Bool) → h ≡ hasValues l 4 5 → h ≡ false → (z : Progress) → z ≡ failedOf q 1 → on z t ≡ pokeLabel l q t
+  pub poke-label-4 : (i : ℕ) → i ≡ fieldValue l 2 → i < 256 → (j : ℕ) → j ≡ fieldValue l 3 → j < 4 → (h : Bool) → h ≡ hasValues l 4 5 → h ≡ false → (z : Progress) → z ≡ failedOf q 1 → on z t ≡ pokeLabel l q t
   unfolding pokeLabel
   poke-label-4 i p0 h0 j p1 h1 h p2 h2 z p3 = rw (← p0, ← p1, ← p2, ← p3) (search tests)
 
@@ -306,23 +306,23 @@ pub ruleset poke-label-ways = (poke-label-1, poke-label-2, poke-label-3, poke-la
 
 -- `poke_name`
 module _ (l : List ℕ) (q : Progress) (b : List ℕ) where
-  pub poke-name-1 : (i : ℕ) → i ≡ valueOf l 2 → 256 ≤ i → (z : Progress) → z ≡ failedOf q 1 → on z b ≡ pokeName l q b
+  pub poke-name-1 : (i : ℕ) → i ≡ fieldValue l 2 → 256 ≤ i → (z : Progress) → z ≡ failedOf q 1 → on z b ≡ pokeName l q b
   unfolding pokeName
   poke-name-1 i p0 h0 z p1 = rw (← p0, ← p1) (search tests)
 
-  pub poke-name-2 : (i : ℕ) → i ≡ valueOf l 2 → i < 256 → (j : ℕ) → j ≡ valueOf l 3 → 64 ≤ j → (z : Progress) → z ≡ failedOf q 1 → on z b ≡ pokeName l q b
+  pub poke-name-2 : (i : ℕ) → i ≡ fieldValue l 2 → i < 256 → (j : ℕ) → j ≡ fieldValue l 3 → 64 ≤ j → (z : Progress) → z ≡ failedOf q 1 → on z b ≡ pokeName l q b
   unfolding pokeName
   poke-name-2 i p0 h0 j p1 h1 z p2 = rw (← p0, ← p1, ← p2) (search tests)
 
-  pub poke-name-3 : (i : ℕ) → i ≡ valueOf l 2 → i < 256 → (j : ℕ) → j ≡ valueOf l 3 → j < 64 → (c : ℕ) → c ≡ countFields l → (c ≡ 5 → ⊥) → (z : Progress) → z ≡ failedOf q 1 → on z b ≡ pokeName l q b
+  pub poke-name-3 : (i : ℕ) → i ≡ fieldValue l 2 → i < 256 → (j : ℕ) → j ≡ fieldValue l 3 → j < 64 → (c : ℕ) → c ≡ countFields l → (c ≡ 5 → ⊥) → (z : Progress) → z ≡ failedOf q 1 → on z b ≡ pokeName l q b
   unfolding pokeName
   poke-name-3 i p0 h0 j p1 h1 c p2 h2 z p3 = rw (← p0, ← p1, ← p2, ← p3) (search tests)
 
-  pub poke-name-4 : (i : ℕ) → i ≡ valueOf l 2 → i < 256 → (j : ℕ) → j ≡ valueOf l 3 → j < 64 → (c : ℕ) → c ≡ countFields l → c ≡ 5 → (v : ℕ) → v ≡ valueOf l 4 → 255 < v → (z : Progress) → z ≡ failedOf q 1 → on z b ≡ pokeName l q b
+  pub poke-name-4 : (i : ℕ) → i ≡ fieldValue l 2 → i < 256 → (j : ℕ) → j ≡ fieldValue l 3 → j < 64 → (c : ℕ) → c ≡ countFields l → c ≡ 5 → (v : ℕ) → v ≡ fieldValue l 4 → 255 < v → (z : Progress) → z ≡ failedOf q 1 → on z b ≡ pokeName l q b
   unfolding pokeName
   poke-name-4 i p0 h0 j p1 h1 c p2 h2 v p3 h3 z p4 = rw (← p0, ← p1, ← p2, ← p3, ← p4) (search tests)
 
-  pub poke-name-5 : (i : ℕ) → i ≡ valueOf l 2 → i < 256 → (j : ℕ) → j ≡ valueOf l 3 → j < 64 → (c : ℕ) → c ≡ countFields l → c ≡ 5 → (v : ℕ) → v ≡ valueOf l 4 → v ≤ 255 → on q (set b (i * 64 + j) v) ≡ pokeName l q b
+  pub poke-name-5 : (i : ℕ) → i ≡ fieldValue l 2 → i < 256 → (j : ℕ) → j ≡ fieldValue l 3 → j < 64 → (c : ℕ) → c ≡ countFields l → c ≡ 5 → (v : ℕ) → v ≡ fieldValue l 4 → v ≤ 255 → on q (set b (i * 64 + j) v) ≡ pokeName l q b
   unfolding pokeName
   poke-name-5 i p0 h0 j p1 h1 c p2 h2 v p3 h3 = rw (← p0, ← p1, ← p2, ← p3) (search tests)
 
@@ -330,15 +330,15 @@ pub ruleset poke-name-ways = (poke-name-1, poke-name-2, poke-name-3, poke-name-4
 
 -- `poke_stack`
 module _ (l : List ℕ) (q : Progress) (k : List ℕ) where
-  pub poke-stack-1 : (i : ℕ) → i ≡ valueOf l 2 → 16385 ≤ i → (z : Progress) → z ≡ failedOf q 1 → on z k ≡ pokeStack l q k
+  pub poke-stack-1 : (i : ℕ) → i ≡ fieldValue l 2 → 16385 ≤ i → (z : Progress) → z ≡ failedOf q 1 → on z k ≡ pokeStack l q k
   unfolding pokeStack
   poke-stack-1 i p0 h0 z p1 = rw (← p0, ← p1) (search tests)
 
-  pub poke-stack-2 : (i : ℕ) → i ≡ valueOf l 2 → i < 16385 → (h : Bool) → h ≡ hasValues l 2 4 → h ≡ true → (n : ℕ) → n ≡ valueOf l 3 → (v : ℕ) → v ≡ n % noNumber → on q (set k i v) ≡ pokeStack l q k
+  pub poke-stack-2 : (i : ℕ) → i ≡ fieldValue l 2 → i < 16385 → (h : Bool) → h ≡ hasValues l 2 4 → h ≡ true → (n : ℕ) → n ≡ fieldValue l 3 → (v : ℕ) → v ≡ n % noNumber → on q (set k i v) ≡ pokeStack l q k
   unfolding pokeStack
   poke-stack-2 i p0 h0 h p1 h1 n p2 v p3 = rw (← p0, ← p1, ← p2, ← p3) (search tests)
 
-  pub poke-stack-3 : (i : ℕ) → i ≡ valueOf l 2 → i < 16385 → (h : Bool) → h ≡ hasValues l 2 4 → h ≡ false → (z : Progress) → z ≡ failedOf q 1 → on z k ≡ pokeStack l q k
+  pub poke-stack-3 : (i : ℕ) → i ≡ fieldValue l 2 → i < 16385 → (h : Bool) → h ≡ hasValues l 2 4 → h ≡ false → (z : Progress) → z ≡ failedOf q 1 → on z k ≡ pokeStack l q k
   unfolding pokeStack
   poke-stack-3 i p0 h0 h p1 h1 z p2 = rw (← p0, ← p1, ← p2) (search tests)
 
@@ -406,7 +406,7 @@ pub ruleset count-part-ways = (count-part-1, count-part-2, count-part-3, count-p
 
 -- `read_count`
 module _ (l : List ℕ) (q : Progress) where
-  pub read-count-1 : (a : Bool) → a ≡ hasValues l 2 3 → a ≡ true → (m : ℕ) → m ≡ valueOf l 2 → (n : ℕ) → n ≡ m % noNumber → (z : Progress) → z ≡ countPart l q n → z ≡ readCount l q
+  pub read-count-1 : (a : Bool) → a ≡ hasValues l 2 3 → a ≡ true → (m : ℕ) → m ≡ fieldValue l 2 → (n : ℕ) → n ≡ m % noNumber → (z : Progress) → z ≡ countPart l q n → z ≡ readCount l q
   unfolding readCount
   read-count-1 a p0 h0 m p1 n p2 z p3 = rw (← p0, ← p1, ← p2, ← p3) (search tests)
 
@@ -470,23 +470,23 @@ module _ (l : List ℕ) (q : Progress) where
   unfolding readLend
   read-lend-1 i p0 h0 z p1 = rw (← p0, ← p1) (search tests)
 
-  pub read-lend-2 : (i : ℕ) → i ≡ countFields l → i ≡ 3 → (n : ℕ) → n ≡ valueOf l 2 → (a : Bool) → a ≡ hasWord l 1 statements-word → a ≡ true → (z : Progress) → z ≡ lendStatements q n → z ≡ readLend l q
+  pub read-lend-2 : (i : ℕ) → i ≡ countFields l → i ≡ 3 → (n : ℕ) → n ≡ fieldValue l 2 → (a : Bool) → a ≡ hasWord l 1 statements-word → a ≡ true → (z : Progress) → z ≡ lendStatements q n → z ≡ readLend l q
   unfolding readLend
   read-lend-2 i p0 h0 n p1 a p2 h1 z p3 = rw (← p0, ← p1, ← p2, ← p3) (search tests)
 
-  pub read-lend-3 : (i : ℕ) → i ≡ countFields l → i ≡ 3 → (n : ℕ) → n ≡ valueOf l 2 → (a : Bool) → a ≡ hasWord l 1 statements-word → a ≡ false → (b : Bool) → b ≡ hasWord l 1 labels-word → b ≡ true → (z : Progress) → z ≡ lendLabels q n → z ≡ readLend l q
+  pub read-lend-3 : (i : ℕ) → i ≡ countFields l → i ≡ 3 → (n : ℕ) → n ≡ fieldValue l 2 → (a : Bool) → a ≡ hasWord l 1 statements-word → a ≡ false → (b : Bool) → b ≡ hasWord l 1 labels-word → b ≡ true → (z : Progress) → z ≡ lendLabels q n → z ≡ readLend l q
   unfolding readLend
   read-lend-3 i p0 h0 n p1 a p2 h1 b p3 h2 z p4 = rw (← p0, ← p1, ← p2, ← p3, ← p4) (search tests)
 
-  pub read-lend-4 : (i : ℕ) → i ≡ countFields l → i ≡ 3 → (n : ℕ) → n ≡ valueOf l 2 → (a : Bool) → a ≡ hasWord l 1 statements-word → a ≡ false → (b : Bool) → b ≡ hasWord l 1 labels-word → b ≡ false → (c : Bool) → c ≡ hasWord l 1 names-word → c ≡ true → (z : Progress) → z ≡ lendNames q n → z ≡ readLend l q
+  pub read-lend-4 : (i : ℕ) → i ≡ countFields l → i ≡ 3 → (n : ℕ) → n ≡ fieldValue l 2 → (a : Bool) → a ≡ hasWord l 1 statements-word → a ≡ false → (b : Bool) → b ≡ hasWord l 1 labels-word → b ≡ false → (c : Bool) → c ≡ hasWord l 1 names-word → c ≡ true → (z : Progress) → z ≡ lendNames q n → z ≡ readLend l q
   unfolding readLend
   read-lend-4 i p0 h0 n p1 a p2 h1 b p3 h2 c p4 h3 z p5 = rw (← p0, ← p1, ← p2, ← p3, ← p4, ← p5) (search tests)
 
-  pub read-lend-5 : (i : ℕ) → i ≡ countFields l → i ≡ 3 → (n : ℕ) → n ≡ valueOf l 2 → (a : Bool) → a ≡ hasWord l 1 statements-word → a ≡ false → (b : Bool) → b ≡ hasWord l 1 labels-word → b ≡ false → (c : Bool) → c ≡ hasWord l 1 names-word → c ≡ false → (d : Bool) → d ≡ hasWord l 1 data-word → d ≡ true → (z : Progress) → z ≡ lendBytes q n → z ≡ readLend l q
+  pub read-lend-5 : (i : ℕ) → i ≡ countFields l → i ≡ 3 → (n : ℕ) → n ≡ fieldValue l 2 → (a : Bool) → a ≡ hasWord l 1 statements-word → a ≡ false → (b : Bool) → b ≡ hasWord l 1 labels-word → b ≡ false → (c : Bool) → c ≡ hasWord l 1 names-word → c ≡ false → (d : Bool) → d ≡ hasWord l 1 data-word → d ≡ true → (z : Progress) → z ≡ lendBytes q n → z ≡ readLend l q
   unfolding readLend
   read-lend-5 i p0 h0 n p1 a p2 h1 b p3 h2 c p4 h3 d p5 h4 z p6 = rw (← p0, ← p1, ← p2, ← p3, ← p4, ← p5, ← p6) (search tests)
 
-  pub read-lend-6 : (i : ℕ) → i ≡ countFields l → i ≡ 3 → (n : ℕ) → n ≡ valueOf l 2 → (a : Bool) → a ≡ hasWord l 1 statements-word → a ≡ false → (b : Bool) → b ≡ hasWord l 1 labels-word → b ≡ false → (c : Bool) → c ≡ hasWord l 1 names-word → c ≡ false → (d : Bool) → d ≡ hasWord l 1 data-word → d ≡ false → (z : Progress) → z ≡ failedOf q 1 → z ≡ readLend l q
+  pub read-lend-6 : (i : ℕ) → i ≡ countFields l → i ≡ 3 → (n : ℕ) → n ≡ fieldValue l 2 → (a : Bool) → a ≡ hasWord l 1 statements-word → a ≡ false → (b : Bool) → b ≡ hasWord l 1 labels-word → b ≡ false → (c : Bool) → c ≡ hasWord l 1 names-word → c ≡ false → (d : Bool) → d ≡ hasWord l 1 data-word → d ≡ false → (z : Progress) → z ≡ failedOf q 1 → z ≡ readLend l q
   unfolding readLend
   read-lend-6 i p0 h0 n p1 a p2 h1 b p3 h2 c p4 h3 d p5 h4 z p6 = rw (← p0, ← p1, ← p2, ← p3, ← p4, ← p5, ← p6) (search tests)
 

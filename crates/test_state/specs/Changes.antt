@@ -7,7 +7,7 @@ use Rattle.base_prelude.specs.Choice.{ifLt, ifEq, ifTrue}
 use Rattle.test_lines.specs.Lines.{startsWith}
 use Rattle.test_lines.specs.Fields.{noNumber}
 use Rattle.test_text.specs.Fields.{countFields, hasWord}
-use Rattle.test_text.specs.Numbers.{valueOf, hasValues}
+use Rattle.test_text.specs.Numbers.{fieldValue, hasValues}
 use Rattle.test_text.specs.Records.{isRecordPoke, pokeRecord}
 use Rattle.test_text.specs.Buffers.{bytesStored}
 use Rattle.test_state.specs.declared.Progress.{Progress}
@@ -68,18 +68,18 @@ names-word = 110 ∷ 97 ∷ 109 ∷ 101 ∷ 115 ∷ 32 ∷ []
 -- `bytes ADDRESS B ..`
 unfoldable pub readBytes : List ℕ → Progress → List ℕ → On
 readBytes l q m =
-    ifLt (valueOf l 1) 65537
-    (ifTrue (bytesStored l (valueOf l 1) (q .lent .memory) m .done)
-    (on q (bytesStored l (valueOf l 1) (q .lent .memory) m .memory))
-    (on (failedOf q 1) (bytesStored l (valueOf l 1) (q .lent .memory) m .memory)))
+    ifLt (fieldValue l 1) 65537
+    (ifTrue (bytesStored l (fieldValue l 1) (q .lent .memory) m .done)
+    (on q (bytesStored l (fieldValue l 1) (q .lent .memory) m .memory))
+    (on (failedOf q 1) (bytesStored l (fieldValue l 1) (q .lent .memory) m .memory)))
     (on (failedOf q 1) m)
 
 -- `poke statement ROW WORD VALUE`
 unfoldable pub pokeStatement : List ℕ → Progress → List ℕ → On
 pokeStatement l q t =
-    ifLt (valueOf l 2) 1024
-    (ifLt (valueOf l 3) 27
-    (ifTrue (hasValues l 4 5) (on q (set t (valueOf l 2 * 27 + valueOf l 3) (valueOf l 4 % noNumber)))
+    ifLt (fieldValue l 2) 1024
+    (ifLt (fieldValue l 3) 27
+    (ifTrue (hasValues l 4 5) (on q (set t (fieldValue l 2 * 27 + fieldValue l 3) (fieldValue l 4 % noNumber)))
     (on (failedOf q 1) t))
     (on (failedOf q 1) t))
     (on (failedOf q 1) t)
@@ -87,9 +87,9 @@ pokeStatement l q t =
 -- `poke label ROW WORD VALUE`
 unfoldable pub pokeLabel : List ℕ → Progress → List ℕ → On
 pokeLabel l q t =
-    ifLt (valueOf l 2) 256
-    (ifLt (valueOf l 3) 4
-    (ifTrue (hasValues l 4 5) (on q (set t (valueOf l 2 * 4 + valueOf l 3 + 27648) (valueOf l 4 % noNumber)))
+    ifLt (fieldValue l 2) 256
+    (ifLt (fieldValue l 3) 4
+    (ifTrue (hasValues l 4 5) (on q (set t (fieldValue l 2 * 4 + fieldValue l 3 + 27648) (fieldValue l 4 % noNumber)))
     (on (failedOf q 1) t))
     (on (failedOf q 1) t))
     (on (failedOf q 1) t)
@@ -97,11 +97,11 @@ pokeLabel l q t =
 -- `poke name ROW BYTE VALUE`
 unfoldable pub pokeName : List ℕ → Progress → List ℕ → On
 pokeName l q b =
-    ifLt (valueOf l 2) 256
-    (ifLt (valueOf l 3) 64
+    ifLt (fieldValue l 2) 256
+    (ifLt (fieldValue l 3) 64
     (ifEq (countFields l) 5
-    (ifLt 255 (valueOf l 4) (on (failedOf q 1) b)
-    (on q (set b (valueOf l 2 * 64 + valueOf l 3) (valueOf l 4))))
+    (ifLt 255 (fieldValue l 4) (on (failedOf q 1) b)
+    (on q (set b (fieldValue l 2 * 64 + fieldValue l 3) (fieldValue l 4))))
     (on (failedOf q 1) b))
     (on (failedOf q 1) b))
     (on (failedOf q 1) b)
@@ -109,8 +109,8 @@ pokeName l q b =
 -- `poke stack INDEX VALUE`
 unfoldable pub pokeStack : List ℕ → Progress → List ℕ → On
 pokeStack l q k =
-    ifLt (valueOf l 2) 16385
-    (ifTrue (hasValues l 2 4) (on q (set k (valueOf l 2) (valueOf l 3 % noNumber)))
+    ifLt (fieldValue l 2) 16385
+    (ifTrue (hasValues l 2 4) (on q (set k (fieldValue l 2) (fieldValue l 3 % noNumber)))
     (on (failedOf q 1) k))
     (on (failedOf q 1) k)
 
@@ -149,7 +149,7 @@ countPart l q n =
 -- `count statements N`, `count labels N`, `count data N`
 unfoldable pub readCount : List ℕ → Progress → Progress
 readCount l q =
-    ifTrue (hasValues l 2 3) (countPart l q (valueOf l 2 % noNumber))
+    ifTrue (hasValues l 2 3) (countPart l q (fieldValue l 2 % noNumber))
     (failedOf q 1)
 
 unfoldable pub lendStatements : Progress → ℕ → Progress
@@ -176,10 +176,10 @@ lendBytes q n =
 unfoldable pub readLend : List ℕ → Progress → Progress
 readLend l q =
     ifEq (countFields l) 3
-    (ifTrue (hasWord l 1 statements-word) (lendStatements q (valueOf l 2))
-    (ifTrue (hasWord l 1 labels-word) (lendLabels q (valueOf l 2))
-    (ifTrue (hasWord l 1 names-word) (lendNames q (valueOf l 2))
-    (ifTrue (hasWord l 1 data-word) (lendBytes q (valueOf l 2))
+    (ifTrue (hasWord l 1 statements-word) (lendStatements q (fieldValue l 2))
+    (ifTrue (hasWord l 1 labels-word) (lendLabels q (fieldValue l 2))
+    (ifTrue (hasWord l 1 names-word) (lendNames q (fieldValue l 2))
+    (ifTrue (hasWord l 1 data-word) (lendBytes q (fieldValue l 2))
     (failedOf q 1)))))
     (failedOf q 1)
 

@@ -9,7 +9,7 @@ use Rattle.vm_definitions.specs.Access.{storeFrom}
 use Rattle.test_lines.specs.Lines.{startsWith}
 use Rattle.test_lines.specs.Sources.{Source, source}
 use Rattle.test_text.specs.Fields.{countFields}
-use Rattle.test_text.specs.Numbers.{valueOf}
+use Rattle.test_text.specs.Numbers.{fieldValue}
 use Rattle.test_text.specs.Answers.{addAll, plainBytes, recordBytes, wordsBytes, holdsBytes}
 use Rattle.test_text.specs.Buffers.{lesserOf, changedIn}
 use Rattle.test_state.specs.declared.Lent.{Lent}
@@ -61,16 +61,16 @@ memoryLent q n =
 unfoldable pub readMemory : List ℕ → Progress → List ℕ → On
 readMemory l q m =
     ifEq (countFields l) 2
-    (ifLt 65537 (valueOf l 1) (on (failedOf q 1) m)
-    (on (memoryLent q (valueOf l 1)) (storeFrom m (valueOf l 1) (replicate (65537 - valueOf l 1) 0))))
+    (ifLt 65537 (fieldValue l 1) (on (failedOf q 1) m)
+    (on (memoryLent q (fieldValue l 1)) (storeFrom m (fieldValue l 1) (replicate (65537 - fieldValue l 1) 0))))
     (on (failedOf q 1) m)
 
 -- `stack N`
 unfoldable pub readStack : List ℕ → Progress → List ℕ → On
 readStack l q k =
     ifEq (countFields l) 2
-    (ifLt 16385 (valueOf l 1) (on (failedOf q 1) k)
-    (on (stackLent q (valueOf l 1)) (storeFrom k (valueOf l 1) (replicate (16385 - valueOf l 1) 0))))
+    (ifLt 16385 (fieldValue l 1) (on (failedOf q 1) k)
+    (on (stackLent q (fieldValue l 1)) (storeFrom k (fieldValue l 1) (replicate (16385 - fieldValue l 1) 0))))
     (on (failedOf q 1) k)
 
 -- what is wanted beside what is given
@@ -110,15 +110,15 @@ readAnswer l q got =
 -- `words INDEX W ..`
 unfoldable pub viewWords : List ℕ → Progress → List ℕ → List ℕ → On
 viewWords l q got k =
-    ifLt (valueOf l 1) 16385
-    (compared l q (addAll (wordsBytes l (valueOf l 1) (take (lesserOf (q .lent .stack) 16385) k)) (source 0 got)))
+    ifLt (fieldValue l 1) 16385
+    (compared l q (addAll (wordsBytes l (fieldValue l 1) (take (lesserOf (q .lent .stack) 16385) k)) (source 0 got)))
     (on (failedOf q 1) got)
 
 -- `holds ADDRESS B ..`
 unfoldable pub viewBytes : List ℕ → Progress → List ℕ → List ℕ → On
 viewBytes l q got m =
-    ifLt (valueOf l 1) 65537
-    (compared l q (addAll (holdsBytes l (valueOf l 1) (take (lesserOf (q .lent .memory) 65537) m)) (source 0 got)))
+    ifLt (fieldValue l 1) 65537
+    (compared l q (addAll (holdsBytes l (fieldValue l 1) (take (lesserOf (q .lent .memory) 65537) m)) (source 0 got)))
     (on (failedOf q 1) got)
 
 -- what the last call changed first: a word, a byte, or nothing

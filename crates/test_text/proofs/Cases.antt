@@ -23,7 +23,7 @@ use Rattle.test_lines.specs.Lines.{startsWith}
 use Rattle.test_lines.specs.Fields.{noNumber, fieldStart, fieldOf}
 use Rattle.test_lines.specs.Sources.{Source, source, addByte}
 use Rattle.test_text.specs.Fields.{countFields, hasWord, wordEnd, rawAt}
-use Rattle.test_text.specs.Numbers.{negatedOf, valueOf, areValues, hasValues, longDigit}
+use Rattle.test_text.specs.Numbers.{negatedOf, fieldValue, areValues, hasValues, longDigit}
 use Rattle.test_text.specs.Answers.{addAll, fieldBytes, none-word, begun-word, refused-word, broken-word, rejected-word, going-word, finished-word, stopped-word, record-word, brokenBytes, startedBytes, rejectedBytes, countedBytes, stoppedBytes, finishedBytes, stateBytes, unsoundBytes, outcomeBytes, recordBytes}
 use Rattle.test_text.specs.Records as poke
 use Rattle.test_text.specs.Records.{pokeNumber, withState, pokeState, isNumberPoke, isStatePoke, isRecordPoke, pokeRecord}
@@ -54,14 +54,14 @@ pub sign-within : (l : List ℕ) (at c : ℕ) → c ≡ byteAt l at → c ≡ 45
 sign-within l at c p e = omega (arith, byte-within l at (omega arith))
 
 module _ (l : List ℕ) (k at c : ℕ) (p : at ≡ fieldStart l k) (q : c ≡ byteAt l at) where
-  pub value-signed : (n r : ℕ) → c ≡ 45 → n ≡ fieldOf (take (length l - (at + 1)) (drop (at + 1) l)) 0 → r ≡ negatedOf n → r ≡ valueOf l k
-  unfolding valueOf
+  pub value-signed : (n r : ℕ) → c ≡ 45 → n ≡ fieldOf (take (length l - (at + 1)) (drop (at + 1) l)) 0 → r ≡ negatedOf n → r ≡ fieldValue l k
+  unfolding fieldValue
   value-signed n r e f g =
       let f′ : n ≡ fieldOf (drop (at + 1) l) 0 = f ∙ ap (λ (m : List ℕ). fieldOf m 0) (take-all (length l - (at + 1)) (drop (at + 1) l) (omega (arith, length-drop (at + 1) l))) in
       rw (← p, ← q, ← f′, ← g) (search tests)
 
-  pub value-plain : (r : ℕ) → (c ≡ 45 → ⊥) → r ≡ fieldOf l k → r ≡ valueOf l k
-  unfolding valueOf
+  pub value-plain : (r : ℕ) → (c ≡ 45 → ⊥) → r ≡ fieldOf l k → r ≡ fieldValue l k
+  unfolding fieldValue
   value-plain r e f = rw (← p, ← q, ← f) (search tests)
 
 pub ruleset values = (value-signed, value-plain)
@@ -156,7 +156,7 @@ pub raw-added : (l : List ℕ) (from end : ℕ) (q z : Source) → end ≡ wordE
 unfolding rawAt
 raw-added l from end q z p e = as-bytes _ _ q z (ap (λ (i : ℕ). take (i - from) (drop from l)) p) e
 
-module _ (l : List ℕ) (k n : ℕ) (p : n ≡ valueOf l k) where
+module _ (l : List ℕ) (k n : ℕ) (p : n ≡ fieldValue l k) where
   is-number : n < noNumber → decimal n ≡ fieldBytes l k
   unfolding fieldBytes
   is-number h = rw (← p) (search tests)
@@ -267,8 +267,8 @@ record-added r q w x y z e f g h =
 -- ---- records
 
 module _ (l : List ℕ) (a : Bool) (p : a ≡ hasWord l 2 poke.next-word) where
-  module _ (r : Machine) (n v : ℕ) (g : n ≡ valueOf l 3) (h : v ≡ n % noNumber) where
-    v-is : v ≡ valueOf l 3 % noNumber
+  module _ (r : Machine) (n v : ℕ) (g : n ≡ fieldValue l 3) (h : v ≡ n % noNumber) where
+    v-is : v ≡ fieldValue l 3 % noNumber
     v-is = h ∙ ap (λ (x : ℕ). x % noNumber) g
 
     pub poke-next : a ≡ true → record { state = r .state; next = v; frame = r .frame; used = r .used; top = r .top } ≡ pokeNumber l r
@@ -316,8 +316,8 @@ pub ruleset pokes = (poke-next, poke-frame, poke-used, poke-top, poke-other)
 
 pub ruleset named = (names-next, names-frame, names-used, names-top)
 
-module _ (l : List ℕ) (a : Bool) (p : a ≡ hasWord l 2 poke.finished-word) (r z : Machine) (n v : ℕ) (g : n ≡ valueOf l 3) (h : v ≡ n % noNumber) where
-  w-is : v ≡ valueOf l 3 % noNumber
+module _ (l : List ℕ) (a : Bool) (p : a ≡ hasWord l 2 poke.finished-word) (r z : Machine) (n v : ℕ) (g : n ≡ fieldValue l 3) (h : v ≡ n % noNumber) where
+  w-is : v ≡ fieldValue l 3 % noNumber
   w-is = h ∙ ap (λ (x : ℕ). x % noNumber) g
 
   pub poke-finished : a ≡ true → z ≡ withState (Finished v) r → z ≡ pokeState l r
@@ -325,10 +325,10 @@ module _ (l : List ℕ) (a : Bool) (p : a ≡ hasWord l 2 poke.finished-word) (r
   poke-finished e f = rw (← p, ← w-is, ← f) (search tests)
 
   module _ (a0 : a ≡ false) (b : Bool) (p′ : b ≡ hasWord l 2 poke.stopped-word) where
-    pub poke-stopped : (m i : ℕ) → b ≡ true → m ≡ valueOf l 4 → i ≡ m % noNumber → z ≡ withState (Stopped v i) r → z ≡ pokeState l r
+    pub poke-stopped : (m i : ℕ) → b ≡ true → m ≡ fieldValue l 4 → i ≡ m % noNumber → z ≡ withState (Stopped v i) r → z ≡ pokeState l r
     unfolding pokeState
     poke-stopped m i e f k q =
-        let k′ : i ≡ valueOf l 4 % noNumber = k ∙ ap (λ (x : ℕ). x % noNumber) f in
+        let k′ : i ≡ fieldValue l 4 % noNumber = k ∙ ap (λ (x : ℕ). x % noNumber) f in
         rw (← p, ← p′, ← w-is, ← k′, ← q) (search tests)
 
     pub poke-running : b ≡ false → z ≡ withState Running r → z ≡ pokeState l r

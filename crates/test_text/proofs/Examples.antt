@@ -16,7 +16,7 @@ use Rattle.app_page.specs.Bytes.{digitsWithin, decimal, field}
 use Rattle.test_lines.specs.Lines.{oneMore}
 use Rattle.test_lines.specs.Fields.{fieldStep, fieldStart, withDigit, digitStep, numberFrom, numberAt, fieldOf}
 use Rattle.test_text.specs.Fields.{countStep, countFields, wordStep, wordEnd, rawAt}
-use Rattle.test_text.specs.Numbers.{negatedOf, valueOf}
+use Rattle.test_text.specs.Numbers.{negatedOf, fieldValue}
 use Rattle.test_text.specs.Answers.{fieldBytes, fieldsFrom, plainBytes, brokenBytes, startedBytes, countedBytes, stoppedBytes, finishedBytes, stateBytes, unsoundBytes, outcomeBytes}
 
 outcome : State → ℕ → Broken → Outcome
@@ -54,11 +54,11 @@ unfolding ifLt digitsWithin decimal field brokenBytes countedBytes stoppedBytes 
 broken-nowhere = refl
 
 -- `run -1`, its field 1
-minus-one : valueOf (114 ∷ 117 ∷ 110 ∷ 32 ∷ 45 ∷ 49 ∷ []) 1 ≡ 4294967295
-unfolding ifLt ifEq byteAt walk oneMore fieldStep fieldStart withDigit digitStep numberFrom numberAt fieldOf negatedOf valueOf
+minus-one : fieldValue (114 ∷ 117 ∷ 110 ∷ 32 ∷ 45 ∷ 49 ∷ []) 1 ≡ 4294967295
+unfolding ifLt ifEq byteAt walk oneMore fieldStep fieldStart withDigit digitStep numberFrom numberAt fieldOf negatedOf fieldValue
 minus-one = refl
 
 -- `finished 3 -2` is `finished 3 4294967294`
 plain-minus : plainBytes (102 ∷ 105 ∷ 110 ∷ 105 ∷ 115 ∷ 104 ∷ 101 ∷ 100 ∷ 32 ∷ 51 ∷ 32 ∷ 45 ∷ 50 ∷ []) ≡ 102 ∷ 105 ∷ 110 ∷ 105 ∷ 115 ∷ 104 ∷ 101 ∷ 100 ∷ 32 ∷ 51 ∷ 32 ∷ 52 ∷ 50 ∷ 57 ∷ 52 ∷ 57 ∷ 54 ∷ 55 ∷ 50 ∷ 57 ∷ 52 ∷ []
-unfolding ifLt ifEq byteAt walk oneMore fieldStep fieldStart withDigit digitStep numberFrom numberAt fieldOf negatedOf valueOf digitsWithin decimal countStep countFields wordStep wordEnd rawAt fieldBytes fieldsFrom plainBytes
+unfolding ifLt ifEq byteAt walk oneMore fieldStep fieldStart withDigit digitStep numberFrom numberAt fieldOf negatedOf fieldValue digitsWithin decimal countStep countFields wordStep wordEnd rawAt fieldBytes fieldsFrom plainBytes
 plain-minus = refl

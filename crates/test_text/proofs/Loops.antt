@@ -21,7 +21,7 @@ use Rattle.test_lines.specs.Lines.{oneMore, count}
 use Rattle.test_lines.specs.Fields.{noNumber}
 use Rattle.test_lines.specs.Sources.{Source, source, addByte}
 use Rattle.test_text.specs.Fields.{countFields, countStep, wordStep, wordEnd}
-use Rattle.test_text.specs.Numbers.{valueOf, valuesStep, areValues, digitsStep, isDigits, longDigit, longStep, longNumber, listed, argumentStep, argumentsOf}
+use Rattle.test_text.specs.Numbers.{fieldValue, valuesStep, areValues, digitsStep, isDigits, longDigit, longStep, longNumber, listed, argumentStep, argumentsOf}
 use Rattle.test_text.specs.Answers.{addAll, fieldBytes, fieldsFrom, plainBytes, none-word, words-word, holds-word, countedBytes, numbersFrom, wordsBytes, holdsBytes}
 use Rattle.test_text.specs.Buffers.{lesserOf, changedStep, changedIn, stored, storing, storeStep, bytesStored}
 use Rattle.test_text.proofs.Cases.{add-two, add-one-byte}
@@ -99,11 +99,11 @@ pub ruleset wording = (wording-start, wording-more, wording-here, wording-past)
 
 -- `are_values`
 module _ (l : List ℕ) (end k : ℕ) where
-  values-on : (n : ℕ) → k < end → n ≡ valueOf l k → n < noNumber → go (k + 1) ≡ valuesStep l end k
+  values-on : (n : ℕ) → k < end → n ≡ fieldValue l k → n < noNumber → go (k + 1) ≡ valuesStep l end k
   unfolding valuesStep
   values-on n h p e = rw (← p) (search tests)
 
-  values-off : (n : ℕ) → k < end → n ≡ valueOf l k → noNumber ≤ n → stop false ≡ valuesStep l end k
+  values-off : (n : ℕ) → k < end → n ≡ fieldValue l k → noNumber ≤ n → stop false ≡ valuesStep l end k
   unfolding valuesStep
   values-off n h p e = rw (← p) (search tests)
 
@@ -119,10 +119,10 @@ unfolding areValues
 valuing-start l from end = record { runs = runs-start _ _ _ _ _ (omega arith) }
 
 module _ (l : List ℕ) (from end k : ℕ) where
-  pub valuing-on : (n : ℕ) → Valuing l from end k → k < end → n ≡ valueOf l k → n < noNumber → Valuing l from end (k + 1)
+  pub valuing-on : (n : ℕ) → Valuing l from end k → k < end → n ≡ fieldValue l k → n < noNumber → Valuing l from end (k + 1)
   valuing-on n h g p e = record { runs = runs-go _ _ _ _ _ (end - k) _ (h .runs) (sym (values-on l end k n g p e)) (omega arith) }
 
-  pub valuing-off : (n : ℕ) → Valuing l from end k → k < end → n ≡ valueOf l k → noNumber ≤ n → false ≡ areValues l from end
+  pub valuing-off : (n : ℕ) → Valuing l from end k → k < end → n ≡ fieldValue l k → noNumber ≤ n → false ≡ areValues l from end
   valuing-off n h g p e = runs-stop _ _ _ _ _ _ (h .runs) (sym (values-off l end k n g p e))
 
   pub valuing-end : Valuing l from end k → end ≤ k → true ≡ areValues l from end
@@ -351,11 +351,11 @@ module _ (l w : List ℕ) (n fields : ℕ) (p : fields ≡ countFields l) where
     unfolding argumentStep
     argument-end h = rw (← p) (search tests)
 
-    argument-bad : (v : ℕ) → n + 2 < fields → v ≡ valueOf l (n + 2) → noNumber ≤ v → stop (listed 17 w) ≡ argumentStep l (countFields l) (listed n w)
+    argument-bad : (v : ℕ) → n + 2 < fields → v ≡ fieldValue l (n + 2) → noNumber ≤ v → stop (listed 17 w) ≡ argumentStep l (countFields l) (listed n w)
     unfolding argumentStep
     argument-bad v h e f = rw (← p, ← e) (search tests)
 
-    argument-on : (v x : ℕ) → n + 2 < fields → v ≡ valueOf l (n + 2) → v < noNumber → x ≡ v % noNumber
+    argument-on : (v x : ℕ) → n + 2 < fields → v ≡ fieldValue l (n + 2) → v < noNumber → x ≡ v % noNumber
         → go (listed (n + 1) (set w n x)) ≡ argumentStep l (countFields l) (listed n w)
     unfolding argumentStep
     argument-on v x h e f k = rw (← p, ← e, ← k) (search tests)
@@ -372,10 +372,10 @@ module _ (l w₀ w : List ℕ) (n fields : ℕ) (h : Listing l w₀ w n) (p : fi
   pub listing-end : n < 16 → fields ≤ n + 2 → listed n w ≡ argumentsOf l w₀
   listing-end g e = runs-stop _ _ _ _ _ _ (h .runs) (sym (argument-end l w n fields p g e))
 
-  pub listing-bad : (v : ℕ) → n < 16 → n + 2 < fields → v ≡ valueOf l (n + 2) → noNumber ≤ v → listed 17 w ≡ argumentsOf l w₀
+  pub listing-bad : (v : ℕ) → n < 16 → n + 2 < fields → v ≡ fieldValue l (n + 2) → noNumber ≤ v → listed 17 w ≡ argumentsOf l w₀
   listing-bad v g e f k = runs-stop _ _ _ _ _ _ (h .runs) (sym (argument-bad l w n fields p g v e f k))
 
-  pub listing-more : (v x : ℕ) → n < 16 → n + 2 < fields → v ≡ valueOf l (n + 2) → v < noNumber → x ≡ v % noNumber → Listing l w₀ (set w n x) (n + 1)
+  pub listing-more : (v x : ℕ) → n < 16 → n + 2 < fields → v ≡ fieldValue l (n + 2) → v < noNumber → x ≡ v % noNumber → Listing l w₀ (set w n x) (n + 1)
   listing-more v x g e f k z =
       record { below = omega arith; runs = runs-go _ _ _ _ _ (16 - n) _ (h .runs) (sym (argument-on l w n fields p g v x e f k z)) (omega arith) }
 
@@ -529,11 +529,11 @@ module _ (l : List ℕ) (fields at n i f : ℕ) (m : List ℕ) (p : fields ≡ c
       unfolding storeStep
       store-far e = rw (← p) (search tests)
 
-      store-large : (v : ℕ) → i < 65537 → v ≡ valueOf l f → 255 < v → stop (stored false m) ≡ storeStep l (countFields l) at n (storing i f m)
+      store-large : (v : ℕ) → i < 65537 → v ≡ fieldValue l f → 255 < v → stop (stored false m) ≡ storeStep l (countFields l) at n (storing i f m)
       unfolding storeStep
       store-large v e q k = rw (← p, ← q) (search tests)
 
-      store-on : (v : ℕ) → i < 65537 → v ≡ valueOf l f → v ≤ 255 → go (storing (i + 1) (f + 1) (set m i v)) ≡ storeStep l (countFields l) at n (storing i f m)
+      store-on : (v : ℕ) → i < 65537 → v ≡ fieldValue l f → v ≤ 255 → go (storing (i + 1) (f + 1) (set m i v)) ≡ storeStep l (countFields l) at n (storing i f m)
       unfolding storeStep
       store-on v e q k = rw (← p, ← q) (search tests)
 
@@ -557,10 +557,10 @@ module _ (l : List ℕ) (fields at n : ℕ) (m₀ m : List ℕ) (i f : ℕ) (h :
       pub bytes-far : 65537 ≤ i → stored false m ≡ bytesStored l at n m₀
       bytes-far e = runs-stop _ _ _ _ _ _ (h .runs) (sym (store-far l fields at n i f m p g b e))
 
-      pub bytes-large : (v : ℕ) → i < 65537 → v ≡ valueOf l f → 255 < v → stored false m ≡ bytesStored l at n m₀
+      pub bytes-large : (v : ℕ) → i < 65537 → v ≡ fieldValue l f → 255 < v → stored false m ≡ bytesStored l at n m₀
       bytes-large v e q k = runs-stop _ _ _ _ _ _ (h .runs) (sym (store-large l fields at n i f m p g b v e q k))
 
-      pub bytes-on : (v : ℕ) → i < 65537 → v ≡ valueOf l f → v ≤ 255 → Bytes l fields at n m₀ (set m i v) (i + 1) (f + 1)
+      pub bytes-on : (v : ℕ) → i < 65537 → v ≡ fieldValue l f → v ≤ 255 → Bytes l fields at n m₀ (set m i v) (i + 1) (f + 1)
       bytes-on v e q k =
           record { runs = runs-go _ _ _ _ _ (fields - f) _ (h .runs) (sym (store-on l fields at n i f m p g b v e q k)) (omega arith) }
 

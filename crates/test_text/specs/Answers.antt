@@ -16,7 +16,7 @@ use Rattle.app_page.specs.Bytes.{decimal, field}
 use Rattle.test_lines.specs.Fields.{noNumber, fieldStart}
 use Rattle.test_lines.specs.Sources.{Source, addByte}
 use Rattle.test_text.specs.Fields.{countFields, rawAt}
-use Rattle.test_text.specs.Numbers.{valueOf}
+use Rattle.test_text.specs.Numbers.{fieldValue}
 
 -- a text with bytes more
 unfoldable pub addAll : List ℕ → Source → Source
@@ -25,7 +25,7 @@ addAll (c ∷ cs) q = addAll cs (addByte (q .text) (q .size) c)
 
 -- a field: a number in decimal, another word as it is
 unfoldable pub fieldBytes : List ℕ → ℕ → List ℕ
-fieldBytes l k = ifLt (valueOf l k) noNumber (decimal (valueOf l k)) (rawAt l (fieldStart l k))
+fieldBytes l k = ifLt (fieldValue l k) noNumber (decimal (fieldValue l k)) (rawAt l (fieldStart l k))
 
 -- fields from one on, a blank before each
 unfoldable pub fieldsFrom : List ℕ → ℕ → ℕ → List ℕ

@@ -8,7 +8,7 @@ use lib.ListN.{length, drop, getD, set}
 use Rattle.base_prelude.specs.Choice.{ifLt, ifEq}
 use Rattle.base_prelude.specs.Walk.{Step, go, stop, walk}
 use Rattle.test_text.specs.Fields.{countFields}
-use Rattle.test_text.specs.Numbers.{valueOf}
+use Rattle.test_text.specs.Numbers.{fieldValue}
 
 -- the lesser of two numbers
 unfoldable pub lesserOf : ℕ → ℕ → ℕ
@@ -45,8 +45,8 @@ storeStep l fields at n q =
     ifLt (q .field) fields
     (ifLt (q .at) n
     (ifLt (q .at) 65537
-    (ifLt 255 (valueOf l (q .field)) (stop (stored false (q .memory)))
-    (go (storing (q .at + 1) (q .field + 1) (set (q .memory) (q .at) (valueOf l (q .field))))))
+    (ifLt 255 (fieldValue l (q .field)) (stop (stored false (q .memory)))
+    (go (storing (q .at + 1) (q .field + 1) (set (q .memory) (q .at) (fieldValue l (q .field))))))
     (stop (stored false (q .memory))))
     (stop (stored false (q .memory))))
     (stop (stored (ltb at (q .at)) (q .memory)))

@@ -17,12 +17,12 @@ unfoldable pub negatedOf : ℕ → ℕ
 negatedOf n = ifLt n noNumber ((noNumber - n) % noNumber) noNumber
 
 -- the number in a field; one behind `-` is below zero
-unfoldable pub valueOf : List ℕ → ℕ → ℕ
-valueOf l k =
+unfoldable pub fieldValue : List ℕ → ℕ → ℕ
+fieldValue l k =
     ifEq (byteAt l (fieldStart l k)) 45 (negatedOf (fieldOf (drop (fieldStart l k + 1) l) 0)) (fieldOf l k)
 
 unfoldable pub valuesStep : List ℕ → ℕ → ℕ → Step ℕ Bool
-valuesStep l end k = ifLt k end (ifLt (valueOf l k) noNumber (go (k + 1)) (stop false)) (stop true)
+valuesStep l end k = ifLt k end (ifLt (fieldValue l k) noNumber (go (k + 1)) (stop false)) (stop true)
 
 -- whether the fields from one to before another are numbers
 unfoldable pub areValues : List ℕ → ℕ → ℕ → Bool
@@ -66,8 +66,8 @@ unfoldable pub argumentStep : List ℕ → ℕ → Listed → Step Listed Listed
 argumentStep l fields q =
     ifLt (q .count) 16
     (ifLt (q .count + 2) fields
-    (ifLt (valueOf l (q .count + 2)) noNumber
-    (go (listed (q .count + 1) (set (q .words) (q .count) (valueOf l (q .count + 2) % noNumber))))
+    (ifLt (fieldValue l (q .count + 2)) noNumber
+    (go (listed (q .count + 1) (set (q .words) (q .count) (fieldValue l (q .count + 2) % noNumber))))
     (stop (listed 17 (q .words))))
     (stop (listed (q .count) (q .words))))
     (ifLt 18 fields (stop (listed 17 (q .words))) (stop (listed 16 (q .words))))

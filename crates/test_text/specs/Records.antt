@@ -9,7 +9,7 @@ use Rattle.base_limits.specs.declared.State.the-variants.{Running, Finished, St
 use Rattle.base_limits.specs.declared.Machine.{Machine}
 use Rattle.test_lines.specs.Fields.{noNumber}
 use Rattle.test_text.specs.Fields.{hasWord}
-use Rattle.test_text.specs.Numbers.{valueOf, hasValues}
+use Rattle.test_text.specs.Numbers.{fieldValue, hasValues}
 
 -- `next `
 abbrev pub next-word : List ℕ
@@ -42,10 +42,10 @@ stopped-word = 115 ∷ 116 ∷ 111 ∷ 112 ∷ 112 ∷ 101 ∷ 100 ∷ 32 ∷ []
 -- one of its numbers
 unfoldable pub pokeNumber : List ℕ → Machine → Machine
 pokeNumber l r =
-    ifTrue (hasWord l 2 next-word) (record { state = r .state; next = valueOf l 3 % noNumber; frame = r .frame; used = r .used; top = r .top })
-    (ifTrue (hasWord l 2 frame-word) (record { state = r .state; next = r .next; frame = valueOf l 3 % noNumber; used = r .used; top = r .top })
-    (ifTrue (hasWord l 2 used-word) (record { state = r .state; next = r .next; frame = r .frame; used = valueOf l 3 % noNumber; top = r .top })
-    (ifTrue (hasWord l 2 top-word) (record { state = r .state; next = r .next; frame = r .frame; used = r .used; top = valueOf l 3 % noNumber }) r)))
+    ifTrue (hasWord l 2 next-word) (record { state = r .state; next = fieldValue l 3 % noNumber; frame = r .frame; used = r .used; top = r .top })
+    (ifTrue (hasWord l 2 frame-word) (record { state = r .state; next = r .next; frame = fieldValue l 3 % noNumber; used = r .used; top = r .top })
+    (ifTrue (hasWord l 2 used-word) (record { state = r .state; next = r .next; frame = r .frame; used = fieldValue l 3 % noNumber; top = r .top })
+    (ifTrue (hasWord l 2 top-word) (record { state = r .state; next = r .next; frame = r .frame; used = r .used; top = fieldValue l 3 % noNumber }) r)))
 
 unfoldable pub withState : State → Machine → Machine
 withState q r = record { state = q; next = r .next; frame = r .frame; used = r .used; top = r .top }
@@ -53,8 +53,8 @@ withState q r = record { state = q; next = r .next; frame = r .frame; used = r .
 -- its state
 unfoldable pub pokeState : List ℕ → Machine → Machine
 pokeState l r =
-    ifTrue (hasWord l 2 finished-word) (withState (Finished (valueOf l 3 % noNumber)) r)
-    (ifTrue (hasWord l 2 stopped-word) (withState (Stopped (valueOf l 3 % noNumber) (valueOf l 4 % noNumber)) r)
+    ifTrue (hasWord l 2 finished-word) (withState (Finished (fieldValue l 3 % noNumber)) r)
+    (ifTrue (hasWord l 2 stopped-word) (withState (Stopped (fieldValue l 3 % noNumber) (fieldValue l 4 % noNumber)) r)
     (withState Running r))
 
 -- whether a line names a number of the record

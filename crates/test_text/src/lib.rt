@@ -20,7 +20,7 @@ ghost use Rattle.test_lines.specs.Sources.{source};
 ghost use Rattle.app_page.specs.Bytes.{digitsWithin, decimal, field};
 ghost use Rattle.vm_definitions.specs.Access.{storeFrom};
 ghost use Rattle.test_text.specs.Fields.{countFields, hasWord, wordEnd, rawAt};
-ghost use Rattle.test_text.specs.Numbers.{negatedOf, valueOf, areValues, hasValues, isDigits, longDigit, longNumber, listed, argumentsOf};
+ghost use Rattle.test_text.specs.Numbers.{negatedOf, fieldValue, areValues, hasValues, isDigits, longDigit, longNumber, listed, argumentsOf};
 ghost use Rattle.test_text.specs.Answers.{addAll, fieldBytes, plainBytes, brokenBytes, startedBytes, rejectedBytes, countedBytes, stoppedBytes, finishedBytes, stateBytes, unsoundBytes, outcomeBytes, recordBytes, numbersFrom, wordsBytes, holdsBytes};
 ghost use Rattle.test_text.specs.Records.{pokeNumber, withState, pokeState, isNumberPoke, isStatePoke, isRecordPoke, pokeRecord};
 ghost use Rattle.test_text.specs.Buffers.{lesserOf, behindOf, changedIn, stored, bytesStored};
@@ -106,7 +106,7 @@ fn negated(n: u64) -> u64
 
 // The number in a field, modulo 2^32 where it has a sign; NO_NUMBER or more where it is none.
 pub fn value(l: &[u8], k: u64) -> u64
-    ensures { λ r. ⌜ r ≡ valueOf (now (l .entry)) k ⌝ }
+    ensures { λ r. ⌜ r ≡ fieldValue (now (l .entry)) k ⌝ }
 {
     let at = field_start(l, k);
     let c = byte_at(l, at);

@@ -1,4 +1,4 @@
--- The faults of crates naming and exports are the least of those that their rules find in the whole source.
+-- The faults of crates res_names and res_exports are the least of those that their rules find in the whole source.
 -- Assumes nothing.
 use mathlib.Core.Path.{_≡_, refl, sym, _∙_, ap, subst}
 use mathlib.Core.Bool.{Bool}

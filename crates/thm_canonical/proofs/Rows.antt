@@ -21,7 +21,7 @@ use Rattle.prog_tables.specs.WellFormed.{hasOperands}
 use Rattle.prog_tables.specs.Canonical.{usesWord, unusedZero, zeroFrom}
 use Rattle.prog_tables.specs.declared.Operand.{Operand}
 use Rattle.prog_tables.specs.declared.Operand.the-variants.{Unlisted}
-use Rattle.res_frame_words.specs.Framing.{valueOf, wordOf, wordsOf}
+use Rattle.res_frame_words.specs.Framing.{frameValue, wordOf, wordsOf}
 use Rattle.res_frame_words.proofs.Laws.{word-at}
 use Rattle.res_scope.specs.Lines.{firstToken, endToken}
 use Rattle.res_scope.specs.Parts.{partsOf}
@@ -101,8 +101,8 @@ operands-long (suc n) same t k y l w z r i = ap suc (operands-long n same t k y 
 
 -- the frame word of a row whose kind has none
 module _ (f : ℕ → Row) (c r : ℕ) (a : f r .kind ≡ 1 → ⊥) (b : hasWord (f r .kind) ≡ false) (d : hasTarget (f r .kind) ≡ false) where
-  value-none : valueOf f c r ≡ 0
-  unfolding valueOf
+  value-none : frameValue f c r ≡ 0
+  unfolding frameValue
   value-none =
       ifEq-no _ _ a ∙ ifEq-no _ _ (λ e. wordless (f r .kind) b (omega arith) (omega arith)) ∙ ifEq-no _ _ (λ e. wordless (f r .kind) b (omega arith) (omega arith))
       ∙ ifEq-no _ _ (λ e. wordless (f r .kind) b (omega arith) (omega arith)) ∙ ifTrue-no _ _ d

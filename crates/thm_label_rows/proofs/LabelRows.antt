@@ -25,13 +25,13 @@ use Rattle.parse_lines.specs.declared.Span.{Span}
 use Rattle.parse_rules.specs.Rules.{labelsRule}
 use Rattle.parse_units.specs.Outline.{rowAt}
 use Rattle.parse_units.specs.Places.{groundIn, unitFault}
-use Rattle.parse_units.specs.Parse.{World, world, Result, result, begin, growBy, stateBehind, joinState, advance, sectionBehind, openRow, faultIn, turnOn, turnOf, parseFrom, parseOf}
-use Rattle.parse_units.specs.Fits.{TurnFits}
+use Rattle.parse_units.specs.Parse.{World, world, Result, result, begin, growBy, stateBehind, joinState, advance, sectionBehind, openRow, faultIn, unitStepOn, unitStep, parseFrom, parseOf}
+use Rattle.parse_units.specs.Fits.{UnitStepFits}
 use Rattle.parse_units.specs.declared.State.{State}
 use Rattle.parse_units.specs.declared.Verdict.{Verdict}
 use Rattle.parse_units.specs.declared.Verdict.the-variants.{Accepted, Refused}
 use Rattle.parse_units.proofs.Bounds.{unit-order, clean-room}
-use Rattle.parse_units.proofs.Turns.{TurnGood, turn-good}
+use Rattle.parse_units.proofs.UnitSteps.{UnitStepGood, unit-step-good}
 use Rattle.parse_outline.specs.Labels as marks
 use Rattle.parse_outline.specs.Labels.{labelNumber, Marked, marked, markUnit, Marking, marking, marksBehind, markOn, markStep, marksFrom, firstMarks, labelRows}
 use Rattle.parse_outline.specs.declared.Marks.{Marks}
@@ -102,7 +102,7 @@ Labels t x c token kind number = (kindAt t token ≡ 2) × Free t token × Named
 -- ---- the parser's walk and that of the label rows, side by side
 
 record Linked (t : List ℕ) (x : World) (m : Marking) : Type 0 where
-  fits : TurnFits t (x .table) (x .state)
+  fits : UnitStepFits t (x .table) (x .state)
   few : x .state .labels ≤ x .state .at
   at : m .state .at ≡ x .state .at
   row : m .state .row ≡ x .state .count
@@ -197,19 +197,19 @@ module _ (w : Width) (t : List ℕ) (n : ℕ) (x : World) (m : Marking) (h : Lin
               h .last (sym (ap (λ (i : ℕ). rowAt (growBy (rowsOf k) t u k x .table) i .kind) z ∙ grown .stays (x .state .count - 1) (omega (arith, h .some))) ∙ e)
         ]
 
-    turn-go : (k ≡ 0 → ⊥) → turnOf w t n x ≡ go on
-    unfolding turnOf turnOn
-    turn-go d = ifLt-no _ _ c ∙ ifEq-no _ _ d
+    unit-step-go : (k ≡ 0 → ⊥) → unitStep w t n x ≡ go on
+    unfolding unitStep unitStepOn
+    unit-step-go d = ifLt-no _ _ c ∙ ifEq-no _ _ d
 
-    turn-end : k ≡ 0 → turnOf w t n x ≡ stop (result (Accepted (x .state .count) (x .state .labels)) (x .table))
-    unfolding turnOf turnOn
-    turn-end e = ifLt-no _ _ c ∙ ifEq-yes _ _ e
+    unit-step-end : k ≡ 0 → unitStep w t n x ≡ stop (result (Accepted (x .state .count) (x .state .labels)) (x .table))
+    unfolding unitStep unitStepOn
+    unit-step-end e = ifLt-no _ _ c ∙ ifEq-yes _ _ e
 
     -- behind the unit
     linked-on : (k ≡ 0 → ⊥) → Linked t on (marking (marksBehind u k (m .state) (unit .count)) (unit .table))
     unfolding advance joinState stateBehind marksBehind
     linked-on d =
-        let g : TurnGood t (x .state) (go on) = subst (TurnGood t (x .state)) (turn-go d) (turn-good w t n (x .state) (x .table) (h .fits) (h .few)) in
+        let g : UnitStepGood t (x .state) (go on) = subst (UnitStepGood t (x .state)) (unit-step-go d) (unit-step-good w t n (x .state) (x .table) (h .fits) (h .few)) in
         let q : unit .count ≡ labelsRule t n u (x .state .labels) .count = unit-count t n u k (m .state) (m .table) ∙ ap (λ (i : ℕ). labelsRule t n u i .count) (h .labels) in
         record {
           fits = g .0 .0;
@@ -224,9 +224,9 @@ module _ (w : Width) (t : List ℕ) (n : ℕ) (x : World) (m : Marking) (h : Lin
           each = λ j a b. new-each j (omega arith) b;
         }
 
-  turn-refused : faultIn w t n u x < none → turnOf w t n x ≡ stop (result (Refused (faultIn w t n u x)) (x .table))
-  unfolding turnOf turnOn
-  turn-refused l = ifLt-yes _ _ l
+  unit-step-refused : faultIn w t n u x < none → unitStep w t n x ≡ stop (result (Refused (faultIn w t n u x)) (x .table))
+  unfolding unitStep unitStepOn
+  unit-step-refused l = ifLt-yes _ _ l
 
   mark-end : k ≡ 0 → markStep t m ≡ stop (unit .table)
   unfolding markOn
@@ -245,22 +245,22 @@ abbrev Rowed : List ℕ → Result → List ℕ → Type 0
 Rowed t r y = Answered t (r .verdict) (r .outline) y
 
 walks-linked : (w : Width) (t : List ℕ) (n fuel : ℕ) (x : World) (m : Marking) → Linked t x m
-    → Rowed t (walk (turnOf w t n) (result (Refused none) []) fuel x) (walk (markStep t) [] fuel m)
+    → Rowed t (walk (unitStep w t n) (result (Refused none) []) fuel x) (walk (markStep t) [] fuel m)
 unfolding walk
 walks-linked w t n zero x m h = tt
 walks-linked w t n (suc fuel) x m h =
     elim (decLt (faultIn w t n (unitAt t (x .state .at)) x) none) [
-      | yes l ↦ subst (λ (r : Result). Rowed t r (walk (markStep t) [] (suc fuel) m)) (sym (walk-stop (turnOf w t n) (result (Refused none) []) fuel x _ (turn-refused w t n x m h l))) tt
+      | yes l ↦ subst (λ (r : Result). Rowed t r (walk (markStep t) [] (suc fuel) m)) (sym (walk-stop (unitStep w t n) (result (Refused none) []) fuel x _ (unit-step-refused w t n x m h l))) tt
       | no l ↦
           let c : none ≤ faultIn w t n (unitAt t (x .state .at)) x = omega arith in
           elim (ℕ-discrete (lineKind t (unitAt t (x .state .at) .word)) 0) [
             | yes e ↦
-                subst (λ (r : Result). Rowed t r (walk (markStep t) [] (suc fuel) m)) (sym (walk-stop (turnOf w t n) (result (Refused none) []) fuel x _ (turn-end w t n x m h c e)))
+                subst (λ (r : Result). Rowed t r (walk (markStep t) [] (suc fuel) m)) (sym (walk-stop (unitStep w t n) (result (Refused none) []) fuel x _ (unit-step-end w t n x m h c e)))
                 (subst (λ (y : List ℕ). Each (Labels t (x .table) (x .state .count)) y (x .state .labels))
                 (sym (walk-stop (markStep t) [] fuel m _ (mark-end w t n x m h e) ∙ ap (λ (y : Marked). y .table) (end-plain w t n x m h c e))) (h .each))
             | no d ↦
-                subst (λ (r : Result). Rowed t r (walk (markStep t) [] (suc fuel) m)) (sym (walk-go (turnOf w t n) (result (Refused none) []) fuel x _ (turn-go w t n x m h c d)))
-                (subst (λ (y : List ℕ). Rowed t (walk (turnOf w t n) (result (Refused none) []) fuel (advance t n (unitAt t (x .state .at)) (lineKind t (unitAt t (x .state .at) .word)) x)) y)
+                subst (λ (r : Result). Rowed t r (walk (markStep t) [] (suc fuel) m)) (sym (walk-go (unitStep w t n) (result (Refused none) []) fuel x _ (unit-step-go w t n x m h c d)))
+                (subst (λ (y : List ℕ). Rowed t (walk (unitStep w t n) (result (Refused none) []) fuel (advance t n (unitAt t (x .state .at)) (lineKind t (unitAt t (x .state .at) .word)) x)) y)
                 (sym (walk-go (markStep t) [] fuel m _ (mark-go w t n x m h d)))
                 (walks-linked w t n fuel _ _ (linked-on w t n x m h c d)))
           ]

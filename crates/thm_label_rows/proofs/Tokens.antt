@@ -21,7 +21,7 @@ use Rattle.lex_lexeme.specs.Reading.{isNamed, nameStart, textOf, nextRead}
 use Rattle.lex_lexeme.specs.declared.Lexeme.{Lexeme}
 use Rattle.lex_lexeme.specs.declared.Reading.{Reading}
 use Rattle.lex_lexeme.specs.declared.Reading.the-variants.{End, Lone, Broken, Open, Whole}
-use Rattle.lex_source.specs.Token.{Token, isSubstitute, wordOf, valueOf, tokenOf}
+use Rattle.lex_source.specs.Token.{Token, isSubstitute, wordOf, tokenValue, tokenOf}
 use Rattle.lex_source.specs.Faults.{faultOf}
 use Rattle.lex_source.specs.Lex as lex
 use Rattle.lex_source.specs.Lex.{State, state, Outcome, accepted, refused, tokenStep, lexStep, tokensFrom, lexOf}
@@ -61,8 +61,8 @@ label-named : isNamed 2 ≡ true
 unfolding isNamed ifLt
 label-named = refl
 
-value-made : (w : Width) (kind value size word : ℕ) → kind ≡ 2 → valueOf w kind value size word ≡ size
-unfolding valueOf
+value-made : (w : Width) (kind value size word : ℕ) → kind ≡ 2 → tokenValue w kind value size word ≡ size
+unfolding tokenValue
 value-made w kind value size word e =
     ifTrue-no _ _ (ap isSubstitute e ∙ label-plain) ∙ ifEq-no _ _ (λ z. let y : ⊥ = omega arith in y) ∙ ifEq-no _ _ (λ z. let y : ⊥ = omega arith in y)
 
@@ -86,14 +86,14 @@ step-made w s q (Broken p) h = tt
 step-made w s q (Open p) h = tt
 step-made w s q (Whole x) h = every-more Made (q .tokens) (tokenOf w s (q .tokens) x) h (token-made w s (q .tokens) x)
 
-turn-made : (w : Width) (s : List ℕ) (q : State) → Every Made (q .tokens) → Kept (λ (x : State). Every Made (x .tokens)) MadeIn (lexStep w s q)
-unfolding lexStep lex.turnOf
-turn-made w s q h =
+unit-step-made : (w : Width) (s : List ℕ) (q : State) → Every Made (q .tokens) → Kept (λ (x : State). Every Made (x .tokens)) MadeIn (lexStep w s q)
+unfolding lexStep lex.readStep
+unit-step-made w s q h =
     either (Kept (λ (x : State). Every Made (x .tokens)) MadeIn) (faultOf s (length (q .tokens)) (nextRead w s (q .at))) none _ _ (λ _. tt) (λ _. step-made w s q (nextRead w s (q .at)) h)
 
 from-made : (w : Width) (s : List ℕ) → MadeIn (tokensFrom w s (state 0 []))
 unfolding tokensFrom
-from-made w s = walk-kept (λ (x : State). Every Made (x .tokens)) MadeIn (lexStep w s) (refused none) tt (turn-made w s) (suc (length s)) (state 0 []) tt
+from-made w s = walk-kept (λ (x : State). Every Made (x .tokens)) MadeIn (lexStep w s) (refused none) tt (unit-step-made w s) (suc (length s)) (state 0 []) tt
 
 lex-made : (w : Width) (s : List ℕ) → MadeIn (lexOf w s)
 unfolding lexOf

@@ -22,14 +22,14 @@ use Rattle.parse_shapes.specs.Shapes.{operandCount}
 use Rattle.parse_rules.specs.Rules.{shapeRule, tokensRule, listRule}
 use Rattle.parse_units.specs.Outline.{rowAt, rowIn, putRow}
 use Rattle.parse_units.specs.Places.{groundIn, lineFaults, limitFaults, unitFault}
-use Rattle.parse_units.specs.Parse.{World, world, putState, putKind, growTwo, growBy, joinState, advance, Result, result, openRow, faultIn, turnOn, turnOf, begin, parseFrom, parseOf}
-use Rattle.parse_units.specs.Fits.{TurnFits}
+use Rattle.parse_units.specs.Parse.{World, world, putState, putKind, growTwo, growBy, joinState, advance, Result, result, openRow, faultIn, unitStepOn, unitStep, begin, parseFrom, parseOf}
+use Rattle.parse_units.specs.Fits.{UnitStepFits}
 use Rattle.parse_units.specs.declared.Row.{Row}
 use Rattle.parse_units.specs.declared.State.{State}
 use Rattle.parse_units.specs.declared.Verdict.{Verdict}
 use Rattle.parse_units.specs.declared.Verdict.the-variants as verdict
 use Rattle.parse_units.proofs.Bounds.{unit-order, unit-next, line-some, clean-room}
-use Rattle.parse_units.proofs.Turns.{TurnGood, turn-good}
+use Rattle.parse_units.proofs.UnitSteps.{UnitStepGood, unit-step-good}
 use Rattle.parse_outline.specs.Outline.{answerOf, outlineOf, Outlined}
 use Rattle.parse_outline.specs.Outline as outline
 use Rattle.parse_outline.specs.declared.Parsed.{Parsed}
@@ -132,7 +132,7 @@ module _ (w : Width) (t : List ℕ) (n : ℕ) where
 -- ---- the walk
 
 abbrev Good : Width → List ℕ → ℕ → World → Type 0
-Good w t n x = TurnFits t (x .table) (x .state) × (x .state .labels ≤ x .state .at) × AllLined w t n x
+Good w t n x = UnitStepFits t (x .table) (x .state) × (x .state .labels ≤ x .state .at) × AllLined w t n x
 
 abbrev Answer : Width → List ℕ → ℕ → List ℕ → Verdict → Type 0
 Answer w t n rows (verdict.Accepted count labels) = (count ≤ 1025) × ((m : ℕ) → 1 ≤ m → m < count → RowLined w t n (rowAt rows m))
@@ -152,16 +152,16 @@ module _ (w : Width) (t : List ℕ) (n : ℕ) (x : World) (h : Good w t n x) whe
       let b : Line w t n (unitAt t (x .state .at)) (lineKind t (unitAt t (x .state .at) .word)) = unit-line w t n (unitAt t (x .state .at)) (lineKind t (unitAt t (x .state .at) .word)) (groundIn (x .state) (openRow x)) (x .state) c (x .state .at) refl refl (unit-next t (x .state .at) (h .0 .tokens) (omega arith)) in
       grow-more w t n (rowsOf (lineKind t (unitAt t (x .state .at) .word))) (unitAt t (x .state .at)) (lineKind t (unitAt t (x .state .at) .word)) x refl (omega (arith, h .0 .free)) (h .0 .long) (h .2) b
 
-  turn-led : Led w t n (turnOf w t n x)
-  unfolding turnOf turnOn
-  turn-led =
+  unit-step-led : Led w t n (unitStep w t n x)
+  unfolding unitStep unitStepOn
+  unit-step-led =
       either (Led w t n) (faultIn w t n (unitAt t (x .state .at)) x) none _ _ (λ _. tt) (λ c.
       either-eq (Led w t n) (lineKind t (unitAt t (x .state .at) .word)) 0 _ _ (λ _. (h .0 .free, h .2)) (λ e. advance-lined c e))
 
-  turn-lined : Kept (Good w t n) (λ (r : Result). Answer w t n (r .outline) (r .verdict)) (turnOf w t n x)
-  turn-lined = by (turnOf w t n x) (turn-good w t n (x .state) (x .table) (h .0) (h .1)) turn-led
+  unit-step-lined : Kept (Good w t n) (λ (r : Result). Answer w t n (r .outline) (r .verdict)) (unitStep w t n x)
+  unit-step-lined = by (unitStep w t n x) (unit-step-good w t n (x .state) (x .table) (h .0) (h .1)) unit-step-led
     where
-      by : (s : Step World Result) → TurnGood t (x .state) s → Led w t n s → Kept (Good w t n) (λ (r : Result). Answer w t n (r .outline) (r .verdict)) s
+      by : (s : Step World Result) → UnitStepGood t (x .state) s → Led w t n s → Kept (Good w t n) (λ (r : Result). Answer w t n (r .outline) (r .verdict)) s
       by (go y) g f = (g .0 .0, g .0 .1, f)
       by (stop r) g f = f
 
@@ -175,7 +175,7 @@ begin-good w t n e = (
 parse-lined : (w : Width) (t : List ℕ) (n : ℕ) → length t ≡ 32768 → Answer w t n (parseOf w t n .outline) (parseOf w t n .verdict)
 unfolding parseOf parseFrom
 parse-lined w t n e =
-    walk-kept (Good w t n) (λ (r : Result). Answer w t n (r .outline) (r .verdict)) (turnOf w t n) (result (verdict.Refused none) []) tt (turn-lined w t n)
+    walk-kept (Good w t n) (λ (r : Result). Answer w t n (r .outline) (r .verdict)) (unitStep w t n) (result (verdict.Refused none) []) tt (unit-step-lined w t n)
     (suc (length t)) (world begin (zeros 8200)) (begin-good w t n e)
 
 abbrev Told : Width → List ℕ → ℕ → List ℕ → Parsed → Type 0

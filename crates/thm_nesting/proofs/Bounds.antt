@@ -1,4 +1,4 @@
--- Every turn of the parser that finds no fault keeps blocks shallow and locals few.
+-- Every step of the parser that finds no fault keeps blocks shallow and locals few.
 -- Assumes nothing.
 use mathlib.Core.Path.{_≡_, refl, sym, _∙_, ap, subst}
 use mathlib.Core.Bool.{true}
@@ -21,7 +21,7 @@ use Rattle.parse_units.proofs.Bounds.{clean-room, clean-lets, clean-deep}
 use Rattle.parse_units.specs.Outline as outline
 use Rattle.parse_units.specs.Outline.{putRow}
 use Rattle.parse_units.specs.declared.Row as declared
-use Rattle.parse_units.specs.Parse.{World, world, Result, result, begin, putState, putKind, growTwo, growBy, localsBehind, depthBehind, stateBehind, joinState, advance, openRow, faultIn, turnOn, turnOf, parseFrom, parseOf}
+use Rattle.parse_units.specs.Parse.{World, world, Result, result, begin, putState, putKind, growTwo, growBy, localsBehind, depthBehind, stateBehind, joinState, advance, openRow, faultIn, unitStepOn, unitStep, parseFrom, parseOf}
 use Rattle.parse_units.specs.Places as places
 use Rattle.lang_kinds.specs.Nesting.{standsIn, rowsOf, kindOfWord}
 use Rattle.parse_lines.specs.Tokens.{wordAt}
@@ -36,7 +36,7 @@ use Rattle.prog_tables.specs.Nesting.{openBefore, groundIn, isListed, mayStand,
 use Rattle.prog_tables.specs.WellFormed.{shallow, fewLocals}
 use Rattle.thm_nesting.proofs.View.{strip, seen, viewOf, put-same, put-other}
 use Rattle.thm_nesting.proofs.Put.{Formed, alike, new, put-formed, top-low, top-some, open-is}
-use Rattle.thm_nesting.proofs.Kept.{Rows, RowsOf, Between, Nests, rows-none, rows-two, test-listed, put-rows, put-kind, count-put, length-put, second-ground, second-jump, row-listed, row-ground, row-jump, turn-between, begin-between}
+use Rattle.thm_nesting.proofs.Kept.{Rows, RowsOf, Between, Nests, rows-none, rows-two, test-listed, put-rows, put-kind, count-put, length-put, second-ground, second-jump, row-listed, row-ground, row-jump, unit-step-between, begin-between}
 use Rattle.thm_nesting.proofs.Lines.{line-jump}
 use Rattle.thm_nesting.proofs.Jumps.{test-between}
 use Rattle.thm_nesting.proofs.Clean.{clean-place, clean-list}
@@ -265,7 +265,7 @@ module _ (t : List ℕ) (x : World) (h : Between t x) (u : Span) (k : ℕ) (pk :
       either-eq (λ (y : World). Behind y d v) (rowsOf k) 0 _ _ none-behind (λ a.
       either-eq (λ (y : World). Behind y d v) (rowsOf k) 1 _ _ one-behind (λ b. let r = rows-two k a b in two-behind (r .0) (r .1)))
 
--- ---- a turn
+-- ---- a step
 
 abbrev BehindOf : World → Type 0
 BehindOf x = Behind x (x .state .depth) (x .state .locals)
@@ -308,15 +308,15 @@ module _ (w : Width) (t : List ℕ) (n : ℕ) (x : World) (h : Between t x) (b :
       (clean-lets w t n (unitAt t (x .state .at)) (lineKind t (unitAt t (x .state .at) .word)) (places.groundIn (x .state) (openRow x)) (x .state) c) in
       record { c = r .c; count = r .count; counted = record { deep = r .counted .deep; few = r .counted .few } }
 
-  turn-onward : Onward (turnOf w t n x)
-  unfolding turnOf turnOn
-  turn-onward =
+  unit-step-onward : Onward (unitStep w t n x)
+  unfolding unitStep unitStepOn
+  unit-step-onward =
       either Onward (faultIn w t n (unitAt t (x .state .at)) x) none _ _ (λ _. tt) (λ c.
       either-eq Onward (lineKind t (unitAt t (x .state .at) .word)) 0 _ _
       (λ e. record { c = b .c; count = b .count; rows-shallow = b .counted .deep .rows; rows-few = b .counted .few .rows }) (λ _. advance-behind c))
 
-  pub turn-ready : Kept (Ready t) Answers (turnOf w t n x)
-  turn-ready = by (turnOf w t n x) (turn-between w t n x h) turn-onward
+  pub unit-step-ready : Kept (Ready t) Answers (unitStep w t n x)
+  unit-step-ready = by (unitStep w t n x) (unit-step-between w t n x h) unit-step-onward
     where
       by : (s : Step World Result) → Kept (Between t) (λ (r : Result). Nests (r .verdict) (r .outline)) s → Onward s → Kept (Ready t) Answers s
       by (go y) g f = (g, f)
@@ -337,5 +337,5 @@ begin-behind =
 pub parse-answers : (w : Width) (t : List ℕ) (n : ℕ) → length t ≡ 32768 → Answers (parseOf w t n)
 unfolding parseOf parseFrom
 parse-answers w t n e =
-    walk-kept (Ready t) Answers (turnOf w t n) (result (Refused none) []) (tt, tt) (λ x g. turn-ready w t n x (g .0) (g .1))
+    walk-kept (Ready t) Answers (unitStep w t n) (result (Refused none) []) (tt, tt) (λ x g. unit-step-ready w t n x (g .0) (g .1))
     (suc (length t)) (world begin (zeros 8200)) (begin-between t e, begin-behind)

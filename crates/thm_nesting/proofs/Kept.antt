@@ -1,4 +1,4 @@
--- Every turn of the parser that finds no fault keeps the rows so far standing.
+-- Every step of the parser that finds no fault keeps the rows so far standing.
 -- Assumes nothing.
 use mathlib.Core.Path.{_≡_, refl, sym, _∙_, ap, subst}
 use mathlib.Core.Bool.{Bool, true, false, not}
@@ -25,13 +25,13 @@ use Rattle.parse_lines.specs.declared.Span.{Span}
 use Rattle.parse_shapes.specs.Shapes.{operandCount}
 use Rattle.parse_units.specs.Outline as outline
 use Rattle.parse_units.specs.Places as places
-use Rattle.parse_units.specs.Parse.{World, world, Result, begin, putState, putKind, growTwo, growBy, sectionBehind, stateBehind, joinState, advance, openRow, faultIn, turnOn, turnOf}
-use Rattle.parse_units.specs.Fits.{TurnFits}
+use Rattle.parse_units.specs.Parse.{World, world, Result, begin, putState, putKind, growTwo, growBy, sectionBehind, stateBehind, joinState, advance, openRow, faultIn, unitStepOn, unitStep}
+use Rattle.parse_units.specs.Fits.{UnitStepFits}
 use Rattle.parse_units.specs.declared.Verdict.{Verdict}
 use Rattle.parse_units.specs.declared.Verdict.the-variants.{Accepted, Refused}
 use Rattle.parse_units.proofs.Cases.{row-put}
 use Rattle.parse_units.proofs.Bounds.{clean-room}
-use Rattle.parse_units.proofs.Turns.{TurnGood, turn-good}
+use Rattle.parse_units.proofs.UnitSteps.{UnitStepGood, unit-step-good}
 use Rattle.prog_tables.specs.Tests.{both, given}
 use Rattle.prog_tables.specs.Statement.{Row, isTest}
 use Rattle.prog_tables.specs.Nesting.{openBefore, groundIn, isListed, mayStand, followsJump}
@@ -170,7 +170,7 @@ WholeOf x = Whole (x .table) (x .state .count) (x .state .top)
 
 -- what stands between two units
 pub record Between (t : List ℕ) (x : World) : Type 0 where
-  pub fits : TurnFits t (x .table) (x .state)
+  pub fits : UnitStepFits t (x .table) (x .state)
   pub labels : x .state .labels ≤ x .state .at
   pub whole : WholeOf x
   pub section : x .state .section < 4
@@ -249,7 +249,7 @@ module _ (t : List ℕ) (x : World) (h : Between t x) (u : Span) (k : ℕ) (pk :
       either-eq WholeOf (rowsOf k) 0 _ _ (λ _. h .whole) (λ a.
       either-eq WholeOf (rowsOf k) 1 _ _ one-whole (λ b. let r = rows-two k a b in two-whole (r .0) (r .1)))
 
--- ---- a turn
+-- ---- a step
 
 section-low : (k s : ℕ) → s < 4 → sectionBehind k s < 4
 unfolding sectionBehind
@@ -301,16 +301,16 @@ module _ (w : Width) (t : List ℕ) (n : ℕ) (x : World) (h : Between t x) wher
       let z : x .state .top ≡ 0 = closed t x h (omega (arith, p .1, end-range _ e)) in
       (subst (λ (i : ℕ). Whole (x .table) (x .state .count) i) z (h .whole), h .fits .free)
 
-  turn-onward : Onward (turnOf w t n x)
-  unfolding turnOf turnOn
-  turn-onward =
+  unit-step-onward : Onward (unitStep w t n x)
+  unfolding unitStep unitStepOn
+  unit-step-onward =
       either Onward (faultIn w t n (unitAt t (x .state .at)) x) none _ _ (λ _. tt) (λ c.
       either-eq Onward (lineKind t (unitAt t (x .state .at) .word)) 0 _ _ (λ e. end-nests c e) (λ _. advance-whole c))
 
-  pub turn-between : Kept (Between t) (λ (r : Result). Nests (r .verdict) (r .outline)) (turnOf w t n x)
-  turn-between = by (turnOf w t n x) (turn-good w t n (x .state) (x .table) (h .fits) (h .labels)) turn-onward
+  pub unit-step-between : Kept (Between t) (λ (r : Result). Nests (r .verdict) (r .outline)) (unitStep w t n x)
+  unit-step-between = by (unitStep w t n x) (unit-step-good w t n (x .state) (x .table) (h .fits) (h .labels)) unit-step-onward
     where
-      by : (s : Step World Result) → TurnGood t (x .state) s → Onward s → Kept (Between t) (λ (r : Result). Nests (r .verdict) (r .outline)) s
+      by : (s : Step World Result) → UnitStepGood t (x .state) s → Onward s → Kept (Between t) (λ (r : Result). Nests (r .verdict) (r .outline)) s
       by (go y) g f = record { fits = g .0 .0; labels = g .0 .1; whole = f .0; section = f .1 }
       by (stop r) g f = f
 

@@ -15,7 +15,7 @@ use Rattle.prog_tables.specs.Tests.{both, firstFrom, countBelow, greatestBelow}
 use Rattle.prog_tables.specs.Statement.{Row, isTest}
 use Rattle.prog_tables.specs.Nesting.{isArm, isEndIf, nextArm, endIfOf, pastArm, targetOf, hasTarget}
 use Rattle.prog_tables.specs.Frames.{frameDepth, isIn, letsBefore, blockNeed, needOf, frameSize, firstLet, blockWord, letWord, letSeen, localsAt}
-use Rattle.res_frame_words.specs.Framing.{valueOf, wordOf, wordsOf}
+use Rattle.res_frame_words.specs.Framing.{frameValue, wordOf, wordsOf}
 use Rattle.res_frame_words.proofs.Laws.{word-at}
 
 count-low : (p : ℕ → Bool) (n : ℕ) → countBelow p n ≤ n
@@ -95,8 +95,8 @@ module _ (g : ℕ → Row) (c : ℕ) (hc : c ≤ 1024) (few : (i : ℕ) → g i 
   target-low n h =
       either-true (λ (v : ℕ). v < 4294967296) (isTest (g n .kind)) _ _ (λ _. arm-past (nextArm g c n) (arm-high n h)) (λ _. end-high n h)
 
-  value-low : (n : ℕ) → n < c → valueOf g c n < 4294967296
-  unfolding valueOf
+  value-low : (n : ℕ) → n < c → frameValue g c n < 4294967296
+  unfolding frameValue
   value-low n h =
       either-eq (λ (v : ℕ). v < 4294967296) (g n .kind) 1 _ _ (λ _. size-low n) (λ _.
       either-eq (λ (v : ℕ). v < 4294967296) (g n .kind) 3 _ _ (λ _. block-word-low n) (λ _.
@@ -105,30 +105,30 @@ module _ (g : ℕ → Row) (c : ℕ) (hc : c ≤ 1024) (few : (i : ℕ) → g i 
       either-true (λ (v : ℕ). v < 4294967296) (hasTarget (g n .kind)) _ _ (λ _. target-low n h) (λ _. omega arith)))))
 
   -- the table of words has the value of each row
-  pub word-is : (n : ℕ) → n < c → getD (wordsOf g c) n 0 ≡ valueOf g c n
+  pub word-is : (n : ℕ) → n < c → getD (wordsOf g c) n 0 ≡ frameValue g c n
   unfolding wordOf
   word-is n h = word-at g c n hc h ∙ mod-eq-of-lt (value-low n h)
 
   module _ (n : ℕ) (h : n < c) where
     pub word-function : g n .kind ≡ 1 → getD (wordsOf g c) n 0 ≡ frameSize g c n
-    unfolding valueOf
+    unfolding frameValue
     word-function e = word-is n h ∙ ifEq-yes _ _ e
 
     pub word-block : g n .kind ≡ 3 → getD (wordsOf g c) n 0 ≡ blockWord g c n
-    unfolding valueOf
+    unfolding frameValue
     word-block e = word-is n h ∙ ifEq-no _ _ (λ q. absurd (omega arith)) ∙ ifEq-yes _ _ e
 
     pub word-end : g n .kind ≡ 4 → getD (wordsOf g c) n 0 ≡ blockWord g c (g n .scope)
-    unfolding valueOf
+    unfolding frameValue
     word-end e = word-is n h ∙ ifEq-no _ _ (λ q. absurd (omega arith)) ∙ ifEq-no _ _ (λ q. absurd (omega arith)) ∙ ifEq-yes _ _ e
 
     pub word-let : g n .kind ≡ 5 → getD (wordsOf g c) n 0 ≡ letWord g c n
-    unfolding valueOf
+    unfolding frameValue
     word-let e =
         word-is n h ∙ ifEq-no _ _ (λ q. absurd (omega arith)) ∙ ifEq-no _ _ (λ q. absurd (omega arith)) ∙ ifEq-no _ _ (λ q. absurd (omega arith)) ∙ ifEq-yes _ _ e
 
     pub word-target : hasTarget (g n .kind) ≡ true → 14 ≤ g n .kind → getD (wordsOf g c) n 0 ≡ targetOf g c n
-    unfolding valueOf
+    unfolding frameValue
     word-target e l =
         word-is n h ∙ ifEq-no _ _ (λ q. absurd (omega arith)) ∙ ifEq-no _ _ (λ q. absurd (omega arith)) ∙ ifEq-no _ _ (λ q. absurd (omega arith)) ∙ ifEq-no _ _ (λ q. absurd (omega arith))
         ∙ ifTrue-yes _ _ e

@@ -16,20 +16,20 @@ use Rattle.prog_tables.specs.Statement.{Row, rowAt, slots}
 use Rattle.prog_tables.specs.declared.Operand.{Operand}
 use Rattle.vm_definitions.specs.Access.{wordGood, storeFrom}
 use Rattle.vm_definitions.specs.Operands.{Words, words, bad, numberIn, readAll}
-use Rattle.vm_definitions.specs.Frames.{returnsTo, callerFrame, topAtEntry, frameWords, leavesGood, landingOf}
+use Rattle.vm_definitions.specs.Frames.{returnsTo, callerFrame, topAtEntry, frameWords, leavesGood, resumptionOf}
 use Rattle.vm_definitions.specs.Step.{stopped, movedTo, ended, effected, callBy, tailCallBy, handedTo, handedBy, argumentsOf}
 use Rattle.vm_definitions.specs.Lent.{world, left}
 use Rattle.vm_definitions.specs.declared.Outcome.{Outcome}
-use Rattle.vm_definitions.specs.declared.Landing.{Landing}
-use Rattle.vm_definitions.specs.declared.Landing.the-variants.{Ends, Lands}
-use Rattle.vm_calls.specs.Outcomes.{counted, halted, after, calling, callingWith, atCalling, tailCalling, tailCallingWith, handing, handingTo, wordsIn, Calls}
-use Rattle.vm_guard.proofs.Passed.{lands-low}
+use Rattle.vm_definitions.specs.declared.Resumption.{Resumption}
+use Rattle.vm_definitions.specs.declared.Resumption.the-variants.{Ends, Caller}
+use Rattle.vm_calls.specs.Outcomes.{oneStep, halted, after, calling, callingWith, atCalling, tailCalling, tailCallingWith, handing, handingTo, wordsIn, Calls}
+use Rattle.vm_guard.proofs.Passed.{caller-low}
 use Rattle.vm_calls.proofs.Reading.{arguments-are}
 use Rattle.prog_tables.proofs.Ranges.{one-more}
 
-pub entered : (r q : Machine) (o : Outcome) (g at used top : ℕ) → q ≡ movedTo r (g + 1) at used top → o ≡ counted q
-    → o ≡ counted (movedTo r (suc g) at used top)
-entered r q o g at used top e d = d ∙ ap counted (e ∙ ap (λ (n : ℕ). movedTo r n at used top) (one-more g))
+pub entered : (r q : Machine) (o : Outcome) (g at used top : ℕ) → q ≡ movedTo r (g + 1) at used top → o ≡ oneStep q
+    → o ≡ oneStep (movedTo r (suc g) at used top)
+entered r q o g at used top e d = d ∙ ap oneStep (e ∙ ap (λ (n : ℕ). movedTo r n at used top) (one-more g))
 
 -- the part of the words from 0 on
 pub built : (st st′ ws : List ℕ) (k at back below top size : ℕ) → st′ ≡ storeFrom st at (frameWords back below top (take (k - 0) ws) size)
@@ -37,16 +37,16 @@ pub built : (st st′ ws : List ℕ) (k at back below top size : ℕ) → st′ 
 built st st′ ws k at back below top size e =
     let z : k - 0 ≡ k = omega arith in e ∙ ap (λ (n : ℕ). storeFrom st at (frameWords back below top (take n ws) size)) z
 
--- a return of which all frames are good lands below the last row
-pub landed-low : (t : List ℕ) (c m : ℕ) (st : List ℕ) (a : ℕ) (l : Landing) (i s used top : ℕ) → leavesGood Bits32 (rowAt t) c m st (suc a) a ≡ true
-    → l ≡ landingOf Bits32 (rowAt t) c st (suc a) a → l ≡ Lands i s used top → i < c
-landed-low t c m st a l i s used top h e d = lands-low Bits32 (rowAt t) c m st (suc a) a i s used top h (sym e ∙ d)
+-- a return of which all frames are good resumes below the last row
+pub resumed-low : (t : List ℕ) (c m : ℕ) (st : List ℕ) (a : ℕ) (l : Resumption) (i s used top : ℕ) → leavesGood Bits32 (rowAt t) c m st (suc a) a ≡ true
+    → l ≡ resumptionOf Bits32 (rowAt t) c st (suc a) a → l ≡ Caller i s used top → i < c
+resumed-low t c m st a l i s used top h e d = caller-low Bits32 (rowAt t) c m st (suc a) a i s used top h (sym e ∙ d)
 
 -- the head of a frame is kept
 module _ (r : Machine) (st : List ℕ) (g size top : ℕ) (q : top ≡ getD st (r .frame + 2) 0) where
-  pub kept-top : (o : Outcome) → o ≡ counted (movedTo r (suc g) (r .frame) (r .frame + size) top)
-      → o ≡ counted (movedTo r (suc g) (r .frame) (r .frame + size) (topAtEntry st (r .frame)))
-  kept-top o p = p ∙ ap (λ (z : ℕ). counted (movedTo r (suc g) (r .frame) (r .frame + size) z)) q
+  pub kept-top : (o : Outcome) → o ≡ oneStep (movedTo r (suc g) (r .frame) (r .frame + size) top)
+      → o ≡ oneStep (movedTo r (suc g) (r .frame) (r .frame + size) (topAtEntry st (r .frame)))
+  kept-top o p = p ∙ ap (λ (z : ℕ). oneStep (movedTo r (suc g) (r .frame) (r .frame + size) z)) q
 
   pub kept-head : (st′ ws : List ℕ) (back below : ℕ) → back ≡ getD st (r .frame) 0 → below ≡ getD st (r .frame + 1) 0
       → st′ ≡ storeFrom st (r .frame) (frameWords back below top ws size)
@@ -64,7 +64,7 @@ module _ (t : List ℕ) (c : ℕ) (r : Machine) (st m : List ℕ) where
     unfolding callBy effected ifLt ifTrue
     push-full h q = rw (← size-is, lt-ltb _ _ h, q)
 
-    pub push-fits : (st′ : List ℕ) → r .used + size ≤ length st → o ≡ counted (movedTo r (suc g) (r .used) (r .used + size) (r .top))
+    pub push-fits : (st′ : List ℕ) → r .used + size ≤ length st → o ≡ oneStep (movedTo r (suc g) (r .used) (r .used + size) (r .top))
         → st′ ≡ storeFrom st (r .used) (frameWords (r .next) (r .frame) (r .top) (take k ws) size)
         → left o st′ m ≡ after (callingWith (wordsIn true ws k)) t c r st m
     unfolding callBy effected ifLt ifTrue
@@ -74,7 +74,7 @@ module _ (t : List ℕ) (c : ℕ) (r : Machine) (st m : List ℕ) where
     unfolding tailCallBy effected ifLt ifTrue
     replace-full h q = rw (← size-is, lt-ltb _ _ h, q)
 
-    pub replace-fits : (st′ : List ℕ) → r .frame + size ≤ length st → o ≡ counted (movedTo r (suc g) (r .frame) (r .frame + size) (topAtEntry st (r .frame)))
+    pub replace-fits : (st′ : List ℕ) → r .frame + size ≤ length st → o ≡ oneStep (movedTo r (suc g) (r .frame) (r .frame + size) (topAtEntry st (r .frame)))
         → st′ ≡ storeFrom st (r .frame) (frameWords (returnsTo st (r .frame)) (callerFrame st (r .frame)) (topAtEntry st (r .frame)) (take k ws) size)
         → left o st′ m ≡ after (tailCallingWith (wordsIn true ws k)) t c r st m
     unfolding tailCallBy effected ifLt ifTrue
@@ -118,7 +118,7 @@ module _ (t : List ℕ) (c : ℕ) (r : Machine) (st m : List ℕ) where
 
   module _ (v i s k : ℕ) (q : Machine) (o : Outcome) (e : k ≡ rowAt t i .kind) where
     module _ (y : Operand) (a : ℕ) (b : Bool) (z : k ≡ 7) (d : y ≡ rowAt t i .address) (j : a ≡ numberIn st s y) (g : b ≡ wordGood Bits32 (length m) a) where
-      pub to-memory : (m′ : List ℕ) → b ≡ true → m′ ≡ storeFrom m a (wordBytes 4 v) → o ≡ counted q → left o st m′ ≡ after (handingTo v i s q) t c r st m
+      pub to-memory : (m′ : List ℕ) → b ≡ true → m′ ≡ storeFrom m a (wordBytes 4 v) → o ≡ oneStep q → left o st m′ ≡ after (handingTo v i s q) t c r st m
       unfolding handedTo effected ifEq ifTrue
       to-memory m′ h x w = rw (← e, eq-eqb _ _ z, ← d, ← j, ← g, h, x, w)
 
@@ -126,28 +126,28 @@ module _ (t : List ℕ) (c : ℕ) (r : Machine) (st m : List ℕ) where
       unfolding handedTo effected ifEq ifTrue
       to-nowhere h w = rw (← e, eq-eqb _ _ z, ← d, ← j, ← g, h, w)
 
-    pub to-bare : k ≡ 11 → o ≡ counted q → left o st m ≡ after (handingTo v i s q) t c r st m
+    pub to-bare : k ≡ 11 → o ≡ oneStep q → left o st m ≡ after (handingTo v i s q) t c r st m
     unfolding handedTo effected ifEq
     to-bare z w = rw (← e, z, w)
 
-    pub to-local : (x : ℕ) (st′ : List ℕ) → (k ≡ 7 → ⊥) → (k ≡ 11 → ⊥) → x ≡ rowAt t i .a → st′ ≡ set st (s + x) v → o ≡ counted q
+    pub to-local : (x : ℕ) (st′ : List ℕ) → (k ≡ 7 → ⊥) → (k ≡ 11 → ⊥) → x ≡ rowAt t i .a → st′ ≡ set st (s + x) v → o ≡ oneStep q
         → left o st′ m ≡ after (handingTo v i s q) t c r st m
     unfolding handedTo effected ifEq
     to-local x st′ z1 z2 d g w = rw (← e, ne-eqb _ _ z1, ne-eqb _ _ z2, ← d, g, w)
 
   -- ---- a value handed back
 
-  module _ (v : ℕ) (l : Landing) (e : l ≡ landingOf Bits32 (rowAt t) c st (suc (r .frame)) (r .frame)) where
-    pub back-ends : (top : ℕ) (o : Outcome) → l ≡ Ends top → o ≡ counted (ended Bits32 v top) → left o st m ≡ after (handing v) t c r st m
+  module _ (v : ℕ) (l : Resumption) (e : l ≡ resumptionOf Bits32 (rowAt t) c st (suc (r .frame)) (r .frame)) where
+    pub back-ends : (top : ℕ) (o : Outcome) → l ≡ Ends top → o ≡ oneStep (ended Bits32 v top) → left o st m ≡ after (handing v) t c r st m
     unfolding handedBy effected
     back-ends top o h q = rw (← e, h, q)
 
-    pub back-lands : (i s used top : ℕ) (q : Machine) (o : Outcome) (st′ m′ : List ℕ) → l ≡ Lands i s used top → q ≡ movedTo r (i + 1) s used top
+    pub back-caller : (i s used top : ℕ) (q : Machine) (o : Outcome) (st′ m′ : List ℕ) → l ≡ Caller i s used top → q ≡ movedTo r (i + 1) s used top
         → left o st′ m′ ≡ after (handingTo v i s q) t c r st m → left o st′ m′ ≡ after (handing v) t c r st m
     unfolding handedBy
-    back-lands i s used top q o st′ m′ h g w =
+    back-caller i s used top q o st′ m′ h g w =
         w ∙ ap (λ (z : Machine). effected (world r st m) (handedTo Bits32 (rowAt t) c (world r st m) v (rowAt t i) s z)) (g ∙ ap (λ (z : ℕ). movedTo r z s used top) (one-more i))
-        ∙ ap (λ (z : Landing). effected (world r st m) (handedBy Bits32 (rowAt t) c (world r st m) v z)) (sym h ∙ e)
+        ∙ ap (λ (z : Resumption). effected (world r st m) (handedBy Bits32 (rowAt t) c (world r st m) v z)) (sym h ∙ e)
 
 pub ruleset frames = (push-full, push-fits, replace-full, replace-fits)
 
@@ -157,4 +157,4 @@ pub ruleset addressed = (at-good, at-bad)
 
 pub ruleset handed = (to-memory, to-nowhere, to-bare, to-local)
 
-pub ruleset back = (back-ends, back-lands)
+pub ruleset back = (back-ends, back-caller)

@@ -14,7 +14,7 @@ use Rattle.prog_tables.specs.Layout.{statementRow, noExpression, callExpression
 use Rattle.prog_tables.specs.Statement.{Row, operandAt, rowAt, hasExpression, usedBy}
 use Rattle.prog_tables.specs.Faults.{expressionListed}
 use Rattle.vm_definitions.specs.Operands.{Words, words, bad, readOf}
-use Rattle.vm_definitions.specs.Frames.{landingOf}
+use Rattle.vm_definitions.specs.Frames.{resumptionOf}
 use Rattle.vm_definitions.specs.Step.{World, Effect, After, stopped, effected, workedOf, argumentsOf, assigned, setByteBy, setWordBy, callBy, tailCallBy, handedTo, handedBy, addressOf, stops}
 use Rattle.vm_definitions.specs.Access.{wordGood}
 use Rattle.vm_definitions.specs.Lent.{world}
@@ -23,8 +23,8 @@ use Rattle.vm_definitions.specs.declared.Read.{Read}
 use Rattle.vm_definitions.specs.declared.Broken.the-variants.{No}
 
 -- a statement that took effect leaves this record
-abbrev pub counted : Machine → Outcome
-counted q = record { machine = q; count = 1; broken = No }
+abbrev pub oneStep : Machine → Outcome
+oneStep q = record { machine = q; count = 1; broken = No }
 
 -- a statement that stopped
 abbrev pub halted : Machine → ℕ → Outcome
@@ -61,7 +61,7 @@ handingTo v i s q w f c x = handedTo w f c x v (f i) s q
 
 -- a value handed back
 abbrev pub handing : ℕ → Meaning
-handing v w f c x = handedBy w f c x v (landingOf w f c (x .stack) (suc (x .machine .frame)) (x .machine .frame))
+handing v w f c x = handedBy w f c x v (resumptionOf w f c (x .stack) (suc (x .machine .frame)) (x .machine .frame))
 
 abbrev pub assigning : Meaning
 assigning w f c x = assigned w f c x (workedOf w f c x)

@@ -6,9 +6,9 @@ use prog_tables::Operand;
 use prog_tables::StatementRow;
 use prog_tables::Table;
 use vm_definitions::Broken;
-use vm_definitions::Landing;
 use vm_definitions::Outcome;
 use vm_definitions::Read;
+use vm_definitions::Resumption;
 use vm_definitions::Worked;
 ghost use mathlib.Core.Path.{_≡_};
 ghost use mathlib.Core.Bool.{true};
@@ -23,11 +23,11 @@ ghost use Rattle.vm_definitions.specs.Step.{goingOn, movedTo, ended, workedOf};
 ghost use Rattle.vm_definitions.specs.Lent.{world, left};
 ghost use Rattle.prog_tables.specs.StatementRow as row;
 ghost use Rattle.prog_tables.specs.Layout.{statementRow};
-ghost use Rattle.vm_calls.specs.Outcomes.{counted, halted, after, calling, callingWith, atCalling, tailCalling, tailCallingWith, handing, handingTo, slotRead, wordsIn, Expressed, Calls};
+ghost use Rattle.vm_calls.specs.Outcomes.{oneStep, halted, after, calling, callingWith, atCalling, tailCalling, tailCallingWith, handing, handingTo, slotRead, wordsIn, Expressed, Calls};
 
 // A statement that took effect.
 fn count_one(q: Machine) -> Outcome
-    ensures { λ o. ⌜ o ≡ counted q ⌝ }
+    ensures { λ o. ⌜ o ≡ oneStep q ⌝ }
 {
     Outcome {
         machine: q,
@@ -38,7 +38,7 @@ fn count_one(q: Machine) -> Outcome
 
 // Going on at statement n with an auto top.
 pub fn go_on(r: Machine, n: u32, top: u32) -> Outcome
-    ensures { λ o. ⌜ o ≡ counted (goingOn r n top) ⌝ }
+    ensures { λ o. ⌜ o ≡ oneStep (goingOn r n top) ⌝ }
 {
     let state = r.state;
     count_one(Machine {
@@ -66,7 +66,7 @@ fn move_to(r: Machine, n: u32, frame: u32, used: u32, top: u32) -> Machine
 
 // The run has finished with a word.
 fn finish(v: u32, top: u32) -> Outcome
-    ensures { λ o. ⌜ o ≡ counted (ended Bits32 v top) ⌝ }
+    ensures { λ o. ⌜ o ≡ oneStep (ended Bits32 v top) ⌝ }
 {
     count_one(Machine {
         state: State::Finished(v),
@@ -186,7 +186,7 @@ fn enter(
     st: &mut [u32],
 ) -> Outcome
     requires { ⌜ (k ≤ 8) × (g < 4294967295) × (at + size ≤ 16384) ⌝ }
-    ensures { λ o. ⌜ (o ≡ counted (movedTo r (suc g) at (at + size) top)) × (now (st .exit) ≡ storeFrom (now (st .entry)) at (frameWords back below top (take k words) size)) ⌝ }
+    ensures { λ o. ⌜ (o ≡ oneStep (movedTo r (suc g) at (at + size) top)) × (now (st .exit) ≡ storeFrom (now (st .entry)) at (frameWords back below top (take k words) size)) ⌝ }
 {
     let to = k as usize;
     vm_memory::build_frame(st, at, back, below, top, &words[0..to], size);
@@ -252,7 +252,7 @@ pub fn call_at(t: &[u32], c: u32, r: Machine, st: &mut [u32], m: &[u8]) -> Outco
 // A new frame of function g in the place of the frame in use; its head stays.
 fn enter_again(r: Machine, g: u32, size: u32, words: [u32; 8], k: u32, st: &mut [u32]) -> Outcome
     requires { ⌜ (k ≤ 8) × (g < 4294967295) × (r .frame + size ≤ 16384) ⌝ }
-    ensures { λ o. ⌜ (o ≡ counted (movedTo r (suc g) (r .frame) (r .frame + size) (topAtEntry (now (st .entry)) (r .frame)))) × (now (st .exit) ≡ storeFrom (now (st .entry)) (r .frame) (frameWords (returnsTo (now (st .entry)) (r .frame)) (callerFrame (now (st .entry)) (r .frame)) (topAtEntry (now (st .entry)) (r .frame)) (take k words) size)) ⌝ }
+    ensures { λ o. ⌜ (o ≡ oneStep (movedTo r (suc g) (r .frame) (r .frame + size) (topAtEntry (now (st .entry)) (r .frame)))) × (now (st .exit) ≡ storeFrom (now (st .entry)) (r .frame) (frameWords (returnsTo (now (st .entry)) (r .frame)) (callerFrame (now (st .entry)) (r .frame)) (topAtEntry (now (st .entry)) (r .frame)) (take k words) size)) ⌝ }
 {
     let s = r.frame;
     let at = s as usize;
@@ -340,10 +340,10 @@ pub fn hand_back(t: &[u32], c: u32, r: Machine, v: u32, st: &mut [u32], m: &mut 
     ensures { λ o. ⌜ left o (now (st .exit)) (now (m .exit)) ≡ after (handing v) (now (t .entry)) c r (now (st .entry)) (now (m .entry)) ⌝ }
 {
     let s = r.frame;
-    let way = vm_guard::landing(t, c, st, s);
+    let way = vm_guard::resumption(t, c, st, s);
     match way {
-        Landing::Ends { top } => finish(v, top),
-        Landing::Lands {
+        Resumption::Ends { top } => finish(v, top),
+        Resumption::Caller {
             call,
             frame,
             used,

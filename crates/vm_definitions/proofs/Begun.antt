@@ -100,7 +100,7 @@ unsound b q = true-false (sym (ap isBegun q))
 pub record Accepted (w : Width) (t : Tables) (name args : List ℕ) (x : World) : Type 0 where
   pub label : exportOf t name < t .labelCount
   pub arguments : length args ≡ rows t (labelsOf t (exportOf t name) .number) .b
-  pub held : t .dataLength ≤ length (x .memory)
+  pub data-fits : t .dataLength ≤ length (x .memory)
   pub short : length (x .memory) ≤ memoryLimit w
   pub room : rows t (labelsOf t (exportOf t name) .number) .a ≤ length (x .stack)
   pub few : length (x .stack) ≤ stackWords
@@ -128,7 +128,7 @@ module _ (w : Width) (t : Tables) (bytes name args : List ℕ) (x : World) where
       record {
         label = l;
         arguments = a;
-        held = ltb-false _ _ (neither-left (ltb (length (x .memory)) (t .dataLength)) (ltb (memoryLimit w) (length (x .memory))) d);
+        data-fits = ltb-false _ _ (neither-left (ltb (length (x .memory)) (t .dataLength)) (ltb (memoryLimit w) (length (x .memory))) d);
         short = ltb-false _ _ (neither-right (ltb (length (x .memory)) (t .dataLength)) (ltb (memoryLimit w) (length (x .memory))) d);
         room = ltb-false _ _ (neither-left (ltb (length (x .stack)) (rows t (labelsOf t (exportOf t name) .number) .a)) (ltb stackWords (length (x .stack))) c);
         few = ltb-false _ _ (neither-right (ltb (length (x .stack)) (rows t (labelsOf t (exportOf t name) .number) .a)) (ltb stackWords (length (x .stack))) c);
@@ -180,13 +180,13 @@ module _ (w : Width) (t : Tables) (good : WellFormed t) (bytes name args : List 
   unfolding startWorld freshOf frameWords Under
   start-kept a =
       record {
-        frame = first-frame w t good _ _ (labelsOf t (exportOf t name) .number) 0 (g .within) (g .is-function) (omega (arith, memory, a .held, word 2 (omega arith)));
+        frame = first-frame w t good _ _ (labelsOf t (exportOf t name) .number) 0 (g .within) (g .is-function) (omega (arith, memory, a .data-fits, word 2 (omega arith)));
         under = record { at = refl; place = word 0 (omega arith); caller = word 1 (omega arith) };
         ends = omega arith;
         lent = omega (arith, stack, a .room);
         few = omega (arith, stack, a .few);
-        top = omega (arith, memory, a .held);
-        held = omega (arith, memory, a .held);
+        top = omega (arith, memory, a .data-fits);
+        data-fits = omega (arith, memory, a .data-fits);
         short = omega (arith, memory, a .short);
       }
     where

@@ -168,7 +168,7 @@ module _ (w : Width) (t : Tables) (good : WellFormed t) (e : Entry) (es : Ledger
             lent = omega (arith, same-length);
             few = omega (arith, same-length, i .few);
             top = i .top;
-            held = i .held;
+            data-fits = i .data-fits;
             short = i .short;
           }
 
@@ -264,7 +264,7 @@ module _ (w : Width) (t : Tables) (good : WellFormed t) (e : Entry) (es : Ledger
             lent = omega (arith, tail-length);
             few = omega (arith, tail-length, i .few);
             top = i .frame .top;
-            held = i .held;
+            data-fits = i .data-fits;
             short = i .short;
           }
 

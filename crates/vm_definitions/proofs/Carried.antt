@@ -134,6 +134,6 @@ module _ (w : Width) (t : Tables) (good : WellFormed t) where
         lent = omega (arith, i .lent);
         few = omega (arith, i .few);
         top = omega arith;
-        held = omega (arith, i .held);
+        data-fits = omega (arith, i .data-fits);
         short = omega (arith, i .short);
       }

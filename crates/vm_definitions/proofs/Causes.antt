@@ -24,11 +24,11 @@ use Rattle.prog_tables.specs.declared.Operand.{Operand}
 use Rattle.prog_tables.specs.declared.Operand.the-variants.{Unlisted}
 use Rattle.vm_definitions.specs.Access.{byteAddress, wordAddress, byteGood, wordGood}
 use Rattle.vm_definitions.specs.Operands.{Words, words, bad, isAt, numberIn, readOf, readAll, onRead}
-use Rattle.vm_definitions.specs.Expressions.{evalOf, operandNo, holds}
-use Rattle.vm_definitions.specs.Frames.{isReturn, isCalling, landingOf}
-use Rattle.vm_definitions.specs.Step.{World, Effect, stops, leaves, stopOf, goesTo, keeps, stores, blockOf, endBlockOf, testOf, workedOf, assigned, assignedAt, setAtOf, setByteBy, setWordBy, argumentsOf, callBy, callOf, tailCallBy, handedBy, returned, returnOf, effectOf}
+use Rattle.vm_definitions.specs.Expressions.{evalOf, operandNo, testHolds}
+use Rattle.vm_definitions.specs.Frames.{isReturn, isCalling, resumptionOf}
+use Rattle.vm_definitions.specs.Step.{World, Effect, stops, leaves, effectStop, goesTo, keeps, stores, blockOf, endBlockOf, testOf, workedOf, assigned, assignedAt, setAtOf, setByteBy, setWordBy, argumentsOf, callBy, callOf, tailCallBy, handedBy, returned, returnOf, effectOf}
 use Rattle.vm_definitions.specs.Causes.{Meeting, wordAt, byteAt, stacksTo, causeOf, firstOf, touched, wordOf, operatorMeets, withFrame, behindOperands, readsOf, meetingsOf, firstCause}
-use Rattle.vm_definitions.specs.declared.Landing.{Landing}
+use Rattle.vm_definitions.specs.declared.Resumption.{Resumption}
 use Rattle.vm_definitions.specs.declared.Worked.{Worked}
 use Rattle.vm_definitions.specs.declared.Worked.the-variants.{Value, Stop}
 use Rattle.vm_definitions.proofs.Operators.{stopIn, next, first-here, first-later, first-one, word-good, word-bad, read-cause, all-cause, eval-cause}
@@ -64,13 +64,13 @@ listed-any k e h g =
     ∙ sym (ifEq-no (eqb k 13) (ifEq e 1 true (ifEq e 2 true (isOperator e))) h)
     ∙ g
 
-lent : (y : World) (b : Bool) → stopOf (pick b (stops 33) (leaves y)) ≡ pick b 33 0
-unfolding stopOf
+lent : (y : World) (b : Bool) → effectStop (pick b (stops 33) (leaves y)) ≡ pick b 33 0
+unfolding effectStop
 lent y true = refl
 lent y false = refl
 
-good : (y : World) (b : Bool) → stopOf (ifTrue b (leaves y) (stops 32)) ≡ ifTrue b 0 32
-unfolding stopOf ifTrue
+good : (y : World) (b : Bool) → effectStop (ifTrue b (leaves y) (stops 32)) ≡ ifTrue b 0 32
+unfolding effectStop ifTrue
 good y true = refl
 good y false = refl
 
@@ -151,46 +151,46 @@ module _ (w : Width) (f : ℕ → Row) (c : ℕ) (x : World) (sum last : ℕ) wh
   call-as k h q = effect-as k h ∙ ap (λ (i : ℕ). doneBy k i) q
 
   Caused : Type 0
-  Caused = stopOf (effectOf w f c x) ≡ firstCause w f sum last x
+  Caused = effectStop (effectOf w f c x) ≡ firstCause w f sum last x
 
   -- ---- parts of statements
 
-  assigned-stop : (k : Worked) → stopOf (assigned w f c x k) ≡ stopIn k
-  unfolding stopOf assigned stopIn keeps
+  assigned-stop : (k : Worked) → effectStop (assigned w f c x k) ≡ stopIn k
+  unfolding effectStop assigned stopIn keeps
   assigned-stop (Value v top) = refl
   assigned-stop (Stop k) = refl
 
-  assigned-at-stop : (k : Worked) → stopOf (assignedAt w f c x k) ≡ stopIn k
-  unfolding stopOf assignedAt stopIn stores
+  assigned-at-stop : (k : Worked) → effectStop (assignedAt w f c x k) ≡ stopIn k
+  unfolding effectStop assignedAt stopIn stores
   assigned-at-stop (Value v top) = refl
   assigned-at-stop (Stop k) = refl
 
-  returned-stop : ((v : ℕ) → stopOf (handedBy w f c x v (landingOf w f c st (suc s) s)) ≡ 0) → (k : Worked) → stopOf (returned w f c x k) ≡ stopIn k
-  unfolding stopOf returned stopIn
+  returned-stop : ((v : ℕ) → effectStop (handedBy w f c x v (resumptionOf w f c st (suc s) s)) ≡ 0) → (k : Worked) → effectStop (returned w f c x k) ≡ stopIn k
+  unfolding effectStop returned stopIn
   returned-stop h (Value v top) = h v
   returned-stop h (Stop k) = refl
 
   -- the address of `set @` is judged first
-  at-first : (e : Effect) (es : List Meeting) → stopOf e ≡ first es
-      → stopOf (ifTrue (wordGood w (length m) addressAt) e (stops 32)) ≡ first (wordAt addressAt ∷ es)
-  unfolding stopOf
+  at-first : (e : Effect) (es : List Meeting) → effectStop e ≡ first es
+      → effectStop (ifTrue (wordGood w (length m) addressAt) e (stops 32)) ≡ first (wordAt addressAt ∷ es)
+  unfolding effectStop
   at-first e es h = by (wordGood w (length m) addressAt) refl
     where
-      by : (b : Bool) → wordGood w (length m) addressAt ≡ b → stopOf (ifTrue (wordGood w (length m) addressAt) e (stops 32)) ≡ first (wordAt addressAt ∷ es)
+      by : (b : Bool) → wordGood w (length m) addressAt ≡ b → effectStop (ifTrue (wordGood w (length m) addressAt) e (stops 32)) ≡ first (wordAt addressAt ∷ es)
       by true q =
-          ap stopOf (ifTrue-yes e (stops 32) q) ∙ h ∙ sym (first-later w (length m) (length st) (wordAt addressAt) es (word-good w (length m) (length st) addressAt q))
+          ap effectStop (ifTrue-yes e (stops 32) q) ∙ h ∙ sym (first-later w (length m) (length st) (wordAt addressAt) es (word-good w (length m) (length st) addressAt q))
       by false q =
-          ap stopOf (ifTrue-no e (stops 32) q) ∙ sym (first-here w (length m) (length st) (wordAt addressAt) es 31 (word-bad w (length m) (length st) addressAt q))
+          ap effectStop (ifTrue-no e (stops 32) q) ∙ sym (first-here w (length m) (length st) (wordAt addressAt) es 31 (word-bad w (length m) (length st) addressAt q))
 
   value-at : (os : List Operand) (i : ℕ) → getD (map (wordOf w st s m) os) i 0 ≡ valueOf os i
   unfolding wordOf isAt numberIn ifTrue
   value-at os i = List·getD-map (wordOf w st s m) os i Unlisted
 
-  byte-stop : stopOf (setByteBy w f c x (argumentsOf w f c x))
+  byte-stop : effectStop (setByteBy w f c x (argumentsOf w f c x))
       ≡ first (touched st s (r .operands) ++ (byteAt (byteAddress w (valueOf (r .operands) 0) (valueOf (r .operands) 1)) ∷ []))
-  unfolding argumentsOf setByteBy stopOf stores causeOf byteGood
+  unfolding argumentsOf setByteBy effectStop stores causeOf byteGood
   byte-stop =
-      all-cause w st s m stopOf (setByteBy w f c x) (r .operands) (byteAt (byteAddress w (valueOf (r .operands) 0) (valueOf (r .operands) 1)) ∷ []) (length st) refl
+      all-cause w st s m effectStop (setByteBy w f c x) (r .operands) (byteAt (byteAddress w (valueOf (r .operands) 0) (valueOf (r .operands) 1)) ∷ []) (length st) refl
       (good _ (byteGood (length m) (byteAddress w (getD vs 0 0) (getD vs 1 0)))
       ∙ sym (first-one w (length m) (length st) (byteAt (byteAddress w (getD vs 0 0) (getD vs 1 0))))
       ∙ ap (λ (v : ℕ). first (byteAt (byteAddress w v (getD vs 1 0)) ∷ [])) (value-at (r .operands) 0)
@@ -199,11 +199,11 @@ module _ (w : Width) (f : ℕ → Row) (c : ℕ) (x : World) (sum last : ℕ) wh
       vs : List ℕ
       vs = map (wordOf w st s m) (r .operands)
 
-  word-stop : stopOf (setWordBy w f c x (argumentsOf w f c x))
+  word-stop : effectStop (setWordBy w f c x (argumentsOf w f c x))
       ≡ first (touched st s (r .operands) ++ (wordAt (wordAddress w (valueOf (r .operands) 0) (valueOf (r .operands) 1)) ∷ []))
-  unfolding argumentsOf setWordBy stopOf stores causeOf wordGood
+  unfolding argumentsOf setWordBy effectStop stores causeOf wordGood
   word-stop =
-      all-cause w st s m stopOf (setWordBy w f c x) (r .operands) (wordAt (wordAddress w (valueOf (r .operands) 0) (valueOf (r .operands) 1)) ∷ []) (length st) refl
+      all-cause w st s m effectStop (setWordBy w f c x) (r .operands) (wordAt (wordAddress w (valueOf (r .operands) 0) (valueOf (r .operands) 1)) ∷ []) (length st) refl
       (good _ (wordGood w (length m) (wordAddress w (getD vs 0 0) (getD vs 1 0)))
       ∙ sym (first-one w (length m) (length st) (wordAt (wordAddress w (getD vs 0 0) (getD vs 1 0))))
       ∙ ap (λ (v : ℕ). first (wordAt (wordAddress w v (getD vs 1 0)) ∷ [])) (value-at (r .operands) 0)
@@ -212,7 +212,7 @@ module _ (w : Width) (f : ℕ → Row) (c : ℕ) (x : World) (sum last : ℕ) wh
       vs : List ℕ
       vs = map (wordOf w st s m) (r .operands)
 
-  stack-stop : (y : World) (a b : ℕ) → a ≡ b → stopOf (ifLt (length st) a (stops 33) (leaves y)) ≡ first (stacksTo b ∷ [])
+  stack-stop : (y : World) (a b : ℕ) → a ≡ b → effectStop (ifLt (length st) a (stops 33) (leaves y)) ≡ first (stacksTo b ∷ [])
   unfolding ifLt causeOf
   stack-stop y a b q =
       lent y (ltb (length st) a)
@@ -220,28 +220,28 @@ module _ (w : Width) (f : ℕ → Row) (c : ℕ) (x : World) (sum last : ℕ) wh
       ∙ sym (first-one w (length m) (length st) (stacksTo b))
 
   module _ (used-is : x .machine .used ≡ sum) (frame-is : x .machine .frame ≡ sum - last) where
-    call-stop : stopOf (callBy w f c x (argumentsOf w f c x)) ≡ first (touched st s (r .operands) ++ (stacksTo (sum + size) ∷ []))
-    unfolding argumentsOf callBy stopOf
+    call-stop : effectStop (callBy w f c x (argumentsOf w f c x)) ≡ first (touched st s (r .operands) ++ (stacksTo (sum + size) ∷ []))
+    unfolding argumentsOf callBy effectStop
     call-stop =
-        all-cause w st s m stopOf (callBy w f c x) (r .operands) (stacksTo (sum + size) ∷ []) (length st) refl
+        all-cause w st s m effectStop (callBy w f c x) (r .operands) (stacksTo (sum + size) ∷ []) (length st) refl
         (stack-stop _ (x .machine .used + size) (sum + size) (ap (λ (i : ℕ). i + size) used-is))
 
-    tail-stop : stopOf (tailCallBy w f c x (argumentsOf w f c x)) ≡ first (touched st s (r .operands) ++ (stacksTo (sum - last + size) ∷ []))
-    unfolding argumentsOf tailCallBy stopOf
+    tail-stop : effectStop (tailCallBy w f c x (argumentsOf w f c x)) ≡ first (touched st s (r .operands) ++ (stacksTo (sum - last + size) ∷ []))
+    unfolding argumentsOf tailCallBy effectStop
     tail-stop =
-        all-cause w st s m stopOf (tailCallBy w f c x) (r .operands) (stacksTo (sum - last + size) ∷ []) (length st) refl
+        all-cause w st s m effectStop (tailCallBy w f c x) (r .operands) (stacksTo (sum - last + size) ∷ []) (length st) refl
         (stack-stop _ (x .machine .frame + size) (sum - last + size) (ap (λ (i : ℕ). i + size) frame-is))
 
-    plain-call : (r .kind ≡ 7 → ⊥) → stopOf (callOf w f c x) ≡ first (touched st s (r .operands) ++ (stacksTo (sum + size) ∷ []))
+    plain-call : (r .kind ≡ 7 → ⊥) → effectStop (callOf w f c x) ≡ first (touched st s (r .operands) ++ (stacksTo (sum + size) ∷ []))
     unfolding callOf
     plain-call h =
-        ap stopOf (ifEq-no (ifTrue (wordGood w (length m) addressAt) (callBy w f c x (argumentsOf w f c x)) (stops 32)) (callBy w f c x (argumentsOf w f c x)) h)
+        ap effectStop (ifEq-no (ifTrue (wordGood w (length m) addressAt) (callBy w f c x (argumentsOf w f c x)) (stops 32)) (callBy w f c x (argumentsOf w f c x)) h)
         ∙ call-stop
 
-    at-call : r .kind ≡ 7 → stopOf (callOf w f c x) ≡ first (wordAt addressAt ∷ (touched st s (r .operands) ++ (stacksTo (sum + size) ∷ [])))
+    at-call : r .kind ≡ 7 → effectStop (callOf w f c x) ≡ first (wordAt addressAt ∷ (touched st s (r .operands) ++ (stacksTo (sum + size) ∷ [])))
     unfolding callOf
     at-call h =
-        ap stopOf (ifEq-yes (ifTrue (wordGood w (length m) addressAt) (callBy w f c x (argumentsOf w f c x)) (stops 32)) (callBy w f c x (argumentsOf w f c x)) h)
+        ap effectStop (ifEq-yes (ifTrue (wordGood w (length m) addressAt) (callBy w f c x (argumentsOf w f c x)) (stops 32)) (callBy w f c x (argumentsOf w f c x)) h)
         ∙ at-first (callBy w f c x (argumentsOf w f c x)) (touched st s (r .operands) ++ (stacksTo (sum + size) ∷ [])) call-stop
 
     module _ (o p : Operand) (rest : List Operand) (shape : r .operands ≡ take (usedBy (r .kind) (r .expr) (r .count)) (o ∷ p ∷ rest)) where
@@ -251,28 +251,28 @@ module _ (w : Width) (f : ℕ → Row) (c : ℕ) (x : World) (sum last : ℕ) wh
       -- ---- statements that meet nothing
 
       kind-3 : r .kind ≡ 3 → Caused
-      unfolding Caused doneBy dispatch hasExpression isTest ifTrue ifEq ifLt metBy behindBy isCall usedBy touched firstOf stopOf blockOf keeps
-      kind-3 h = ap stopOf (effect-as 3 h) ∙ sym (cause-as 3 [] h (operands-as 3 h))
+      unfolding Caused doneBy dispatch hasExpression isTest ifTrue ifEq ifLt metBy behindBy isCall usedBy touched firstOf effectStop blockOf keeps
+      kind-3 h = ap effectStop (effect-as 3 h) ∙ sym (cause-as 3 [] h (operands-as 3 h))
 
       kind-4 : r .kind ≡ 4 → Caused
-      unfolding Caused doneBy dispatch hasExpression isTest ifTrue ifEq ifLt metBy behindBy isCall usedBy touched firstOf stopOf endBlockOf keeps
-      kind-4 h = ap stopOf (effect-as 4 h) ∙ sym (cause-as 4 [] h (operands-as 4 h))
+      unfolding Caused doneBy dispatch hasExpression isTest ifTrue ifEq ifLt metBy behindBy isCall usedBy touched firstOf effectStop endBlockOf keeps
+      kind-4 h = ap effectStop (effect-as 4 h) ∙ sym (cause-as 4 [] h (operands-as 4 h))
 
       kind-10 : r .kind ≡ 10 → Caused
-      unfolding Caused doneBy dispatch hasExpression isTest ifTrue ifEq ifLt metBy behindBy isCall usedBy touched firstOf stopOf goesTo
-      kind-10 h = ap stopOf (effect-as 10 h) ∙ sym (cause-as 10 [] h (operands-as 10 h))
+      unfolding Caused doneBy dispatch hasExpression isTest ifTrue ifEq ifLt metBy behindBy isCall usedBy touched firstOf effectStop goesTo
+      kind-10 h = ap effectStop (effect-as 10 h) ∙ sym (cause-as 10 [] h (operands-as 10 h))
 
       kind-20 : r .kind ≡ 20 → Caused
-      unfolding Caused doneBy dispatch hasExpression isTest ifTrue ifEq ifLt metBy behindBy isCall usedBy touched firstOf stopOf goesTo
-      kind-20 h = ap stopOf (effect-as 20 h) ∙ sym (cause-as 20 [] h (operands-as 20 h))
+      unfolding Caused doneBy dispatch hasExpression isTest ifTrue ifEq ifLt metBy behindBy isCall usedBy touched firstOf effectStop goesTo
+      kind-20 h = ap effectStop (effect-as 20 h) ∙ sym (cause-as 20 [] h (operands-as 20 h))
 
       kind-21 : r .kind ≡ 21 → Caused
-      unfolding Caused doneBy dispatch hasExpression isTest ifTrue ifEq ifLt metBy behindBy isCall usedBy touched firstOf stopOf goesTo
-      kind-21 h = ap stopOf (effect-as 21 h) ∙ sym (cause-as 21 [] h (operands-as 21 h))
+      unfolding Caused doneBy dispatch hasExpression isTest ifTrue ifEq ifLt metBy behindBy isCall usedBy touched firstOf effectStop goesTo
+      kind-21 h = ap effectStop (effect-as 21 h) ∙ sym (cause-as 21 [] h (operands-as 21 h))
 
       kind-22 : r .kind ≡ 22 → Caused
-      unfolding Caused doneBy dispatch hasExpression isTest ifTrue ifEq ifLt metBy behindBy isCall usedBy touched firstOf stopOf goesTo
-      kind-22 h = ap stopOf (effect-as 22 h) ∙ sym (cause-as 22 [] h (operands-as 22 h))
+      unfolding Caused doneBy dispatch hasExpression isTest ifTrue ifEq ifLt metBy behindBy isCall usedBy touched firstOf effectStop goesTo
+      kind-22 h = ap effectStop (effect-as 22 h) ∙ sym (cause-as 22 [] h (operands-as 22 h))
 
       -- ---- tests
 
@@ -280,57 +280,57 @@ module _ (w : Width) (f : ℕ → Row) (c : ℕ) (x : World) (sum last : ℕ) wh
       tested os =
           onRead (readOf w st s m (operandNo os 0)) (stops 32)
           (λ a. onRead (readOf w st s m (operandNo os 1)) (stops 32)
-          (λ b. goesTo w f c x (ifTrue (holds w (r .kind) a b) (suc (x .machine .next)) (r .a))))
+          (λ b. goesTo w f c x (ifTrue (testHolds w (r .kind) a b) (suc (x .machine .next)) (r .a))))
 
-      test-stop : r .operands ≡ o ∷ p ∷ [] → stopOf (testOf w f c x) ≡ first (touched st s (o ∷ p ∷ []) ++ [])
-      unfolding testOf tested stopOf goesTo touched firstOf
+      test-stop : r .operands ≡ o ∷ p ∷ [] → effectStop (testOf w f c x) ≡ first (touched st s (o ∷ p ∷ []) ++ [])
+      unfolding testOf tested effectStop goesTo touched firstOf
       test-stop q =
-          ap (λ (i : List Operand). stopOf (tested i)) q
-          ∙ read-cause w st s m stopOf (stops 32)
-          (λ a. onRead (readOf w st s m p) (stops 32) (λ b. goesTo w f c x (ifTrue (holds w (r .kind) a b) (suc (x .machine .next)) (r .a)))) o (p ∷ []) [] (length st) refl
-          (read-cause w st s m stopOf (stops 32) (λ b. goesTo w f c x (ifTrue (holds w (r .kind) (wordOf w st s m o) b) (suc (x .machine .next)) (r .a))) p [] [] (length st) refl refl)
+          ap (λ (i : List Operand). effectStop (tested i)) q
+          ∙ read-cause w st s m effectStop (stops 32)
+          (λ a. onRead (readOf w st s m p) (stops 32) (λ b. goesTo w f c x (ifTrue (testHolds w (r .kind) a b) (suc (x .machine .next)) (r .a)))) o (p ∷ []) [] (length st) refl
+          (read-cause w st s m effectStop (stops 32) (λ b. goesTo w f c x (ifTrue (testHolds w (r .kind) (wordOf w st s m o) b) (suc (x .machine .next)) (r .a))) p [] [] (length st) refl refl)
 
       kind-14 : r .kind ≡ 14 → Caused
-      unfolding Caused doneBy dispatch hasExpression isTest ifTrue ifEq ifLt metBy behindBy isCall usedBy touched firstOf stopOf
-      kind-14 h = ap stopOf (effect-as 14 h) ∙ test-stop (operands-as 14 h) ∙ sym (cause-as 14 (o ∷ p ∷ []) h (operands-as 14 h))
+      unfolding Caused doneBy dispatch hasExpression isTest ifTrue ifEq ifLt metBy behindBy isCall usedBy touched firstOf effectStop
+      kind-14 h = ap effectStop (effect-as 14 h) ∙ test-stop (operands-as 14 h) ∙ sym (cause-as 14 (o ∷ p ∷ []) h (operands-as 14 h))
 
       kind-15 : r .kind ≡ 15 → Caused
-      unfolding Caused doneBy dispatch hasExpression isTest ifTrue ifEq ifLt metBy behindBy isCall usedBy touched firstOf stopOf
-      kind-15 h = ap stopOf (effect-as 15 h) ∙ test-stop (operands-as 15 h) ∙ sym (cause-as 15 (o ∷ p ∷ []) h (operands-as 15 h))
+      unfolding Caused doneBy dispatch hasExpression isTest ifTrue ifEq ifLt metBy behindBy isCall usedBy touched firstOf effectStop
+      kind-15 h = ap effectStop (effect-as 15 h) ∙ test-stop (operands-as 15 h) ∙ sym (cause-as 15 (o ∷ p ∷ []) h (operands-as 15 h))
 
       kind-16 : r .kind ≡ 16 → Caused
-      unfolding Caused doneBy dispatch hasExpression isTest ifTrue ifEq ifLt metBy behindBy isCall usedBy touched firstOf stopOf
-      kind-16 h = ap stopOf (effect-as 16 h) ∙ test-stop (operands-as 16 h) ∙ sym (cause-as 16 (o ∷ p ∷ []) h (operands-as 16 h))
+      unfolding Caused doneBy dispatch hasExpression isTest ifTrue ifEq ifLt metBy behindBy isCall usedBy touched firstOf effectStop
+      kind-16 h = ap effectStop (effect-as 16 h) ∙ test-stop (operands-as 16 h) ∙ sym (cause-as 16 (o ∷ p ∷ []) h (operands-as 16 h))
 
       kind-17 : r .kind ≡ 17 → Caused
-      unfolding Caused doneBy dispatch hasExpression isTest ifTrue ifEq ifLt metBy behindBy isCall usedBy touched firstOf stopOf
-      kind-17 h = ap stopOf (effect-as 17 h) ∙ test-stop (operands-as 17 h) ∙ sym (cause-as 17 (o ∷ p ∷ []) h (operands-as 17 h))
+      unfolding Caused doneBy dispatch hasExpression isTest ifTrue ifEq ifLt metBy behindBy isCall usedBy touched firstOf effectStop
+      kind-17 h = ap effectStop (effect-as 17 h) ∙ test-stop (operands-as 17 h) ∙ sym (cause-as 17 (o ∷ p ∷ []) h (operands-as 17 h))
 
       kind-18 : r .kind ≡ 18 → Caused
-      unfolding Caused doneBy dispatch hasExpression isTest ifTrue ifEq ifLt metBy behindBy isCall usedBy touched firstOf stopOf
-      kind-18 h = ap stopOf (effect-as 18 h) ∙ test-stop (operands-as 18 h) ∙ sym (cause-as 18 (o ∷ p ∷ []) h (operands-as 18 h))
+      unfolding Caused doneBy dispatch hasExpression isTest ifTrue ifEq ifLt metBy behindBy isCall usedBy touched firstOf effectStop
+      kind-18 h = ap effectStop (effect-as 18 h) ∙ test-stop (operands-as 18 h) ∙ sym (cause-as 18 (o ∷ p ∷ []) h (operands-as 18 h))
 
       kind-19 : r .kind ≡ 19 → Caused
-      unfolding Caused doneBy dispatch hasExpression isTest ifTrue ifEq ifLt metBy behindBy isCall usedBy touched firstOf stopOf
-      kind-19 h = ap stopOf (effect-as 19 h) ∙ test-stop (operands-as 19 h) ∙ sym (cause-as 19 (o ∷ p ∷ []) h (operands-as 19 h))
+      unfolding Caused doneBy dispatch hasExpression isTest ifTrue ifEq ifLt metBy behindBy isCall usedBy touched firstOf effectStop
+      kind-19 h = ap effectStop (effect-as 19 h) ∙ test-stop (operands-as 19 h) ∙ sym (cause-as 19 (o ∷ p ∷ []) h (operands-as 19 h))
 
       -- ---- stores, calls
 
       kind-8 : r .kind ≡ 8 → Caused
-      unfolding Caused doneBy dispatch hasExpression isTest ifTrue ifEq ifLt metBy behindBy isCall usedBy touched firstOf stopOf
-      kind-8 h = ap stopOf (effect-as 8 h) ∙ byte-stop ∙ sym (cause-as 8 (r .operands) h refl)
+      unfolding Caused doneBy dispatch hasExpression isTest ifTrue ifEq ifLt metBy behindBy isCall usedBy touched firstOf effectStop
+      kind-8 h = ap effectStop (effect-as 8 h) ∙ byte-stop ∙ sym (cause-as 8 (r .operands) h refl)
 
       kind-9 : r .kind ≡ 9 → Caused
-      unfolding Caused doneBy dispatch hasExpression isTest ifTrue ifEq ifLt metBy behindBy isCall usedBy touched firstOf stopOf
-      kind-9 h = ap stopOf (effect-as 9 h) ∙ word-stop ∙ sym (cause-as 9 (r .operands) h refl)
+      unfolding Caused doneBy dispatch hasExpression isTest ifTrue ifEq ifLt metBy behindBy isCall usedBy touched firstOf effectStop
+      kind-9 h = ap effectStop (effect-as 9 h) ∙ word-stop ∙ sym (cause-as 9 (r .operands) h refl)
 
       kind-11 : r .kind ≡ 11 → Caused
-      unfolding Caused doneBy dispatch hasExpression isTest ifTrue ifEq ifLt metBy behindBy isCall usedBy touched firstOf stopOf
-      kind-11 h = ap stopOf (effect-as 11 h) ∙ plain-call (λ q. omega (arith, q, h)) ∙ sym (cause-as 11 (r .operands) h refl)
+      unfolding Caused doneBy dispatch hasExpression isTest ifTrue ifEq ifLt metBy behindBy isCall usedBy touched firstOf effectStop
+      kind-11 h = ap effectStop (effect-as 11 h) ∙ plain-call (λ q. omega (arith, q, h)) ∙ sym (cause-as 11 (r .operands) h refl)
 
       kind-12 : r .kind ≡ 12 → Caused
-      unfolding Caused doneBy dispatch hasExpression isTest ifTrue ifEq ifLt metBy behindBy isCall usedBy touched firstOf stopOf
-      kind-12 h = ap stopOf (effect-as 12 h) ∙ tail-stop ∙ sym (cause-as 12 (r .operands) h refl)
+      unfolding Caused doneBy dispatch hasExpression isTest ifTrue ifEq ifLt metBy behindBy isCall usedBy touched firstOf effectStop
+      kind-12 h = ap effectStop (effect-as 12 h) ∙ tail-stop ∙ sym (cause-as 12 (r .operands) h refl)
 
       -- ---- expressions
 
@@ -338,33 +338,33 @@ module _ (w : Width) (f : ℕ → Row) (c : ℕ) (x : World) (sum last : ℕ) wh
       operates = operatorMeets w (x .machine .top) (r .expr) (valueOf (r .operands) 0) (valueOf (r .operands) 1)
 
       call-5 : r .kind ≡ 5 → r .expr ≡ 2 → Caused
-      unfolding Caused doneBy dispatch hasExpression isTest ifTrue ifEq ifLt metBy behindBy isCall usedBy touched firstOf stopOf operates
+      unfolding Caused doneBy dispatch hasExpression isTest ifTrue ifEq ifLt metBy behindBy isCall usedBy touched firstOf effectStop operates
       call-5 h q =
-          ap stopOf (call-as 5 h q)
+          ap effectStop (call-as 5 h q)
           ∙ plain-call (λ d. omega (arith, d, h))
           ∙ ap (λ (i : List Meeting). first (touched st s (r .operands) ++ i)) (sym (ifTrue-yes (stacksTo (sum + size) ∷ []) operates (eq-eqb (r .expr) 2 q)))
           ∙ sym (cause-as 5 (r .operands) h refl)
 
       call-6 : r .kind ≡ 6 → r .expr ≡ 2 → Caused
-      unfolding Caused doneBy dispatch hasExpression isTest ifTrue ifEq ifLt metBy behindBy isCall usedBy touched firstOf stopOf operates
+      unfolding Caused doneBy dispatch hasExpression isTest ifTrue ifEq ifLt metBy behindBy isCall usedBy touched firstOf effectStop operates
       call-6 h q =
-          ap stopOf (call-as 6 h q)
+          ap effectStop (call-as 6 h q)
           ∙ plain-call (λ d. omega (arith, d, h))
           ∙ ap (λ (i : List Meeting). first (touched st s (r .operands) ++ i)) (sym (ifTrue-yes (stacksTo (sum + size) ∷ []) operates (eq-eqb (r .expr) 2 q)))
           ∙ sym (cause-as 6 (r .operands) h refl)
 
       call-13 : r .kind ≡ 13 → r .expr ≡ 2 → Caused
-      unfolding Caused doneBy dispatch hasExpression isTest ifTrue ifEq ifLt metBy behindBy isCall usedBy touched firstOf stopOf operates
+      unfolding Caused doneBy dispatch hasExpression isTest ifTrue ifEq ifLt metBy behindBy isCall usedBy touched firstOf effectStop operates
       call-13 h q =
-          ap stopOf (call-as 13 h q)
+          ap effectStop (call-as 13 h q)
           ∙ plain-call (λ d. omega (arith, d, h))
           ∙ ap (λ (i : List Meeting). first (touched st s (r .operands) ++ i)) (sym (ifTrue-yes (stacksTo (sum + size) ∷ []) operates (eq-eqb (r .expr) 2 q)))
           ∙ sym (cause-as 13 (r .operands) h refl)
 
       call-7 : r .kind ≡ 7 → r .expr ≡ 2 → Caused
-      unfolding Caused doneBy dispatch hasExpression isTest ifTrue ifEq ifLt metBy behindBy isCall usedBy touched firstOf stopOf operates
+      unfolding Caused doneBy dispatch hasExpression isTest ifTrue ifEq ifLt metBy behindBy isCall usedBy touched firstOf effectStop operates
       call-7 h q =
-          ap stopOf (call-as 7 h q)
+          ap effectStop (call-as 7 h q)
           ∙ at-call h
           ∙ ap (λ (i : List Meeting). first (wordAt addressAt ∷ (touched st s (r .operands) ++ i))) (sym (ifTrue-yes (stacksTo (sum + size) ∷ []) operates (eq-eqb (r .expr) 2 q)))
           ∙ sym (cause-as 7 (r .operands) h refl)
@@ -378,42 +378,42 @@ module _ (w : Width) (f : ℕ → Row) (c : ℕ) (x : World) (sum last : ℕ) wh
         behind-is = ifTrue-no (stacksTo (sum + size) ∷ []) operates (ne-eqb (r .expr) 2 h2)
 
         value-5 : r .kind ≡ 5 → Caused
-        unfolding Caused doneBy dispatch hasExpression isTest ifTrue ifEq ifLt metBy behindBy isCall usedBy touched firstOf stopOf operates
+        unfolding Caused doneBy dispatch hasExpression isTest ifTrue ifEq ifLt metBy behindBy isCall usedBy touched firstOf effectStop operates
         value-5 h =
-            ap stopOf (effect-as 5 h ∙ ifTrue-no (callOf w f c x) (assigned w f c x (workedOf w f c x)) (ne-eqb (r .expr) 2 h2))
+            ap effectStop (effect-as 5 h ∙ ifTrue-no (callOf w f c x) (assigned w f c x (workedOf w f c x)) (ne-eqb (r .expr) 2 h2))
             ∙ assigned-stop (workedOf w f c x)
             ∙ worked-stop (operands-as 5 h)
             ∙ ap (λ (i : List Meeting). first (touched st s (r .operands) ++ i)) (sym behind-is)
             ∙ sym (cause-as 5 (r .operands) h refl)
 
         value-6 : r .kind ≡ 6 → Caused
-        unfolding Caused doneBy dispatch hasExpression isTest ifTrue ifEq ifLt metBy behindBy isCall usedBy touched firstOf stopOf operates
+        unfolding Caused doneBy dispatch hasExpression isTest ifTrue ifEq ifLt metBy behindBy isCall usedBy touched firstOf effectStop operates
         value-6 h =
-            ap stopOf (effect-as 6 h ∙ ifTrue-no (callOf w f c x) (assigned w f c x (workedOf w f c x)) (ne-eqb (r .expr) 2 h2))
+            ap effectStop (effect-as 6 h ∙ ifTrue-no (callOf w f c x) (assigned w f c x (workedOf w f c x)) (ne-eqb (r .expr) 2 h2))
             ∙ assigned-stop (workedOf w f c x)
             ∙ worked-stop (operands-as 6 h)
             ∙ ap (λ (i : List Meeting). first (touched st s (r .operands) ++ i)) (sym behind-is)
             ∙ sym (cause-as 6 (r .operands) h refl)
 
         value-7 : r .kind ≡ 7 → Caused
-        unfolding Caused doneBy dispatch hasExpression isTest ifTrue ifEq ifLt metBy behindBy isCall usedBy touched firstOf stopOf operates setAtOf
+        unfolding Caused doneBy dispatch hasExpression isTest ifTrue ifEq ifLt metBy behindBy isCall usedBy touched firstOf effectStop operates setAtOf
         value-7 h =
-            ap stopOf (effect-as 7 h ∙ ifTrue-no (callOf w f c x) (setAtOf w f c x) (ne-eqb (r .expr) 2 h2))
+            ap effectStop (effect-as 7 h ∙ ifTrue-no (callOf w f c x) (setAtOf w f c x) (ne-eqb (r .expr) 2 h2))
             ∙ at-first (assignedAt w f c x (workedOf w f c x)) (touched st s (r .operands) ++ operates) (assigned-at-stop (workedOf w f c x) ∙ worked-stop (operands-as 7 h))
             ∙ ap (λ (i : List Meeting). first (wordAt addressAt ∷ (touched st s (r .operands) ++ i))) (sym behind-is)
             ∙ sym (cause-as 7 (r .operands) h refl)
 
       -- ---- returns
 
-      module _ (home : (v : ℕ) → isReturn r ≡ true → stopOf (handedBy w f c x v (landingOf w f c st (suc s) s)) ≡ 0) where
+      module _ (home : (v : ℕ) → isReturn r ≡ true → effectStop (handedBy w f c x v (resumptionOf w f c st (suc s) s)) ≡ 0) where
         end-returns : r .kind ≡ 2 → isReturn r ≡ true
         unfolding isReturn
         end-returns h = ap (λ (i : ℕ). oneOf (eqb i 2) (both (eqb i 13) (ifTrue (eqb (r .expr) 2) false true))) h
 
         kind-2 : r .kind ≡ 2 → Caused
-        unfolding Caused doneBy dispatch hasExpression isTest ifTrue ifEq ifLt metBy behindBy isCall usedBy touched firstOf stopOf returnOf returned
+        unfolding Caused doneBy dispatch hasExpression isTest ifTrue ifEq ifLt metBy behindBy isCall usedBy touched firstOf effectStop returnOf returned
         kind-2 h =
-            ap stopOf (effect-as 2 h ∙ ifEq-yes (returned w f c x (Value 0 0)) (ifEq (r .expr) 0 (returned w f c x (Value 0 0)) (returned w f c x (workedOf w f c x))) h)
+            ap effectStop (effect-as 2 h ∙ ifEq-yes (returned w f c x (Value 0 0)) (ifEq (r .expr) 0 (returned w f c x (Value 0 0)) (returned w f c x (workedOf w f c x))) h)
             ∙ home 0 (end-returns h)
             ∙ sym (cause-as 2 [] h (operands-as 2 h))
 
@@ -424,7 +424,7 @@ module _ (w : Width) (f : ℕ → Row) (c : ℕ) (x : World) (sum last : ℕ) wh
               ap (λ (i : ℕ). oneOf (eqb i 2) (both (eqb i 13) (ifTrue (eqb (r .expr) 2) false true))) h ∙ ifTrue-no false true (ne-eqb (r .expr) 2 h2)
 
           return-effect : effectOf w f c x ≡ ifEq (r .expr) 0 (returned w f c x (Value 0 0)) (returned w f c x (workedOf w f c x))
-          unfolding Caused doneBy dispatch hasExpression isTest ifTrue ifEq ifLt metBy behindBy isCall usedBy touched firstOf stopOf returnOf
+          unfolding Caused doneBy dispatch hasExpression isTest ifTrue ifEq ifLt metBy behindBy isCall usedBy touched firstOf effectStop returnOf
           return-effect =
               effect-as 13 h
               ∙ ifTrue-no (callOf w f c x) (ifTrue (ifTrue (eqb (r .expr) 2) false true) (returnOf w f c x) (goesTo w f c x (r .a))) (ne-eqb (r .expr) 2 h2)
@@ -432,18 +432,18 @@ module _ (w : Width) (f : ℕ → Row) (c : ℕ) (x : World) (sum last : ℕ) wh
               ∙ ifEq-no {a = r .kind} {b = 2} (returned w f c x (Value 0 0)) (ifEq (r .expr) 0 (returned w f c x (Value 0 0)) (returned w f c x (workedOf w f c x))) (λ q. omega (arith, q, h))
 
           bare-13 : r .expr ≡ 0 → Caused
-          unfolding Caused doneBy dispatch hasExpression isTest ifTrue ifEq ifLt metBy behindBy isCall usedBy touched firstOf stopOf returned expressionUses isOperator operatorMeets
+          unfolding Caused doneBy dispatch hasExpression isTest ifTrue ifEq ifLt metBy behindBy isCall usedBy touched firstOf effectStop returned expressionUses isOperator operatorMeets
           bare-13 q =
-              ap stopOf (return-effect ∙ ifEq-yes (returned w f c x (Value 0 0)) (returned w f c x (workedOf w f c x)) q)
+              ap effectStop (return-effect ∙ ifEq-yes (returned w f c x (Value 0 0)) (returned w f c x (workedOf w f c x)) q)
               ∙ home 0 it-returns
               ∙ sym
               (cause-as 13 [] h (operands-as 13 h ∙ ap (λ (e : ℕ). take (usedBy 13 e (r .count)) (o ∷ p ∷ rest)) q)
               ∙ ap (λ (e : ℕ). first (metBy 13 e [])) q)
 
           value-13 : (r .expr ≡ 0 → ⊥) → expressionListed 13 (r .expr) ≡ true → Caused
-          unfolding Caused doneBy dispatch hasExpression isTest ifTrue ifEq ifLt metBy behindBy isCall usedBy touched firstOf stopOf operates
+          unfolding Caused doneBy dispatch hasExpression isTest ifTrue ifEq ifLt metBy behindBy isCall usedBy touched firstOf effectStop operates
           value-13 h0 g =
-              ap stopOf (return-effect ∙ ifEq-no (returned w f c x (Value 0 0)) (returned w f c x (workedOf w f c x)) h0)
+              ap effectStop (return-effect ∙ ifEq-no (returned w f c x (Value 0 0)) (returned w f c x (workedOf w f c x)) h0)
               ∙ returned-stop (λ v. home v it-returns) (workedOf w f c x)
               ∙ worked-stop h0 h2 g (operands-as 13 h)
               ∙ ap (λ (i : List Meeting). first (touched st s (r .operands) ++ i)) (sym (behind-is h0 h2 g))
@@ -548,8 +548,8 @@ pub effect-cause : (w : Width) (t : Tables) (x : World) (sum last : ℕ)
     → x .machine .used ≡ sum
     → x .machine .frame ≡ sum - last
     → ((v : ℕ) → isReturn (rows t (x .machine .next)) ≡ true
-    → stopOf (handedBy w (rows t) (t .count) x v (landingOf w (rows t) (t .count) (x .stack) (suc (x .machine .frame)) (x .machine .frame))) ≡ 0)
-    → stopOf (effectOf w (rows t) (t .count) x) ≡ firstCause w (rows t) sum last x
+    → effectStop (handedBy w (rows t) (t .count) x v (resumptionOf w (rows t) (t .count) (x .stack) (suc (x .machine .frame)) (x .machine .frame))) ≡ 0)
+    → effectStop (effectOf w (rows t) (t .count) x) ≡ firstCause w (rows t) sum last x
 unfolding rowAt rowFrom slots Caused
 effect-cause w t x sum last sound h1 used-is frame-is home =
     caused w (rows t) (t .count) x sum last used-is frame-is

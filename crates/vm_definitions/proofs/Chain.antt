@@ -24,11 +24,11 @@ use Rattle.prog_tables.proofs.Sound.{function-sound}
 use Rattle.prog_laws.proofs.Rows.{size-here, size-at}
 use Rattle.vm_definitions.specs.Access.{wordGood}
 use Rattle.vm_definitions.specs.Operands.{numberIn}
-use Rattle.vm_definitions.specs.Frames.{mark, returnsTo, callerFrame, topAtEntry, isFirst, isReturnCall, isCalling, calledFrom, headGood, passesOn, leavesGood, landingOf}
+use Rattle.vm_definitions.specs.Frames.{mark, returnsTo, callerFrame, topAtEntry, isFirst, isReturnCall, isCalling, calledFrom, headGood, passesOn, leavesGood, resumptionOf}
 use Rattle.vm_definitions.specs.Ledger.{Entry, Ledger, fromReturn, popped, sumOf, lastOf}
 use Rattle.vm_definitions.specs.Step.{World}
-use Rattle.vm_definitions.specs.declared.Landing.{Landing}
-use Rattle.vm_definitions.specs.declared.Landing.the-variants.{Ends, Lands}
+use Rattle.vm_definitions.specs.declared.Resumption.{Resumption}
+use Rattle.vm_definitions.specs.declared.Resumption.the-variants.{Ends, Caller}
 use Rattle.vm_definitions.proofs.Invariant.{FrameAt, Head, FirstHead, Under, Invariant}
 
 -- ---- tests
@@ -53,7 +53,7 @@ module _ (w : Width) (t : Tables) (m : ℕ) (st : List ℕ) where
   -- ---- where a return comes out
 
   -- at row c in the frame of d from v to u, with an auto top, ds being under it
-  pub record LandsAt (d : Entry) (ds : Ledger) (c v u top : ℕ) : Type 0 where
+  pub record CallerAt (d : Entry) (ds : Ledger) (c v u top : ℕ) : Type 0 where
     pub within : c < t .count
     pub calls : isCalling (rows t c) ≡ true
     pub plain : isReturnCall (rows t c) ≡ false
@@ -64,13 +64,13 @@ module _ (w : Width) (t : Tables) (m : ℕ) (st : List ℕ) where
     pub address : rows t c .kind ≡ 7 → wordGood w m (numberIn st v (rows t c .address)) ≡ true
 
   -- p is the ledger then
-  pub data Landed (p : Ledger) (l : Landing) : Type 0 where
-    ends : (top : ℕ) → l ≡ Ends top → top ≤ m → p ≡ [] → Landed p l
-    lands : (d : Entry) (ds : Ledger) (c v u top : ℕ) → LandsAt d ds c v u top → l ≡ Lands c v u top → p ≡ d ∷ ds → Landed p l
+  pub data Resumed (p : Ledger) (l : Resumption) : Type 0 where
+    ends : (top : ℕ) → l ≡ Ends top → top ≤ m → p ≡ [] → Resumed p l
+    to-caller : (d : Entry) (ds : Ledger) (c v u top : ℕ) → CallerAt d ds c v u top → l ≡ Caller c v u top → p ≡ d ∷ ds → Resumed p l
 
-  again : (p q : Ledger) (l k : Landing) → q ≡ p → k ≡ l → Landed p l → Landed q k
+  again : (p q : Ledger) (l k : Resumption) → q ≡ p → k ≡ l → Resumed p l → Resumed q k
   again p q l k a b (ends top e h d) = ends top (b ∙ e) h (a ∙ d)
-  again p q l k a b (lands d ds c v u top x e f) = lands d ds c v u top x (b ∙ e) (a ∙ f)
+  again p q l k a b (to-caller d ds c v u top x e f) = to-caller d ds c v u top x (b ∙ e) (a ∙ f)
 
 -- what a return leaves open lies under the frame it leaves
 pub popped-sum : (f : ℕ → Row) (e : Entry) (es : Ledger) → sumOf f (popped f (e ∷ es)) ≤ sumOf f es
@@ -161,24 +161,24 @@ module _ (w : Width) (t : Tables) (ok : WellFormed t) (m : ℕ) (st : List ℕ) 
 
   -- ---- returns
 
-  landed-by : (c : Option ℕ) (es : Ledger) (fuel s : ℕ) → Under w t m st c es s → topAtEntry st s ≤ m → s < fuel
-      → Landed w t m st (ifTrue (fromReturn (rows t) c) (popped (rows t) es) es) (landingOf w (rows t) (t .count) st fuel s)
-  unfolding Under landingOf popped fromReturn
-  landed-by c es zero s u l h = absurd (not-suc-le-zero h)
-  landed-by none [] (suc fuel) s u l h =
+  resumed-by : (c : Option ℕ) (es : Ledger) (fuel s : ℕ) → Under w t m st c es s → topAtEntry st s ≤ m → s < fuel
+      → Resumed w t m st (ifTrue (fromReturn (rows t) c) (popped (rows t) es) es) (resumptionOf w (rows t) (t .count) st fuel s)
+  unfolding Under resumptionOf popped fromReturn
+  resumed-by c es zero s u l h = absurd (not-suc-le-zero h)
+  resumed-by none [] (suc fuel) s u l h =
       ends (topAtEntry st s) (ifTrue-yes _ _ (first-yes s u)) l (ifTrue-no (popped (rows t) []) [] refl)
-  landed-by none (d ∷ es) (suc fuel) s u l h = absurd u
-  landed-by (some c) [] (suc fuel) s u l h = absurd u
-  landed-by (some c) (d ∷ es) (suc fuel) s u l h =
-      by (λ k. landed-by (d .call) es fuel (callerFrame st s) (u .1) (u .0 .frame .top) k) (isReturnCall (rows t c)) refl
+  resumed-by none (d ∷ es) (suc fuel) s u l h = absurd u
+  resumed-by (some c) [] (suc fuel) s u l h = absurd u
+  resumed-by (some c) (d ∷ es) (suc fuel) s u l h =
+      by (λ k. resumed-by (d .call) es fuel (callerFrame st s) (u .1) (u .0 .frame .top) k) (isReturnCall (rows t c)) refl
     where
-      by : (callerFrame st s < fuel → Landed w t m st (popped (rows t) (d ∷ es)) (landingOf w (rows t) (t .count) st fuel (callerFrame st s))) → (b : Bool) → isReturnCall (rows t c) ≡ b → Landed w t m st (ifTrue (fromReturn (rows t) (some c)) (popped (rows t) (d ∷ es)) (d ∷ es)) (landingOf w (rows t) (t .count) st (suc fuel) s)
+      by : (callerFrame st s < fuel → Resumed w t m st (popped (rows t) (d ∷ es)) (resumptionOf w (rows t) (t .count) st fuel (callerFrame st s))) → (b : Bool) → isReturnCall (rows t c) ≡ b → Resumed w t m st (ifTrue (fromReturn (rows t) (some c)) (popped (rows t) (d ∷ es)) (d ∷ es)) (resumptionOf w (rows t) (t .count) st (suc fuel) s)
       by on true e =
           again w t m st _ _ _ _ (ifTrue-yes (popped (rows t) (d ∷ es)) (d ∷ es) e)
           (ifTrue-no _ _ (first-no c (d .func) s (u .0)) ∙ ifTrue-yes _ _ (passes c (d .func) s (u .0) ∙ e))
           (on (omega (arith, head-behind c (d .func) s (u .0), h)))
       by on false e =
-          lands d es c (callerFrame st s) s (topAtEntry st s)
+          to-caller d es c (callerFrame st s) s (topAtEntry st s)
           (record {
             within = u .0 .frame .within;
             calls = u .0 .calls;
@@ -190,10 +190,10 @@ module _ (w : Width) (t : Tables) (ok : WellFormed t) (m : ℕ) (st : List ℕ) 
             address = u .0 .address;
           })
           (ifTrue-no _ _ (first-no c (d .func) s (u .0)) ∙ ifTrue-no _ _ (passes c (d .func) s (u .0) ∙ e)
-          ∙ ap (λ (n : ℕ). Lands n (callerFrame st s) s (topAtEntry st s)) (u .0 .place))
+          ∙ ap (λ (n : ℕ). Caller n (callerFrame st s) s (topAtEntry st s)) (u .0 .place))
           (ifTrue-no (popped (rows t) (d ∷ es)) (d ∷ es) e)
 
-  pub landed : (e : Entry) (es : Ledger) (fuel s : ℕ) → Under w t m st (e .call) es s → topAtEntry st s ≤ m → s < fuel
-      → Landed w t m st (popped (rows t) (e ∷ es)) (landingOf w (rows t) (t .count) st fuel s)
+  pub resumed : (e : Entry) (es : Ledger) (fuel s : ℕ) → Under w t m st (e .call) es s → topAtEntry st s ≤ m → s < fuel
+      → Resumed w t m st (popped (rows t) (e ∷ es)) (resumptionOf w (rows t) (t .count) st fuel s)
   unfolding popped
-  landed e es fuel s u l h = landed-by (e .call) es fuel s u l h
+  resumed e es fuel s u l h = resumed-by (e .call) es fuel s u l h

@@ -16,11 +16,11 @@ use Rattle.base_limits.specs.declared.State.{State}
 use Rattle.base_limits.specs.declared.State.the-variants.{Running, Finished, Stopped}
 use Rattle.base_limits.specs.declared.Machine.{Machine}
 use Rattle.prog_tables.specs.Label.{Tables, rows}
-use Rattle.vm_definitions.specs.Step.{World, Effect, stops, leaves, stopOf, effectOf, After, idle, effected, stepOf, counting, runOf, stopped}
+use Rattle.vm_definitions.specs.Step.{World, Effect, stops, leaves, effectStop, effectOf, After, idle, effected, stepOf, counting, runOf, stopped}
 use Rattle.vm_definitions.specs.Start.{startOf, startLeaves, startBy, startAnswer, startWorld, startedFunction, begunBy}
 use Rattle.vm_definitions.specs.Causes.{firstCause, meetingsOf, readsOf}
 use Rattle.vm_definitions.specs.Ledger.{Event, started, counted, Entry, Ledger, fed, countedIn, ledgerOf, sumOf, lastOf}
-use Rattle.vm_definitions.specs.Play.{Call, start, step, run, Turn, Left, eventsOf, startEvents, startBroke, calledOn, turnOn, worldAfter, eventsAfter, refusalsAfter}
+use Rattle.vm_definitions.specs.Play.{Call, start, step, run, Invocation, CallResult, eventsOf, startEvents, startBroke, calledOn, invokedOn, worldAfter, eventsAfter, refusalsAfter}
 use Rattle.vm_definitions.specs.Claim.{runningWith, causeIn, Listed, StopSound, StepSound, stackFull, StateSound, isFinished, Sound, AllLong, NoneBroken, startedBy, Demand}
 use Rattle.vm_definitions.specs.declared.Broken.{Broken}
 use Rattle.vm_definitions.specs.declared.Broken.the-variants.{No, At, Somewhere}
@@ -60,7 +60,7 @@ module _ (w : Width) (t : Tables) (m : ℕ) where
         lent = i .lent;
         few = i .few;
         top = subst (λ (n : ℕ). x .machine .top ≤ n) (sym l) (i .top);
-        held = subst (λ (n : ℕ). t .dataLength ≤ n) (sym l) (i .held);
+        data-fits = subst (λ (n : ℕ). t .dataLength ≤ n) (sym l) (i .data-fits);
         short = subst (λ (n : ℕ). n ≤ memoryLimit w) (sym l) (i .short);
       }
 
@@ -77,23 +77,23 @@ module _ (w : Width) (t : Tables) (bytes : List ℕ) (p : Parts w t bytes) where
 
   module _ (e : Entry) (es : Ledger) (x : World) (s : x .machine .state ≡ Running) (i : Invariant w t e es x) where
     counts-one : causeIn w t (e ∷ es) x ≡ 0 → stepOf w t x .count ≡ 1
-    unfolding stopOf
+    unfolding effectStop
     counts-one z = go (effectOf w (rows t) (t .count) x) refl
       where
         go : (f : Effect) → effectOf w (rows t) (t .count) x ≡ f → stepOf w t x .count ≡ 1
         go (stops k) q =
             absurd
-            (let a : k ≡ causeIn w t (e ∷ es) x = sym (ap stopOf q) ∙ p .cause e es x i in
+            (let a : k ≡ causeIn w t (e ∷ es) x = sym (ap effectStop q) ∙ p .cause e es x i in
             let b : 0 < k = p .numbered e es x k s i q in omega (arith, a, b, z))
         go (leaves y) q = ap (λ (y : After). y .count) (runs-as w t bytes p e es x s i ∙ ap (effected x) q) ∙ effected-count x y
 
     stop-effect : 0 < causeIn w t (e ∷ es) x → stepOf w t x ≡ effected x (stops (causeIn w t (e ∷ es) x))
-    unfolding stopOf
+    unfolding effectStop
     stop-effect z = go (effectOf w (rows t) (t .count) x) refl
       where
         go : (f : Effect) → effectOf w (rows t) (t .count) x ≡ f → stepOf w t x ≡ effected x (stops (causeIn w t (e ∷ es) x))
-        go (stops k) q = runs-as w t bytes p e es x s i ∙ ap (effected x) (q ∙ ap stops (sym (ap stopOf q) ∙ p .cause e es x i))
-        go (leaves y) q = absurd (let a : 0 ≡ causeIn w t (e ∷ es) x = sym (ap stopOf q) ∙ p .cause e es x i in omega (arith, a, z))
+        go (stops k) q = runs-as w t bytes p e es x s i ∙ ap (effected x) (q ∙ ap stops (sym (ap effectStop q) ∙ p .cause e es x i))
+        go (leaves y) q = absurd (let a : 0 ≡ causeIn w t (e ∷ es) x = sym (ap effectStop q) ∙ p .cause e es x i in omega (arith, a, z))
 
     step-sound : StepSound w t (e ∷ es) x
     step-sound =
@@ -128,10 +128,10 @@ module _ (w : Width) (t : Tables) (bytes : List ℕ) (p : Parts w t bytes) where
   good-sound m _ _ (ends x v l s u) =
       record { finished = λ q. ap isFinished s; state = subst (StateSound w t [] x) (sym s) refl; used = u }
 
-  -- ---- turns
+  -- ---- invocations
 
   module _ (m : ℕ) where
-    pub record TurnGood (l : Left) (es : Ledger) : Type 0 where
+    pub record InvocationGood (l : CallResult) (es : Ledger) : Type 0 where
       pub good : Good w t m (ledgerOf (rows t) es (l .events)) (l .world)
       pub whole : l .broken ≡ No
 
@@ -144,7 +144,7 @@ module _ (w : Width) (t : Tables) (bytes : List ℕ) (p : Parts w t bytes) where
         ]
 
     begun-good : (name args : List ℕ) (es : Ledger) (x : World) → length (x .memory) ≡ m → startOf w t bytes name args x ≡ Begun
-        → TurnGood (calledOn w t bytes (start name args) x) es
+        → InvocationGood (calledOn w t bytes (start name args) x) es
     unfolding calledOn startEvents startBroke ledgerOf fed
     begun-good name args es x l q =
         record {
@@ -156,11 +156,11 @@ module _ (w : Width) (t : Tables) (bytes : List ℕ) (p : Parts w t bytes) where
         }
 
     start-good : (name args : List ℕ) (es : Ledger) (x : World) → length (x .memory) ≡ m → Good w t m es x
-        → TurnGood (calledOn w t bytes (start name args) x) es
+        → InvocationGood (calledOn w t bytes (start name args) x) es
     unfolding calledOn startLeaves begunBy startEvents startBroke ledgerOf
     start-good name args es x l g = go (startOf w t bytes name args x) refl
       where
-        go : (a : Started) → startOf w t bytes name args x ≡ a → TurnGood (calledOn w t bytes (start name args) x) es
+        go : (a : Started) → startOf w t bytes name args x ≡ a → InvocationGood (calledOn w t bytes (start name args) x) es
         go Begun q = begun-good name args es x l q
         go (Refused k) q =
             record {
@@ -170,7 +170,7 @@ module _ (w : Width) (t : Tables) (bytes : List ℕ) (p : Parts w t bytes) where
             }
         go (Unsound b) q = absurd (p .unbroken name args x b q)
 
-    call-good : (c : Call) (es : Ledger) (x : World) → length (x .memory) ≡ m → Good w t m es x → TurnGood (calledOn w t bytes c x) es
+    call-good : (c : Call) (es : Ledger) (x : World) → length (x .memory) ≡ m → Good w t m es x → InvocationGood (calledOn w t bytes c x) es
     unfolding calledOn
     call-good (start name args) es x l g = start-good name args es x l g
     call-good step es x l g =
@@ -180,45 +180,45 @@ module _ (w : Width) (t : Tables) (bytes : List ℕ) (p : Parts w t bytes) where
         }
     call-good (run b) es x l g = record { good = run-good w t bytes p m b es x g .good; whole = run-good w t bytes p m b es x g .whole }
 
-    turn-good : (c : Turn) (es : Ledger) (x : World) → length (c .memory) ≡ m → Good w t m es x → TurnGood (turnOn w t bytes c x) es
-    unfolding turnOn
-    turn-good c es x l g = call-good (c .call) es (record { machine = x .machine; stack = x .stack; memory = c .memory }) l (good-bytes w t m es x g (c .memory) l)
+    invocation-good : (c : Invocation) (es : Ledger) (x : World) → length (c .memory) ≡ m → Good w t m es x → InvocationGood (invokedOn w t bytes c x) es
+    unfolding invokedOn
+    invocation-good c es x l g = call-good (c .call) es (record { machine = x .machine; stack = x .stack; memory = c .memory }) l (good-bytes w t m es x g (c .memory) l)
 
-    -- ---- lists of turns
+    -- ---- lists of invocations
 
-    pub record ListGood (es : Ledger) (x : World) (cs : List Turn) : Type 0 where
+    pub record ListGood (es : Ledger) (x : World) (cs : List Invocation) : Type 0 where
       pub good : Good w t m (ledgerOf (rows t) es (eventsAfter w t bytes x cs)) (worldAfter w t bytes x cs)
       pub whole : NoneBroken (refusalsAfter w t bytes x cs)
 
-    pub list-good : (cs : List Turn) (es : Ledger) (x : World) → AllLong m cs → Good w t m es x → ListGood es x cs
+    pub list-good : (cs : List Invocation) (es : Ledger) (x : World) → AllLong m cs → Good w t m es x → ListGood es x cs
     unfolding AllLong NoneBroken eventsAfter worldAfter refusalsAfter ledgerOf
     list-good [] es x a g = record { good = g; whole = tt }
     list-good (c ∷ cs) es x (l, a) g =
-        behind (turn-good c es x l g) (list-good cs (ledgerOf (rows t) es (turnOn w t bytes c x .events)) (turnOn w t bytes c x .world) a (turn-good c es x l g .good))
+        behind (invocation-good c es x l g) (list-good cs (ledgerOf (rows t) es (invokedOn w t bytes c x .events)) (invokedOn w t bytes c x .world) a (invocation-good c es x l g .good))
       where
-        behind : TurnGood (turnOn w t bytes c x) es → ListGood (ledgerOf (rows t) es (turnOn w t bytes c x .events)) (turnOn w t bytes c x .world) cs → ListGood es x (c ∷ cs)
+        behind : InvocationGood (invokedOn w t bytes c x) es → ListGood (ledgerOf (rows t) es (invokedOn w t bytes c x .events)) (invokedOn w t bytes c x .world) cs → ListGood es x (c ∷ cs)
         behind h r =
             record {
               good =
-                  subst (λ (us : Ledger). Good w t m us (worldAfter w t bytes (turnOn w t bytes c x .world) cs))
-                  (sym (ledger-both t es (turnOn w t bytes c x .events) (eventsAfter w t bytes (turnOn w t bytes c x .world) cs))) (r .good);
+                  subst (λ (us : Ledger). Good w t m us (worldAfter w t bytes (invokedOn w t bytes c x .world) cs))
+                  (sym (ledger-both t es (invokedOn w t bytes c x .events) (eventsAfter w t bytes (invokedOn w t bytes c x .world) cs))) (r .good);
               whole = (h .whole, r .whole);
             }
 
   -- ---- the demand
 
   pub demand-holds : Demand w t bytes
-  unfolding Demand startedBy NoneBroken eventsAfter worldAfter refusalsAfter turnOn startOf startBy startAnswer
+  unfolding Demand startedBy NoneBroken eventsAfter worldAfter refusalsAfter invokedOn startOf startBy startAnswer
   demand-holds x name args cs e a = behind (begun-good (length (x .memory)) name args [] (withBytes w t 0 x (x .memory)) refl e)
     where
-      first : Turn
+      first : Invocation
       first = record { call = start name args; memory = x .memory }
 
-      behind : TurnGood (length (x .memory)) (turnOn w t bytes first x) [] → Sound w t (ledgerOf (rows t) [] (eventsAfter w t bytes x (first ∷ cs))) (worldAfter w t bytes x (first ∷ cs))
+      behind : InvocationGood (length (x .memory)) (invokedOn w t bytes first x) [] → Sound w t (ledgerOf (rows t) [] (eventsAfter w t bytes x (first ∷ cs))) (worldAfter w t bytes x (first ∷ cs))
           × NoneBroken (refusalsAfter w t bytes x (first ∷ cs))
       behind h = (
-        subst (λ (us : Ledger). Sound w t us (worldAfter w t bytes (turnOn w t bytes first x .world) cs))
-            (sym (ledger-both t [] (turnOn w t bytes first x .events) (eventsAfter w t bytes (turnOn w t bytes first x .world) cs)))
+        subst (λ (us : Ledger). Sound w t us (worldAfter w t bytes (invokedOn w t bytes first x .world) cs))
+            (sym (ledger-both t [] (invokedOn w t bytes first x .events) (eventsAfter w t bytes (invokedOn w t bytes first x .world) cs)))
             (good-sound (length (x .memory)) _ _ (list-good (length (x .memory)) cs _ _ a (h .good) .good)),
         (h .whole, list-good (length (x .memory)) cs _ _ a (h .good) .whole),
       )

@@ -27,7 +27,7 @@ use Rattle.prog_tables.specs.WellFormed.{WellFormed}
 use Rattle.prog_tables.proofs.Sound.{kind-sound}
 use Rattle.prog_tables.proofs.Whole.{row-sound}
 use Rattle.prog_tables.proofs.Unbroken.{tables-sound}
-use Rattle.vm_definitions.specs.Step.{World, Effect, stops, leaves, stopOf, effectOf}
+use Rattle.vm_definitions.specs.Step.{World, Effect, stops, leaves, effectStop, effectOf}
 use Rattle.vm_definitions.specs.Broken.{lowest, orElse, numbersBelow, startBroken}
 use Rattle.vm_definitions.specs.Start.{startOf, startBy, startAnswer, startLeaves, startWorld, begunBy, startedFunction}
 use Rattle.vm_definitions.specs.Ledger.{Entry, Ledger, sumOf, lastOf, countedIn}
@@ -38,7 +38,7 @@ use Rattle.vm_definitions.specs.declared.Started.{Started}
 use Rattle.vm_definitions.specs.declared.Started.the-variants.{Begun, Refused, Unsound}
 use Rattle.vm_definitions.proofs.Invariant.{Invariant}
 use Rattle.vm_definitions.proofs.Chain.{invariant-sum, invariant-frame}
-use Rattle.vm_definitions.proofs.Gate.{Low, low-none, low-cons, lowest-none, gate-open, hand-safe, neither}
+use Rattle.vm_definitions.proofs.Guard.{Low, low-none, low-cons, lowest-none, gate-open, hand-safe, neither}
 use Rattle.vm_definitions.proofs.Stores.{store-length}
 use Rattle.vm_definitions.proofs.Causes.{effect-cause}
 use Rattle.vm_definitions.proofs.Listed.{step-listed, step-full, step-full-only}
@@ -125,7 +125,7 @@ module _ (w : Width) (t : Tables) (good : WellFormed t) (bytes : List ℕ) (lent
         (start.begun w t good bytes name args x q)
 
   module _ (e : Entry) (es : Ledger) (x : World) (i : Invariant w t e es x) where
-    cause-is : stopOf (effectOf w (rows t) (t .count) x) ≡ causeIn w t (e ∷ es) x
+    cause-is : effectStop (effectOf w (rows t) (t .count) x) ≡ causeIn w t (e ∷ es) x
     unfolding causeIn
     cause-is =
         effect-cause w t x (sumOf (rows t) (e ∷ es)) (lastOf (rows t) (e ∷ es)) (kind-sound t good (x .machine .next) (i .frame .within)) (i .frame .inside)

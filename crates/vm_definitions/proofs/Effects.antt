@@ -20,15 +20,15 @@ use Rattle.prog_tables.specs.Statement.{Row, isTest}
 use Rattle.prog_tables.specs.declared.Operand.{Operand}
 use Rattle.vm_definitions.specs.Access.{byteAddress, wordAddress, byteGood, wordGood, storeFrom}
 use Rattle.vm_definitions.specs.Operands.{Words, words, bad, numberIn, fetchOf, readOf, onRead}
-use Rattle.vm_definitions.specs.Expressions.{roundUp, reserved, answered, fetched, byteOf, applied, evalOf, operandNo, holds}
-use Rattle.vm_definitions.specs.Frames.{isReturn, isCalling, landingOf}
+use Rattle.vm_definitions.specs.Expressions.{roundUp, reserved, answered, fetched, byteOf, applied, evalOf, operandNo, testHolds}
+use Rattle.vm_definitions.specs.Frames.{isReturn, isCalling, resumptionOf}
 use Rattle.vm_definitions.specs.Step.{World, Effect, stops, leaves, goingOn, movedTo, ended, goesTo, keeps, stores, blockOf, endBlockOf, testOf, workedOf, assigned, assignedAt, addressOf, setAtOf, setByteBy, setWordBy, argumentsOf, callBy, callOf, tailCallBy, handedTo, handedBy, returned, returnOf, rowOf, effectOf}
 use Rattle.vm_definitions.specs.declared.Read.{Read}
 use Rattle.vm_definitions.specs.declared.Read.the-variants.{Got, Bad}
 use Rattle.vm_definitions.specs.declared.Worked.{Worked}
 use Rattle.vm_definitions.specs.declared.Worked.the-variants.{Value, Stop}
-use Rattle.vm_definitions.specs.declared.Landing.{Landing}
-use Rattle.vm_definitions.specs.declared.Landing.the-variants.{Ends, Lands}
+use Rattle.vm_definitions.specs.declared.Resumption.{Resumption}
+use Rattle.vm_definitions.specs.declared.Resumption.the-variants.{Ends, Caller}
 use Rattle.vm_definitions.proofs.Stores.{store-length}
 use Rattle.vm_definitions.proofs.Kept.{on-read}
 
@@ -193,10 +193,10 @@ module _ (w : Width) (f : ℕ → Row) (c : ℕ) (x : World) where
 
   -- ---- returns
 
-  numbered-to : (v : ℕ) (l : Landing) → Numbered (handedBy w f c x v l)
+  numbered-to : (v : ℕ) (l : Resumption) → Numbered (handedBy w f c x v l)
   unfolding handedBy handedTo Numbered
   numbered-to v (Ends top) = tt
-  numbered-to v (Lands call s used top) =
+  numbered-to v (Caller call s used top) =
       either-eq Numbered (f call .kind) 7 _ _ (λ e. either-true Numbered _ _ _ (λ d. tt) (λ d. omega arith))
       (λ e. either-eq Numbered (f call .kind) 11 _ _ (λ d. tt) (λ d. tt))
 

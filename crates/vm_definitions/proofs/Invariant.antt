@@ -56,5 +56,5 @@ pub record Invariant (w : Width) (t : Tables) (e : Entry) (es : Ledger) (x : Wor
   pub lent : x .machine .used ≤ length (x .stack)
   pub few : length (x .stack) ≤ stackWords
   pub top : x .machine .top ≤ length (x .memory)
-  pub held : t .dataLength ≤ length (x .memory)
+  pub data-fits : t .dataLength ≤ length (x .memory)
   pub short : length (x .memory) ≤ memoryLimit w

@@ -30,7 +30,7 @@ use Rattle.prog_laws.proofs.Targets.{goto-target, target-scope}
 use Rattle.prog_laws.proofs.Words.{around-self, frame-shallow, block-low, block-within, end-facts, Apart, destination-apart}
 use Rattle.vm_definitions.specs.Access.{byteAddress, wordAddress, byteGood, wordGood, storeFrom}
 use Rattle.vm_definitions.specs.Operands.{Words, words, bad, numberIn, fetchOf, readOf, readAll, onRead}
-use Rattle.vm_definitions.specs.Expressions.{roundUp, reserved, answered, fetched, byteOf, applied, evalOf, operandNo, holds}
+use Rattle.vm_definitions.specs.Expressions.{roundUp, reserved, answered, fetched, byteOf, applied, evalOf, operandNo, testHolds}
 use Rattle.vm_definitions.specs.Step.{World, Effect, stops, leaves, goingOn, goesTo, keeps, stores, blockOf, endBlockOf, testOf, workedOf, assigned, assignedAt, addressOf, setAtOf, setByteBy, setWordBy}
 use Rattle.vm_definitions.specs.Ledger.{Entry, Ledger}
 use Rattle.vm_definitions.specs.declared.Read.{Read}
@@ -186,7 +186,7 @@ module _ (w : Width) (t : Tables) (good : WellFormed t) (e : Entry) (es : Ledger
   kept-test k =
       on-read (Kept w t e es) (readOf w (x .stack) (x .machine .frame) (x .memory) (operandNo (rows t (x .machine .next) .operands) 0)) (stops 32) _ (kept-stop 32)
       (λ a. on-read (Kept w t e es) (readOf w (x .stack) (x .machine .frame) (x .memory) (operandNo (rows t (x .machine .next) .operands) 1)) (stops 32) _ (kept-stop 32)
-      (λ b. either-true (λ (n : ℕ). Kept w t e es (goesTo w (rows t) (t .count) x n)) (holds w (rows t (x .machine .next) .kind) a b) (suc (x .machine .next)) (rows t (x .machine .next) .a)
+      (λ b. either-true (λ (n : ℕ). Kept w t e es (goesTo w (rows t) (t .count) x n)) (testHolds w (rows t (x .machine .next) .kind) a b) (suc (x .machine .next)) (rows t (x .machine .next) .a)
       (λ d. kept-next (omega (arith, test-least (rows t (x .machine .next) .kind) k))) (λ d. kept-jump (test-target (rows t (x .machine .next) .kind) k))))
 
   -- ---- `let` and `set`

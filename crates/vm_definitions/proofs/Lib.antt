@@ -2,7 +2,7 @@ pub mod Opened
 pub mod Answers
 pub mod Invariant
 pub mod Chain
-pub mod Gate
+pub mod Guard
 pub mod Stores
 pub mod Carried
 pub mod Places

@@ -16,11 +16,11 @@ use Rattle.base_limits.specs.declared.State.{State}
 use Rattle.base_limits.specs.declared.State.the-variants.{Running, Finished, Stopped}
 use Rattle.base_limits.specs.declared.Machine.{Machine}
 use Rattle.prog_tables.specs.Label.{Tables, rows}
-use Rattle.vm_definitions.specs.Step.{World, Effect, stops, leaves, stopOf, effectOf, After, idle, effected, gated, inState, stepOf, counting, runOf, stopped}
+use Rattle.vm_definitions.specs.Step.{World, Effect, stops, leaves, effectStop, effectOf, After, idle, effected, guarded, inState, stepOf, counting, runOf, stopped}
 use Rattle.vm_definitions.specs.Broken.{stepBroken}
 use Rattle.vm_definitions.specs.Start.{startOf, startLeaves, startedFunction, begunBy}
 use Rattle.vm_definitions.specs.Ledger.{Event, started, counted, Entry, Ledger, fed, countedIn, ledgerOf, sumOf, lastOf}
-use Rattle.vm_definitions.specs.Play.{Call, start, step, run, Turn, Left, eventsOf, startEvents, startBroke, calledOn, turnOn, worldAfter, eventsAfter, refusalsAfter}
+use Rattle.vm_definitions.specs.Play.{Call, start, step, run, Invocation, CallResult, eventsOf, startEvents, startBroke, calledOn, invokedOn, worldAfter, eventsAfter, refusalsAfter}
 use Rattle.vm_definitions.specs.Claim.{runningWith, causeIn, Listed, StopSound, StepSound, stackFull, StateSound, isFinished, Sound, AllLong, NoneBroken, startedBy, Demand}
 use Rattle.vm_definitions.specs.declared.Broken.{Broken}
 use Rattle.vm_definitions.specs.declared.Broken.the-variants.{No, At, Somewhere}
@@ -34,20 +34,20 @@ use Rattle.vm_definitions.proofs.Invariant.{FrameAt, Under, Invariant}
 module _ (w : Width) (t : Tables) (x : World) where
   pub step-running : x .machine .state ≡ Running → stepBroken w t (x .machine) (x .stack) (length (x .memory)) ≡ No
       → stepOf w t x ≡ effected x (effectOf w (rows t) (t .count) x)
-  unfolding stepOf inState gated
+  unfolding stepOf inState guarded
   step-running e g =
-      ap (λ (s : State). inState s (gated x (effectOf w (rows t) (t .count) x) (stepBroken w t (x .machine) (x .stack) (length (x .memory)))) (idle x No)) e
-      ∙ ap (λ (b : Broken). gated x (effectOf w (rows t) (t .count) x) b) g
+      ap (λ (s : State). inState s (guarded x (effectOf w (rows t) (t .count) x) (stepBroken w t (x .machine) (x .stack) (length (x .memory)))) (idle x No)) e
+      ∙ ap (λ (b : Broken). guarded x (effectOf w (rows t) (t .count) x) b) g
 
   pub step-finished : (v : ℕ) → x .machine .state ≡ Finished v → stepOf w t x ≡ idle x No
   unfolding stepOf inState
   step-finished v e =
-      ap (λ (s : State). inState s (gated x (effectOf w (rows t) (t .count) x) (stepBroken w t (x .machine) (x .stack) (length (x .memory)))) (idle x No)) e
+      ap (λ (s : State). inState s (guarded x (effectOf w (rows t) (t .count) x) (stepBroken w t (x .machine) (x .stack) (length (x .memory)))) (idle x No)) e
 
   pub step-stopped : (k i : ℕ) → x .machine .state ≡ Stopped k i → stepOf w t x ≡ idle x No
   unfolding stepOf inState
   step-stopped k i e =
-      ap (λ (s : State). inState s (gated x (effectOf w (rows t) (t .count) x) (stepBroken w t (x .machine) (x .stack) (length (x .memory)))) (idle x No)) e
+      ap (λ (s : State). inState s (guarded x (effectOf w (rows t) (t .count) x) (stepBroken w t (x .machine) (x .stack) (length (x .memory)))) (idle x No)) e
 
 -- ---- good worlds: m bytes of memory
 
@@ -60,7 +60,7 @@ pub data Good (w : Width) (t : Tables) (m : ℕ) : Ledger → World → Type 0 w
 -- what is proved of single statements and starts
 pub record Parts (w : Width) (t : Tables) (bytes : List ℕ) : Type 0 where
   pub gate : (e : Entry) (es : Ledger) (x : World) → Invariant w t e es x → stepBroken w t (x .machine) (x .stack) (length (x .memory)) ≡ No
-  pub cause : (e : Entry) (es : Ledger) (x : World) → Invariant w t e es x → stopOf (effectOf w (rows t) (t .count) x) ≡ causeIn w t (e ∷ es) x
+  pub cause : (e : Entry) (es : Ledger) (x : World) → Invariant w t e es x → effectStop (effectOf w (rows t) (t .count) x) ≡ causeIn w t (e ∷ es) x
   pub listed : (es : Ledger) (x : World) → 0 < causeIn w t es x → Listed (causeIn w t es x)
   pub full : (e : Entry) (es : Ledger) (x : World) → Invariant w t e es x → stackFull w t (e ∷ es) x ≡ true → causeIn w t (e ∷ es) x ≡ 33
   pub fullOnly : (e : Entry) (es : Ledger) (x : World) → Invariant w t e es x → causeIn w t (e ∷ es) x ≡ 33 → stackFull w t (e ∷ es) x ≡ true
@@ -91,7 +91,7 @@ module _ (w : Width) (t : Tables) (e : Entry) (es : Ledger) (x : World) where
         lent = i .lent;
         few = i .few;
         top = subst (λ (n : ℕ). x .machine .top ≤ n) (sym l) (i .top);
-        held = subst (λ (n : ℕ). t .dataLength ≤ n) (sym l) (i .held);
+        data-fits = subst (λ (n : ℕ). t .dataLength ≤ n) (sym l) (i .data-fits);
         short = subst (λ (n : ℕ). n ≤ memoryLimit w) (sym l) (i .short);
       }
 
@@ -140,7 +140,7 @@ module _ (w : Width) (t : Tables) (bytes : List ℕ) (p : Parts w t bytes) where
   -- a stopped statement leaves a good world
   stop-good : (m : ℕ) (e : Entry) (es : Ledger) (x : World) (k : ℕ) → length (x .memory) ≡ m → x .machine .state ≡ Running → Invariant w t e es x
       → effectOf w (rows t) (t .count) x ≡ stops k → Good w t m (e ∷ es) (effected x (stops k) .world)
-  unfolding effected stopped runningWith causeIn firstCause meetingsOf readsOf stopOf
+  unfolding effected stopped runningWith causeIn firstCause meetingsOf readsOf effectStop
   stop-good m e es x k l s i q =
       stopsAt e es (effected x (stops k) .world) k (x .machine .next) l refl (with-state w t e es x i (Stopped k (x .machine .next)) (x .memory) refl)
       (record {
@@ -152,7 +152,7 @@ module _ (w : Width) (t : Tables) (bytes : List ℕ) (p : Parts w t bytes) where
       })
     where
       met : k ≡ causeIn w t (e ∷ es) x
-      met = sym (ap stopOf q) ∙ p .cause e es x i
+      met = sym (ap effectStop q) ∙ p .cause e es x i
 
   module _ (m : ℕ) where
     pub step-whole : (es : Ledger) (x : World) → Good w t m es x → stepOf w t x .broken ≡ No

@@ -13,7 +13,7 @@ use Rattle.base_prelude.specs.Choice.{pick, ifLt, ifEq, ifTrue}
 use Rattle.base_prelude.proofs.Choice.{true-false, ifEq-yes, ifEq-no, ifLt-yes, ifLt-no, ifTrue-yes, ifTrue-no}
 use Rattle.base_limits.specs.Width.{bitsOf, bytesOf}
 use Rattle.base_limits.specs.declared.Width.{Width}
-use Rattle.lang_words.specs.Words as vocabulary
+use Rattle.lang_words.specs.Words as wordList
 use Rattle.lang_words.specs.Words.{leastOperands}
 use Rattle.base_word.specs.Word as word
 use Rattle.base_word.specs.declared.Answer.{Answer}
@@ -269,7 +269,7 @@ leastGood : ℕ → Bool
 leastGood d = oneOf (eqb (leastOperands (33 + d)) 1) (eqb (leastOperands (33 + d)) 2)
 
 least-good : allBelow leastGood 19 ≡ true
-unfolding leastGood allBelow leastOperands vocabulary.entryOf vocabulary.firstOf vocabulary.isNumber vocabulary.words
+unfolding leastGood allBelow leastOperands wordList.entryOf wordList.firstOf wordList.isNumber wordList.words
 least-good = refl
 
 one-of : {P : Type 0} (a b : Bool) → oneOf a b ≡ true → (a ≡ true → P) → (b ≡ true → P) → P

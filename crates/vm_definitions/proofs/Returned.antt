@@ -31,10 +31,10 @@ use Rattle.vm_definitions.specs.Ledger.{Entry, Ledger, popped, countedIn
 use Rattle.vm_definitions.specs.Step.{World, Effect, stops, leaves, ended, movedTo, workedOf, handedTo, handedBy, returned, returnOf, effectOf}
 use Rattle.vm_definitions.specs.declared.Worked.{Worked}
 use Rattle.vm_definitions.specs.declared.Worked.the-variants.{Value, Stop}
-use Rattle.vm_definitions.specs.declared.Landing.{Landing}
+use Rattle.vm_definitions.specs.declared.Resumption.{Resumption}
 use Rattle.vm_definitions.proofs.Invariant.{FrameAt, Under, Invariant}
-use Rattle.vm_definitions.proofs.Chain.{LandsAt, Landed, ends, lands, invariant-sum}
-use Rattle.vm_definitions.proofs.Gate.{invariant-landed, landed-low}
+use Rattle.vm_definitions.proofs.Chain.{CallerAt, Resumed, ends, to-caller, invariant-sum}
+use Rattle.vm_definitions.proofs.Guard.{invariant-resumed, resumed-low}
 use Rattle.vm_definitions.proofs.Stores.{set-other, store-length}
 use Rattle.vm_definitions.proofs.Carried.{Agree, frame-to, under-same}
 
@@ -116,7 +116,7 @@ return-ledger f n es e = ifTrue-no _ _ (return-no-call (f n) e) ∙ ifEq-no _ _ 
 -- ---- back in a frame
 
 module _ (w : Width) (t : Tables) (good : WellFormed t) (e : Entry) (es : Ledger) (x : World) (i : Invariant w t e es x) where
-  module _ (d : Entry) (ds : Ledger) (c v u top : ℕ) (y : LandsAt w t (length (x .memory)) (x .stack) d ds c v u top) (p : popped (rows t) (e ∷ es) ≡ d ∷ ds) where
+  module _ (d : Entry) (ds : Ledger) (c v u top : ℕ) (y : CallerAt w t (length (x .memory)) (x .stack) d ds c v u top) (p : popped (rows t) (e ∷ es) ≡ d ∷ ds) where
     call : Takes (rows t c)
     call = takes (rows t c) (y .calls) (y .plain)
 
@@ -143,10 +143,10 @@ module _ (w : Width) (t : Tables) (good : WellFormed t) (e : Entry) (es : Ledger
               subst (λ (m : ℕ). Under w t m st (d .call) ds v) (sym lm)
               (under-same w t good (length (x .memory)) (x .stack) st (d .call) ds v same (y .under));
           ends = y .ends;
-          lent = omega (arith, landed-low w t good e es x i d ds c v u top y p, i .ends, i .lent);
+          lent = omega (arith, resumed-low w t good e es x i d ds c v u top y p, i .ends, i .lent);
           few = omega (arith, i .few);
           top = omega (arith, y .low);
-          held = omega (arith, i .held);
+          data-fits = omega (arith, i .data-fits);
           short = omega (arith, i .short);
         })
         refl lm
@@ -185,17 +185,17 @@ module _ (w : Width) (t : Tables) (good : WellFormed t) (e : Entry) (es : Ledger
         (λ a. back-with (x .stack) (x .memory) refl refl (λ j g. refl) (y .frame))
         (λ a. stored z (call .low) (omega (arith, call .high a, k))))
 
-  handed-by : (z : ℕ) (p : Ledger) (l : Landing) → popped (rows t) (e ∷ es) ≡ p → Landed w t (length (x .memory)) (x .stack) p l
+  handed-by : (z : ℕ) (p : Ledger) (l : Resumption) → popped (rows t) (e ∷ es) ≡ p → Resumed w t (length (x .memory)) (x .stack) p l
       → Returns w t (popped (rows t) (e ∷ es)) x (handedBy w (rows t) (t .count) x z l)
   unfolding Returns handedBy ended
   handed-by z p l o (ends top q h g) =
-      subst (λ (k : Landing). Returns w t (popped (rows t) (e ∷ es)) x (handedBy w (rows t) (t .count) x z k)) (sym q) (finishing z (o ∙ g) refl refl refl)
-  handed-by z p l o (lands d ds c v u top y q g) =
-      subst (λ (k : Landing). Returns w t (popped (rows t) (e ∷ es)) x (handedBy w (rows t) (t .count) x z k)) (sym q) (handed-to d ds c v u top y (o ∙ g) z)
+      subst (λ (k : Resumption). Returns w t (popped (rows t) (e ∷ es)) x (handedBy w (rows t) (t .count) x z k)) (sym q) (finishing z (o ∙ g) refl refl refl)
+  handed-by z p l o (to-caller d ds c v u top y q g) =
+      subst (λ (k : Resumption). Returns w t (popped (rows t) (e ∷ es)) x (handedBy w (rows t) (t .count) x z k)) (sym q) (handed-to d ds c v u top y (o ∙ g) z)
 
   returns-by : (r : Worked) → Returns w t (popped (rows t) (e ∷ es)) x (returned w (rows t) (t .count) x r)
   unfolding Returns returned
-  returns-by (Value z top) = handed-by z (popped (rows t) (e ∷ es)) _ refl (invariant-landed w t good e es x i)
+  returns-by (Value z top) = handed-by z (popped (rows t) (e ∷ es)) _ refl (invariant-resumed w t good e es x i)
   returns-by (Stop k) = tt
 
   pub returns-of : Returns w t (popped (rows t) (e ∷ es)) x (returnOf w (rows t) (t .count) x)

@@ -14,7 +14,7 @@ use Rattle.vm_definitions.specs.Step.{World, stopped, stepOf}
 use Rattle.vm_definitions.specs.Start.{startOf}
 use Rattle.vm_definitions.specs.Causes.{firstCause, argumentsRead, passesStack}
 use Rattle.vm_definitions.specs.Ledger.{Ledger, ledgerOf, sumOf, lastOf}
-use Rattle.vm_definitions.specs.Play.{Turn, start, worldAfter, eventsAfter, refusalsAfter}
+use Rattle.vm_definitions.specs.Play.{Invocation, start, worldAfter, eventsAfter, refusalsAfter}
 use Rattle.vm_definitions.specs.declared.Broken.{Broken}
 use Rattle.vm_definitions.specs.declared.Broken.the-variants.{No}
 use Rattle.vm_definitions.specs.declared.Started.the-variants.{Begun}
@@ -85,8 +85,8 @@ pub record Sound (w : Width) (t : Tables) (es : Ledger) (x : World) : Type 0 whe
   -- "The stack in use is the sum of the frame sizes of the functions open in the ledger."
   pub used : x .machine .used ≡ sumOf (rows t) es
 
--- "its length stays": every memory of some turns has n bytes
-unfoldable pub AllLong : ℕ → List Turn → Type 0
+-- "its length stays": every memory of some invocations has n bytes
+unfoldable pub AllLong : ℕ → List Invocation → Type 0
 AllLong n [] = Unit {0}
 AllLong n (c ∷ cs) = (length (c .memory) ≡ n) × AllLong n cs
 
@@ -95,14 +95,14 @@ unfoldable pub NoneBroken : List Broken → Type 0
 NoneBroken [] = Unit {0}
 NoneBroken (b ∷ bs) = (b ≡ No) × NoneBroken bs
 
--- a list of turns that begins with a start
-unfoldable pub startedBy : List ℕ → List ℕ → World → List Turn → List Turn
+-- a list of invocations that begins with a start
+unfoldable pub startedBy : List ℕ → List ℕ → World → List Invocation → List Invocation
 startedBy name args x cs = record { call = start name args; memory = x .memory } ∷ cs
 
 -- "Take [..] any list of starts, steps and runs on its tables and data, the first an accepted start": from any record, stack and
 -- memory
 unfoldable pub Demand : Width → Tables → List ℕ → Type 0
 Demand w t bytes =
-    (x : World) (name args : List ℕ) (cs : List Turn) → startOf w t bytes name args x ≡ Begun → AllLong (length (x .memory)) cs
+    (x : World) (name args : List ℕ) (cs : List Invocation) → startOf w t bytes name args x ≡ Begun → AllLong (length (x .memory)) cs
     → Sound w t (ledgerOf (rows t) [] (eventsAfter w t bytes x (startedBy name args x cs))) (worldAfter w t bytes x (startedBy name args x cs))
     × NoneBroken (refusalsAfter w t bytes x (startedBy name args x cs))

@@ -89,8 +89,8 @@ evalOf w st s m top e os =
 -- ---- tests
 
 -- "Tests are signed"; the last is `ifne`
-unfoldable pub holds : Width → ℕ → ℕ → ℕ → Bool
-holds w k x y =
+unfoldable pub testHolds : Width → ℕ → ℕ → ℕ → Bool
+testHolds w k x y =
     ifEq k kind.ifeq (eqOf (bitsOf w) x y)
     (ifEq k kind.ifge (geOf (bitsOf w) x y)
     (ifEq k kind.ifgt (gtOf (bitsOf w) x y)

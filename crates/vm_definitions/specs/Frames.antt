@@ -13,8 +13,8 @@ use Rattle.prog_tables.specs.Layout.{frameHead, callExpression}
 use Rattle.prog_tables.specs.Tests.{both, oneOf}
 use Rattle.prog_tables.specs.Statement.{Row, hasExpression}
 use Rattle.prog_tables.specs.Faults.{inFunction, sizeAt}
-use Rattle.vm_definitions.specs.declared.Landing.{Landing}
-use Rattle.vm_definitions.specs.declared.Landing.the-variants.{Ends, Lands}
+use Rattle.vm_definitions.specs.declared.Resumption.{Resumption}
+use Rattle.vm_definitions.specs.declared.Resumption.the-variants.{Ends, Caller}
 
 -- "both 4294967295 for the first"
 unfoldable pub mark : Width → ℕ
@@ -90,9 +90,9 @@ rowsLeft w f c st (suc fuel) s =
     [])
 
 -- where it comes out: "`return call` returns it too"
-unfoldable pub landingOf : Width → (ℕ → Row) → ℕ → List ℕ → ℕ → ℕ → Landing
-landingOf w f c st zero s = Ends (topAtEntry st s)
-landingOf w f c st (suc fuel) s =
+unfoldable pub resumptionOf : Width → (ℕ → Row) → ℕ → List ℕ → ℕ → ℕ → Resumption
+resumptionOf w f c st zero s = Ends (topAtEntry st s)
+resumptionOf w f c st (suc fuel) s =
     ifTrue (isFirst w st s) (Ends (topAtEntry st s))
-    (ifTrue (passesOn w f c st s) (landingOf w f c st fuel (callerFrame st s))
-    (Lands (returnsTo st s) (callerFrame st s) s (topAtEntry st s)))
+    (ifTrue (passesOn w f c st s) (resumptionOf w f c st fuel (callerFrame st s))
+    (Caller (returnsTo st s) (callerFrame st s) s (topAtEntry st s)))

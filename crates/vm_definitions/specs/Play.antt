@@ -21,12 +21,12 @@ pub data Call : Type 0 where
   run : ℕ → Call
 
 -- a call, and the memory it finds
-pub record Turn : Type 0 where
+pub record Invocation : Type 0 where
   pub call : Call
   pub memory : List ℕ
 
 -- what a call leaves: the world, the events it feeds to the ledger, its 35
-pub record Left : Type 0 where
+pub record CallResult : Type 0 where
   pub world : World
   pub events : List Event
   pub broken : Broken
@@ -48,7 +48,7 @@ startBroke (Refused k) = No
 startBroke (Unsound b) = b
 
 module _ (w : Width) (t : Tables) (bytes : List ℕ) where
-  unfoldable pub calledOn : Call → World → Left
+  unfoldable pub calledOn : Call → World → CallResult
   calledOn (start name args) x =
       record {
         world = startLeaves w t bytes name args x;
@@ -58,19 +58,19 @@ module _ (w : Width) (t : Tables) (bytes : List ℕ) where
   calledOn step x = record { world = stepOf w t x .world; events = eventsOf w t 1 x; broken = stepOf w t x .broken }
   calledOn (run b) x = record { world = runOf w t b x .world; events = eventsOf w t b x; broken = runOf w t b x .broken }
 
-  -- one turn
-  unfoldable pub turnOn : Turn → World → Left
-  turnOn c x = calledOn (c .call) (record { machine = x .machine; stack = x .stack; memory = c .memory })
+  -- one invocation
+  unfoldable pub invokedOn : Invocation → World → CallResult
+  invokedOn c x = calledOn (c .call) (record { machine = x .machine; stack = x .stack; memory = c .memory })
 
-  -- after a list of turns: the world, all events, and the 35 of each call
-  unfoldable pub worldAfter : World → List Turn → World
+  -- after a list of invocations: the world, all events, and the 35 of each call
+  unfoldable pub worldAfter : World → List Invocation → World
   worldAfter x [] = x
-  worldAfter x (c ∷ cs) = worldAfter (turnOn c x .world) cs
+  worldAfter x (c ∷ cs) = worldAfter (invokedOn c x .world) cs
 
-  unfoldable pub eventsAfter : World → List Turn → List Event
+  unfoldable pub eventsAfter : World → List Invocation → List Event
   eventsAfter x [] = []
-  eventsAfter x (c ∷ cs) = turnOn c x .events ++ eventsAfter (turnOn c x .world) cs
+  eventsAfter x (c ∷ cs) = invokedOn c x .events ++ eventsAfter (invokedOn c x .world) cs
 
-  unfoldable pub refusalsAfter : World → List Turn → List Broken
+  unfoldable pub refusalsAfter : World → List Invocation → List Broken
   refusalsAfter x [] = []
-  refusalsAfter x (c ∷ cs) = turnOn c x .broken ∷ refusalsAfter (turnOn c x .world) cs
+  refusalsAfter x (c ∷ cs) = invokedOn c x .broken ∷ refusalsAfter (invokedOn c x .world) cs

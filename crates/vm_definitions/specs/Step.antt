@@ -20,13 +20,13 @@ use Rattle.prog_tables.specs.Statement.{Row, isTest}
 use Rattle.prog_tables.specs.Label.{Tables, rows}
 use Rattle.vm_definitions.specs.Access.{byteAddress, wordAddress, byteGood, wordGood, storeFrom}
 use Rattle.vm_definitions.specs.Operands.{Words, words, bad, numberIn, readOf, readAll, onRead}
-use Rattle.vm_definitions.specs.Expressions.{evalOf, operandNo, holds}
-use Rattle.vm_definitions.specs.Frames.{mark, frameWords, returnsTo, callerFrame, topAtEntry, isReturn, isCalling, landingOf}
+use Rattle.vm_definitions.specs.Expressions.{evalOf, operandNo, testHolds}
+use Rattle.vm_definitions.specs.Frames.{mark, frameWords, returnsTo, callerFrame, topAtEntry, isReturn, isCalling, resumptionOf}
 use Rattle.vm_definitions.specs.Broken.{stepBroken}
 use Rattle.vm_definitions.specs.declared.Worked.{Worked}
 use Rattle.vm_definitions.specs.declared.Worked.the-variants.{Value, Stop}
-use Rattle.vm_definitions.specs.declared.Landing.{Landing}
-use Rattle.vm_definitions.specs.declared.Landing.the-variants.{Ends, Lands}
+use Rattle.vm_definitions.specs.declared.Resumption.{Resumption}
+use Rattle.vm_definitions.specs.declared.Resumption.the-variants.{Ends, Caller}
 use Rattle.vm_definitions.specs.declared.Broken.{Broken}
 use Rattle.vm_definitions.specs.declared.Broken.the-variants.{No, At, Somewhere}
 
@@ -42,9 +42,9 @@ pub data Effect : Type 0 where
   leaves : World → Effect
 
 -- the number of a stop, 0 without one
-unfoldable pub stopOf : Effect → ℕ
-stopOf (stops k) = k
-stopOf (leaves y) = 0
+unfoldable pub effectStop : Effect → ℕ
+effectStop (stops k) = k
+effectStop (leaves y) = 0
 
 -- ---- the record
 
@@ -110,7 +110,7 @@ module _ (w : Width) (f : ℕ → Row) (c : ℕ) (x : World) where
   testOf =
       onRead (readOf w (x .stack) frameOf (x .memory) (operandNo (rowOf .operands) 0)) (stops 32)
       (λ a. onRead (readOf w (x .stack) frameOf (x .memory) (operandNo (rowOf .operands) 1)) (stops 32)
-      (λ b. goesTo (ifTrue (holds w (rowOf .kind) a b) (suc (x .machine .next)) (rowOf .a))))
+      (λ b. goesTo (ifTrue (testHolds w (rowOf .kind) a b) (suc (x .machine .next)) (rowOf .a))))
 
   -- the row's expression
   unfoldable pub workedOf : Worked
@@ -206,13 +206,13 @@ module _ (w : Width) (f : ℕ → Row) (c : ℕ) (x : World) where
       (ifEq (r .kind) kind.call (leaves (record { machine = q; stack = x .stack; memory = x .memory }))
       (leaves (record { machine = q; stack = set (x .stack) (s + r .a) v; memory = x .memory })))
 
-  unfoldable pub handedBy : ℕ → Landing → Effect
+  unfoldable pub handedBy : ℕ → Resumption → Effect
   handedBy v (Ends top) = leaves (record { machine = ended w v top; stack = x .stack; memory = x .memory })
-  handedBy v (Lands call s used top) = handedTo v (f call) s (movedTo (x .machine) (suc call) s used top)
+  handedBy v (Caller call s used top) = handedTo v (f call) s (movedTo (x .machine) (suc call) s used top)
 
   -- "A return hands its value there in the same step"
   unfoldable pub returned : Worked → Effect
-  returned (Value v top) = handedBy v (landingOf w f c (x .stack) (suc frameOf) frameOf)
+  returned (Value v top) = handedBy v (resumptionOf w f c (x .stack) (suc frameOf) frameOf)
   returned (Stop k) = stops k
 
   -- "Bare `return` and `end function` return 0."
@@ -272,10 +272,10 @@ effected x (stops k) = record { world = record { machine = stopped (x .machine) 
 effected x (leaves y) = record { world = y; count = 1; broken = No }
 
 -- "A step refused so changes nothing."
-unfoldable pub gated : World → Effect → Broken → After
-gated x e No = effected x e
-gated x e (At i) = idle x (At i)
-gated x e Somewhere = idle x Somewhere
+unfoldable pub guarded : World → Effect → Broken → After
+guarded x e No = effected x e
+guarded x e (At i) = idle x (At i)
+guarded x e Somewhere = idle x Somewhere
 
 -- "Stepping a finished or stopped record gives it back with count 0, before any 35."
 unfoldable pub inState : State → After → After → After
@@ -286,7 +286,7 @@ inState (Stopped k i) y z = z
 unfoldable pub stepOf : Width → Tables → World → After
 stepOf w t x =
     inState (x .machine .state)
-    (gated x (effectOf w (rows t) (t .count) x) (stepBroken w t (x .machine) (x .stack) (length (x .memory)))) (idle x No)
+    (guarded x (effectOf w (rows t) (t .count) x) (stepBroken w t (x .machine) (x .stack) (length (x .memory)))) (idle x No)
 
 -- ---- a run
 

@@ -14,11 +14,11 @@ pub enum Worked {
 }
 
 // Where a return comes out: the run ends, or it goes on behind a call.
-pub enum Landing {
+pub enum Resumption {
     Ends {
         top: u32,
     },
-    Lands {
+    Caller {
         call: u32,
         frame: u32,
         used: u32,

@@ -1,4 +1,4 @@
--- The ways through the functions of the gate.
+-- The ways through the functions of the guard.
 -- Assumes nothing.
 use mathlib.Core.Path.{_≡_, refl, sym, _∙_, ap}
 use mathlib.Core.Bool.{Bool, true, false}
@@ -16,12 +16,12 @@ use Rattle.base_limits.specs.declared.Width.the-variants.{Bits32}
 use Rattle.prog_tables.specs.Tests.{both, all}
 use Rattle.prog_tables.specs.Statement.{Row, hasExpression, isCall}
 use Rattle.prog_tables.specs.Faults.{inFunction, sizeAt, rowFault}
-use Rattle.vm_definitions.specs.Frames.{mark, isFirst, isReturnCall, isReturn, isCalling, calledFrom, headGood, passesOn, leavesGood, rowsLeft, landingOf}
+use Rattle.vm_definitions.specs.Frames.{mark, isFirst, isReturnCall, isReturn, isCalling, calledFrom, headGood, passesOn, leavesGood, rowsLeft, resumptionOf}
 use Rattle.vm_definitions.specs.Broken.{lower, lowest, orElse, nextBad, frameEnds, rowsUsed, recordGood}
-use Rattle.vm_definitions.specs.declared.Landing.the-variants.{Ends, Lands}
+use Rattle.vm_definitions.specs.declared.Resumption.the-variants.{Ends, Caller}
 use Rattle.vm_definitions.specs.declared.Broken.{Broken}
 use Rattle.vm_definitions.specs.declared.Broken.the-variants.{No, At, Somewhere}
-use Rattle.vm_guard.specs.Gate.{rowBad, withinBroken, marked, callMarked, leftBroken, calleeMarked, functionMarked, shapeGood, keptGood}
+use Rattle.vm_guard.specs.Guard.{rowBad, withinBroken, marked, callMarked, leftBroken, calleeMarked, functionMarked, shapeGood, keptGood}
 
 both-no : (p : Bool) → both p false ≡ false
 both-no true = refl
@@ -148,7 +148,7 @@ pub ruleset passes-ways = (passes-first, passes-stray, passes-row)
 
 -- ---- whether the frames that a return leaves are good
 
--- so many turns from the frame `at` give the answer
+-- so many steps from the frame `at` give the answer
 pub record Leaving (f : ℕ → Row) (c m : ℕ) (st : List ℕ) (s at left : ℕ) : Type 0 where
   pub rest : leavesGood Bits32 f c m st left at ≡ leavesGood Bits32 f c m st (suc s) s
 
@@ -161,11 +161,11 @@ module _ (f : ℕ → Row) (c m : ℕ) (st : List ℕ) (s at left : ℕ) (h : Le
   leaving-out l = let e : left ≡ 0 = omega arith in rw e at (h .rest)
 
   module _ (l : 0 < left) (top : ℕ) (o : top ≡ getD st (at + 2) 0) where
-    turn : left ≡ suc (left - 1)
-    turn = omega arith
+    some-left : left ≡ suc (left - 1)
+    some-left = omega arith
 
     now : leavesGood Bits32 f c m st (suc (left - 1)) at ≡ leavesGood Bits32 f c m st (suc s) s
-    now = rw turn at (h .rest)
+    now = rw some-left at (h .rest)
 
     pub leaving-top : m < top → false ≡ leavesGood Bits32 f c m st (suc s) s
     unfolding leavesGood
@@ -182,51 +182,51 @@ module _ (f : ℕ → Row) (c m : ℕ) (st : List ℕ) (s at left : ℕ) (h : Le
         leaving-stray w = rw (← e, q, ← d, w) at now
 
         module _ (p : ℕ) (x : Bool) (w : v ≡ true) (g : p ≡ getD st at 0) (i : x ≡ isReturnCall (f p)) where
-          pub leaving-lands : x ≡ false → true ≡ leavesGood Bits32 f c m st (suc s) s
+          pub leaving-caller : x ≡ false → true ≡ leavesGood Bits32 f c m st (suc s) s
           unfolding leavesGood headGood passesOn ifTrue
-          leaving-lands j = rw (← e, q, ← d, w, ← o, le-leb _ _ k, ← g, ← i, j) at now
+          leaving-caller j = rw (← e, q, ← d, w, ← o, le-leb _ _ k, ← g, ← i, j) at now
 
           pub leaving-on : (u : ℕ) → x ≡ true → u ≡ getD st (at + 1) 0 → Leaving f c m st s u (left - 1)
           unfolding leavesGood headGood passesOn ifTrue
           leaving-on u j y = record { rest = rw (← e, q, ← d, w, ← o, le-leb _ _ k, ← g, ← i, j, ← y) at now }
 
-pub ruleset leaving = (leaving-start, leaving-out, leaving-top, leaving-first, leaving-stray, leaving-lands, leaving-on)
+pub ruleset leaving = (leaving-start, leaving-out, leaving-top, leaving-first, leaving-stray, leaving-caller, leaving-on)
 
 -- ---- where a return comes out
 
--- so many turns from the frame `at` give the answer
-pub record Landing-to (f : ℕ → Row) (c : ℕ) (st : List ℕ) (s at left : ℕ) : Type 0 where
-  pub rest : landingOf Bits32 f c st left at ≡ landingOf Bits32 f c st (suc s) s
+-- so many steps from the frame `at` give the answer
+pub record Resumption-to (f : ℕ → Row) (c : ℕ) (st : List ℕ) (s at left : ℕ) : Type 0 where
+  pub rest : resumptionOf Bits32 f c st left at ≡ resumptionOf Bits32 f c st (suc s) s
 
-pub landing-start : (f : ℕ → Row) (c : ℕ) (st : List ℕ) (s : ℕ) → Landing-to f c st s s (s + 1)
-landing-start f c st s = record { rest = rw add-one }
+pub resumption-start : (f : ℕ → Row) (c : ℕ) (st : List ℕ) (s : ℕ) → Resumption-to f c st s s (s + 1)
+resumption-start f c st s = record { rest = rw add-one }
 
-module _ (f : ℕ → Row) (c : ℕ) (st : List ℕ) (s at left top : ℕ) (h : Landing-to f c st s at left) (o : top ≡ getD st (at + 2) 0) where
-  pub landing-out : left ≤ 0 → Ends top ≡ landingOf Bits32 f c st (suc s) s
-  unfolding landingOf
-  landing-out l = let e : left ≡ 0 = omega arith in rw (e, ← o) at (h .rest)
+module _ (f : ℕ → Row) (c : ℕ) (st : List ℕ) (s at left top : ℕ) (h : Resumption-to f c st s at left) (o : top ≡ getD st (at + 2) 0) where
+  pub resumption-out : left ≤ 0 → Ends top ≡ resumptionOf Bits32 f c st (suc s) s
+  unfolding resumptionOf
+  resumption-out l = let e : left ≡ 0 = omega arith in rw (e, ← o) at (h .rest)
 
   module _ (l : 0 < left) (b : Bool) (e : b ≡ isFirst Bits32 st at) where
-    landing-turn : left ≡ suc (left - 1)
-    landing-turn = omega arith
+    resumption-left : left ≡ suc (left - 1)
+    resumption-left = omega arith
 
-    here : landingOf Bits32 f c st (suc (left - 1)) at ≡ landingOf Bits32 f c st (suc s) s
-    here = rw landing-turn at (h .rest)
+    here : resumptionOf Bits32 f c st (suc (left - 1)) at ≡ resumptionOf Bits32 f c st (suc s) s
+    here = rw resumption-left at (h .rest)
 
-    pub landing-first : b ≡ true → Ends top ≡ landingOf Bits32 f c st (suc s) s
-    unfolding landingOf ifTrue
-    landing-first q = rw (← e, q, ← o) at here
+    pub resumption-first : b ≡ true → Ends top ≡ resumptionOf Bits32 f c st (suc s) s
+    unfolding resumptionOf ifTrue
+    resumption-first q = rw (← e, q, ← o) at here
 
     module _ (v : Bool) (q : b ≡ false) (d : v ≡ passesOn Bits32 f c st at) where
-      pub landing-on : (u : ℕ) → v ≡ true → u ≡ getD st (at + 1) 0 → Landing-to f c st s u (left - 1)
-      unfolding landingOf ifTrue
-      landing-on u w y = record { rest = rw (← e, q, ← d, w, ← y) at here }
+      pub resumption-on : (u : ℕ) → v ≡ true → u ≡ getD st (at + 1) 0 → Resumption-to f c st s u (left - 1)
+      unfolding resumptionOf ifTrue
+      resumption-on u w y = record { rest = rw (← e, q, ← d, w, ← y) at here }
 
-      pub landing-lands : (p u : ℕ) → v ≡ false → p ≡ getD st at 0 → u ≡ getD st (at + 1) 0 → Lands p u at top ≡ landingOf Bits32 f c st (suc s) s
-      unfolding landingOf ifTrue
-      landing-lands p u w g y = rw (← e, q, ← d, w, ← g, ← y, ← o) at here
+      pub resumption-caller : (p u : ℕ) → v ≡ false → p ≡ getD st at 0 → u ≡ getD st (at + 1) 0 → Caller p u at top ≡ resumptionOf Bits32 f c st (suc s) s
+      unfolding resumptionOf ifTrue
+      resumption-caller p u w g y = rw (← e, q, ← d, w, ← g, ← y, ← o) at here
 
-pub ruleset landings = (landing-start, landing-out, landing-first, landing-on, landing-lands)
+pub ruleset resumptions = (resumption-start, resumption-out, resumption-first, resumption-on, resumption-caller)
 
 -- ---- bad rows
 
@@ -366,7 +366,7 @@ joined-none p [] = refl
 joined-none p (i ∷ is) =
     either-true (λ (x : Broken). joined No x ≡ x) (p i) (lower i (lowest p is)) (lowest p is) (λ e. joined-first i (lowest p is)) (λ e. joined-none p is)
 
--- what is found so far, with what so many turns from the frame `at` find, is the answer
+-- what is found so far, with what so many steps from the frame `at` find, is the answer
 pub record Finding (f : ℕ → Row) (c d next : ℕ) (st : List ℕ) (s : ℕ) (b : Broken) (at left : ℕ) : Type 0 where
   pub rest : joined b (lowest (rowBad f c d next) (rowsLeft Bits32 f c st left at)) ≡ lowest (rowBad f c d next) (rowsLeft Bits32 f c st (suc s) s)
 
@@ -379,11 +379,11 @@ module _ (f : ℕ → Row) (c d next : ℕ) (st : List ℕ) (s : ℕ) (b : Broke
   finding-out l = let e : left ≡ 0 = omega arith in rw e at (h .rest)
 
   module _ (l : 0 < left) (v : Bool) (e : v ≡ isFirst Bits32 st at) where
-    finding-turn : left ≡ suc (left - 1)
-    finding-turn = omega arith
+    finding-left : left ≡ suc (left - 1)
+    finding-left = omega arith
 
     found : joined b (lowest (rowBad f c d next) (rowsLeft Bits32 f c st (suc (left - 1)) at)) ≡ lowest (rowBad f c d next) (rowsLeft Bits32 f c st (suc s) s)
-    found = rw finding-turn at (h .rest)
+    found = rw finding-left at (h .rest)
 
     pub finding-first : v ≡ true → b ≡ lowest (rowBad f c d next) (rowsLeft Bits32 f c st (suc s) s)
     unfolding rowsLeft lowest joined ifTrue
@@ -409,15 +409,15 @@ module _ (f : ℕ → Row) (c d next : ℕ) (st : List ℕ) (s : ℕ) (b : Broke
             ∙ ap (λ (z : List ℕ). joined b (lowest (rowBad f c d next) z)) (sym k)
             ∙ found
 
-        pub finding-lands : y ≡ false → a ≡ lowest (rowBad f c d next) (rowsLeft Bits32 f c st (suc s) s)
+        pub finding-caller : y ≡ false → a ≡ lowest (rowBad f c d next) (rowsLeft Bits32 f c st (suc s) s)
         unfolding rowsLeft lowest joined ifTrue
-        finding-lands j = on [] (rw (← e, q, ← o, w, ← g, ← i, j))
+        finding-caller j = on [] (rw (← e, q, ← o, w, ← g, ← i, j))
 
         pub finding-on : (u : ℕ) → y ≡ true → u ≡ getD st (at + 1) 0 → Finding f c d next st s a u (left - 1)
         unfolding rowsLeft ifTrue
         finding-on u j z = record { rest = on (rowsLeft Bits32 f c st (left - 1) u) (rw (← e, q, ← o, w, ← g, ← i, j, ← z)) }
 
-pub ruleset finding = (finding-start, finding-out, finding-first, finding-stray, finding-lands, finding-on)
+pub ruleset finding = (finding-start, finding-out, finding-first, finding-stray, finding-caller, finding-on)
 
 -- ---- the rows that a step uses
 

@@ -1,3 +1,3 @@
 pub mod Cases
 pub mod Passed
-pub mod Framed
+pub mod FrameInUse

@@ -1,4 +1,4 @@
--- What a step that is not refused knows; and a good way out lands behind a call of the table, below the frame left.
+-- What a step that is not refused knows; and a good return resumes behind a call of the table, below the frame left.
 -- Assumes nothing.
 use mathlib.Core.Path.{_≡_, refl, sym}
 use mathlib.Core.Bool.{Bool, true, false, not}
@@ -19,12 +19,12 @@ use Rattle.prog_tables.specs.Label.{Tables, rows}
 use Rattle.prog_tables.specs.Nesting.{isListed}
 use Rattle.prog_tables.specs.Faults.{expressionListed, inFunction, sizeAt, kindFault, targetFault, calleeFault, rowFault, countFault}
 use Rattle.prog_tables.proofs.Each.{both-left, both-right, given-then, all-at}
-use Rattle.vm_definitions.specs.Frames.{returnsTo, callerFrame, topAtEntry, isFirst, isReturn, isCalling, calledFrom, headGood, passesOn, leavesGood, landingOf}
+use Rattle.vm_definitions.specs.Frames.{returnsTo, callerFrame, topAtEntry, isFirst, isReturn, isCalling, calledFrom, headGood, passesOn, leavesGood, resumptionOf}
 use Rattle.vm_definitions.specs.Broken.{lower, lowest, orElse, frameEnds, rowsUsed, recordGood, stepBroken}
-use Rattle.vm_definitions.specs.declared.Landing.the-variants.{Ends, Lands}
+use Rattle.vm_definitions.specs.declared.Resumption.the-variants.{Ends, Caller}
 use Rattle.vm_definitions.specs.declared.Broken.{Broken}
 use Rattle.vm_definitions.specs.declared.Broken.the-variants.{No, At, Somewhere}
-use Rattle.vm_guard.specs.Gate.{rowBad, withinBroken}
+use Rattle.vm_guard.specs.Guard.{rowBad, withinBroken}
 use Rattle.vm_guard.specs.Passed.{Passed}
 use Rattle.prog_tables.proofs.Each.{one-no, one-rest}
 
@@ -171,8 +171,8 @@ module _ (w : Width) (f : ℕ → Row) (c m : ℕ) (st : List ℕ) where
     low : i < c
     below : u ≤ s
 
-  out : (fuel s i v u top : ℕ) → leavesGood w f c m st fuel s ≡ true → landingOf w f c st fuel s ≡ Lands i v u top → Out s i u
-  unfolding leavesGood landingOf ifTrue
+  out : (fuel s i v u top : ℕ) → leavesGood w f c m st fuel s ≡ true → resumptionOf w f c st fuel s ≡ Caller i v u top → Out s i u
+  unfolding leavesGood resumptionOf ifTrue
   out zero s i v u top e d = true-false (sym e)
   out (suc fuel) s i v u top e d =
       at (isFirst w st s) (passesOn w f c st s) refl (both-right (leb (topAtEntry st s) m) _ (both-right (headGood w f c st s) _ e)) d
@@ -181,7 +181,7 @@ module _ (w : Width) (f : ℕ → Row) (c m : ℕ) (st : List ℕ) where
       called : isFirst w st s ≡ false → calledFrom f c st s ≡ true
       called q = head-called s (both-left (headGood w f c st s) _ e) q
 
-      on : calledFrom f c st s ≡ true → Lands (returnsTo st s) (callerFrame st s) s (topAtEntry st s) ≡ Lands i v u top → Out s i u
+      on : calledFrom f c st s ≡ true → Caller (returnsTo st s) (callerFrame st s) s (topAtEntry st s) ≡ Caller i v u top → Out s i u
       on q g =
           let a : returnsTo st s ≡ i = cc in
           let b : s ≡ u = cc in
@@ -192,17 +192,17 @@ module _ (w : Width) (f : ℕ → Row) (c m : ℕ) (st : List ℕ) where
 
       at : (p q : Bool) → isFirst w st s ≡ p → ifTrue q (leavesGood w f c m st fuel (callerFrame st s)) true ≡ true
           → ifTrue p (Ends (topAtEntry st s))
-          (ifTrue q (landingOf w f c st fuel (callerFrame st s)) (Lands (returnsTo st s) (callerFrame st s) s (topAtEntry st s))) ≡ Lands i v u top
-          → (leavesGood w f c m st fuel (callerFrame st s) ≡ true → landingOf w f c st fuel (callerFrame st s) ≡ Lands i v u top → Out (callerFrame st s) i u)
+          (ifTrue q (resumptionOf w f c st fuel (callerFrame st s)) (Caller (returnsTo st s) (callerFrame st s) s (topAtEntry st s))) ≡ Caller i v u top
+          → (leavesGood w f c m st fuel (callerFrame st s) ≡ true → resumptionOf w f c st fuel (callerFrame st s) ≡ Caller i v u top → Out (callerFrame st s) i u)
           → Out s i u
       at true q k a b go = absurd (let z : _≡_ {A = ℕ} 0 1 = cc in omega arith)
       at false true k a b go = further (called k) (go a b)
       at false false k a b go = on (called k) b
 
-  -- a good way out lands behind a call of the table
-  pub lands-low : (fuel s i v u top : ℕ) → leavesGood w f c m st fuel s ≡ true → landingOf w f c st fuel s ≡ Lands i v u top → i < c
-  lands-low fuel s i v u top e d = out fuel s i v u top e d .low
+  -- a good return resumes behind a call of the table
+  pub caller-low : (fuel s i v u top : ℕ) → leavesGood w f c m st fuel s ≡ true → resumptionOf w f c st fuel s ≡ Caller i v u top → i < c
+  caller-low fuel s i v u top e d = out fuel s i v u top e d .low
 
   -- and at or below the frame left
-  pub lands-below : (fuel s i v u top : ℕ) → leavesGood w f c m st fuel s ≡ true → landingOf w f c st fuel s ≡ Lands i v u top → u ≤ s
-  lands-below fuel s i v u top e d = out fuel s i v u top e d .below
+  pub caller-below : (fuel s i v u top : ℕ) → leavesGood w f c m st fuel s ≡ true → resumptionOf w f c st fuel s ≡ Caller i v u top → u ≤ s
+  caller-below fuel s i v u top e d = out fuel s i v u top e d .below

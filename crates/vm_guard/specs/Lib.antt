@@ -1,3 +1,3 @@
-pub mod Framed
-pub mod Gate
+pub mod FrameInUse
+pub mod Guard
 pub mod Passed

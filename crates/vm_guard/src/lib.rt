@@ -3,7 +3,7 @@ use base_limits::Machine;
 use lang_kinds::Kind;
 use prog_tables::ExpressionKind;
 use vm_definitions::Broken;
-use vm_definitions::Landing;
+use vm_definitions::Resumption;
 ghost use mathlib.Core.Path.{_≡_};
 ghost use Prim.Native.Nat.{suc, _+_, _*_, _≤_, min};
 ghost use lib.Dec.{eqb};
@@ -11,11 +11,11 @@ ghost use lib.ListN.{length, getD};
 ghost use Rattle.base_limits.specs.declared.Width.the-variants.{Bits32};
 ghost use Rattle.prog_tables.specs.Statement.{rowAt};
 ghost use Rattle.prog_tables.specs.Faults.{sizeAt};
-ghost use Rattle.vm_definitions.specs.Frames.{isFirst, isReturnCall, isReturn, isCalling, calledFrom, headGood, passesOn, leavesGood, rowsLeft, landingOf, returnsTo, callerFrame, topAtEntry};
-ghost use Rattle.vm_definitions.specs.Broken.{lower, lowest, nextBad, frameEnds, rowsUsed, recordGood};
 ghost use Rattle.prog_tables.specs.Layout.{statementRow};
-ghost use Rattle.vm_guard.specs.Framed.{framed, heldSize};
-ghost use Rattle.vm_guard.specs.Gate.{rowBad, withinBroken, marked, callMarked, leftBroken, calleeMarked, functionMarked, shapeGood, keptGood};
+ghost use Rattle.vm_definitions.specs.Frames.{isFirst, isReturnCall, isReturn, isCalling, calledFrom, headGood, passesOn, leavesGood, rowsLeft, resumptionOf, returnsTo, callerFrame, topAtEntry};
+ghost use Rattle.vm_definitions.specs.Broken.{lower, lowest, nextBad, frameEnds, rowsUsed, recordGood};
+ghost use Rattle.vm_guard.specs.FrameInUse.{frameGood, goodFrameSize};
+ghost use Rattle.vm_guard.specs.Guard.{rowBad, withinBroken, marked, callMarked, leftBroken, calleeMarked, functionMarked, shapeGood, keptGood};
 
 // Whether row n is `return call`.
 pub fn is_return_call(t: &[u32], n: u32) -> bool
@@ -172,8 +172,8 @@ fn leaves_good(t: &[u32], c: u32, m: usize, st: &[u32], s: u32) -> bool
 }
 
 // Where a return from the frame at s comes out.
-pub fn landing(t: &[u32], c: u32, st: &[u32], s: u32) -> Landing
-    ensures { λ r. ⌜ r ≡ landingOf Bits32 (rowAt (now (t .entry))) c (now (st .entry)) (suc s) s ⌝ }
+pub fn resumption(t: &[u32], c: u32, st: &[u32], s: u32) -> Resumption
+    ensures { λ r. ⌜ r ≡ resumptionOf Bits32 (rowAt (now (t .entry))) c (now (st .entry)) (suc s) s ⌝ }
 {
     let mut at = s;
     let mut left = s as u64 + 1;
@@ -181,20 +181,20 @@ pub fn landing(t: &[u32], c: u32, st: &[u32], s: u32) -> Landing
         left -= 1;
         let top = top_at(st, at);
         if is_first(st, at) {
-            return Landing::Ends { top: top };
+            return Resumption::Ends { top: top };
         }
         if passes_on(t, c, st, at) {
             at = caller_at(st, at);
             continue;
         }
-        return Landing::Lands {
+        return Resumption::Caller {
             call: place_at(st, at),
             frame: caller_at(st, at),
             used: at,
             top: top,
         };
     }
-    Landing::Ends {
+    Resumption::Ends {
         top: top_at(st, at),
     }
 }
@@ -433,8 +433,8 @@ pub fn find_broken(t: &[u32], c: u32, d: u32, r: Machine, st: &[u32], m: usize) 
 // ---- the frame in use
 
 // Whether the record's numbers, what is lent and the head of the frame are good, the frame having z words.
-fn is_framed(t: &[u32], c: u32, m: usize, r: Machine, z: u32, st: &[u32]) -> bool
-    ensures { λ x. ⌜ x ≡ framed (rowAt (now (t .entry))) c m r z (now (st .entry)) ⌝ }
+fn is_frame_good(t: &[u32], c: u32, m: usize, r: Machine, z: u32, st: &[u32]) -> bool
+    ensures { λ x. ⌜ x ≡ frameGood (rowAt (now (t .entry))) c m r z (now (st .entry)) ⌝ }
 {
     let top = r.top;
     if m < top as usize {
@@ -459,16 +459,16 @@ fn is_framed(t: &[u32], c: u32, m: usize, r: Machine, z: u32, st: &[u32]) -> boo
 }
 
 // The words of the frame in use, where the record stands in a good one; else 0. Statements inside it need no test of the record.
-pub fn held_size(t: &[u32], c: u32, m: usize, r: Machine, st: &[u32]) -> u32
+pub fn good_frame_size(t: &[u32], c: u32, m: usize, r: Machine, st: &[u32]) -> u32
     requires { ⌜ c * statementRow ≤ length (now t) ⌝ }
-    ensures { λ x. ⌜ x ≡ heldSize (rowAt (now (t .entry))) c m r (now (st .entry)) ⌝ }
+    ensures { λ x. ⌜ x ≡ goodFrameSize (rowAt (now (t .entry))) c m r (now (st .entry)) ⌝ }
 {
     let next = r.next;
     if c <= next {
         return 0;
     }
     let z = vm_quick_operands::size_of(t, c, prog_tables::func_at(t, next));
-    if is_framed(t, c, m, r, z, st) {
+    if is_frame_good(t, c, m, r, z, st) {
         return z;
     }
     0

@@ -21,7 +21,7 @@ use Rattle.prog_tables.specs.declared.Operand.the-variants.{Constant, Local, Ad
 use Rattle.prog_tables.proofs.Each.{both-right}
 use Rattle.vm_definitions.specs.Access.{byteAddress, wordAddress, byteGood, wordGood, wordFrom, loadOf}
 use Rattle.vm_definitions.specs.Operands.{isAt, numberIn, fetchOf, readOf, onRead}
-use Rattle.vm_definitions.specs.Expressions.{roundUp, reserved, answered, fetched, byteOf, applied, evalOf, holds}
+use Rattle.vm_definitions.specs.Expressions.{roundUp, reserved, answered, fetched, byteOf, applied, evalOf, testHolds}
 use Rattle.vm_definitions.specs.declared.Read.{Read}
 use Rattle.vm_definitions.specs.declared.Read.the-variants.{Got, Bad}
 use Rattle.vm_definitions.specs.declared.Worked.{Worked}
@@ -286,29 +286,29 @@ pub ruleset eval-ways = (eval-plain, eval-bad, eval-one, eval-second, eval-two)
 -- ---- tests
 
 module _ (k x y : ℕ) (b : Bool) where
-  pub holds-14 : k ≡ 14 → b ≡ eqOf 32 x y → b ≡ holds Bits32 k x y
-  unfolding holds ifEq
+  pub holds-14 : k ≡ 14 → b ≡ eqOf 32 x y → b ≡ testHolds Bits32 k x y
+  unfolding testHolds ifEq
   holds-14 h d = rw h d
 
-  pub holds-15 : k ≡ 15 → b ≡ geOf 32 x y → b ≡ holds Bits32 k x y
-  unfolding holds ifEq
+  pub holds-15 : k ≡ 15 → b ≡ geOf 32 x y → b ≡ testHolds Bits32 k x y
+  unfolding testHolds ifEq
   holds-15 h d = rw h d
 
-  pub holds-16 : k ≡ 16 → b ≡ gtOf 32 x y → b ≡ holds Bits32 k x y
-  unfolding holds ifEq
+  pub holds-16 : k ≡ 16 → b ≡ gtOf 32 x y → b ≡ testHolds Bits32 k x y
+  unfolding testHolds ifEq
   holds-16 h d = rw h d
 
-  pub holds-17 : k ≡ 17 → b ≡ leOf 32 x y → b ≡ holds Bits32 k x y
-  unfolding holds ifEq
+  pub holds-17 : k ≡ 17 → b ≡ leOf 32 x y → b ≡ testHolds Bits32 k x y
+  unfolding testHolds ifEq
   holds-17 h d = rw h d
 
-  pub holds-18 : k ≡ 18 → b ≡ ltOf 32 x y → b ≡ holds Bits32 k x y
-  unfolding holds ifEq
+  pub holds-18 : k ≡ 18 → b ≡ ltOf 32 x y → b ≡ testHolds Bits32 k x y
+  unfolding testHolds ifEq
   holds-18 h d = rw h d
 
   pub holds-19 : (k ≡ 14 → ⊥) → (k ≡ 15 → ⊥) → (k ≡ 16 → ⊥) → (k ≡ 17 → ⊥) → (k ≡ 18 → ⊥)
-      → b ≡ neOf 32 x y → b ≡ holds Bits32 k x y
-  unfolding holds ifEq
+      → b ≡ neOf 32 x y → b ≡ testHolds Bits32 k x y
+  unfolding testHolds ifEq
   holds-19 p14 p15 p16 p17 p18 d = rw (ne-eqb k 14 p14, ne-eqb k 15 p15, ne-eqb k 16 p16, ne-eqb k 17 p17, ne-eqb k 18 p18) d
 
 pub ruleset holds-ways = (holds-14, holds-15, holds-16, holds-17, holds-18, holds-19)

@@ -15,7 +15,7 @@ ghost use Rattle.vm_definitions.specs.declared.Worked.the-variants.{Value};
 ghost use Rattle.vm_definitions.specs.Access.{byteAddress, wordAddress, byteGood, wordGood, loadOf};
 ghost use Rattle.vm_definitions.specs.Operands.{numberIn, fetchOf, readOf};
 ghost use Rattle.lang_words.specs.Words.{leastOperands};
-ghost use Rattle.vm_definitions.specs.Expressions.{reserved, answered, fetched, byteOf, applied, evalOf, holds};
+ghost use Rattle.vm_definitions.specs.Expressions.{reserved, answered, fetched, byteOf, applied, evalOf, testHolds};
 
 // The address of a byte: base and offset.
 pub fn byte_address(b: u32, o: u32) -> u32
@@ -220,7 +220,7 @@ pub fn eval(e: u32, a: Operand, b: Operand, st: &[u32], s: u32, m: &[u8], top: u
 
 // Whether a test holds.
 pub fn test(k: u32, x: u32, y: u32) -> bool
-    ensures { λ r. ⌜ r ≡ holds Bits32 k x y ⌝ }
+    ensures { λ r. ⌜ r ≡ testHolds Bits32 k x y ⌝ }
 {
     match k {
         Kind::IFEQ => base_word::equal(x, y),

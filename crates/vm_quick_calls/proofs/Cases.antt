@@ -18,9 +18,9 @@ use Rattle.vm_definitions.specs.declared.Worked.the-variants.{Value, Stop}
 use Rattle.vm_calls.specs.Outcomes.{wordsIn}
 use Rattle.vm_quick_operands.specs.Fast.{goodRead, goodWork, sizeOf}
 use Rattle.prog_tables.proofs.Ranges.{one-more}
-use Rattle.vm_quick_calls.specs.declared.Turn.{Turn}
-use Rattle.vm_quick_calls.specs.declared.Turn.the-variants.{To, Stays}
-use Rattle.vm_quick_calls.specs.Turns.{Turned, turned, goodFrom, calleeSize, callsLocal, callsAny, callGood, goodAll, pushed, enteredBy, entered, callTurn, tailTurn, resultOf, landed, handTo, handTurn, returnBy, returnTurn, turnOf}
+use Rattle.vm_quick_calls.specs.declared.Transfer.{Transfer}
+use Rattle.vm_quick_calls.specs.declared.Transfer.the-variants.{To, Stays}
+use Rattle.vm_quick_calls.specs.Transfers.{Transferred, transferred, goodFrom, calleeSize, callsLocal, callsAny, callGood, goodAll, pushed, enteredBy, entered, callTransfer, tailTransfer, resultOf, resumed, handTo, handTransfer, returnBy, returnTransfer, transferOf}
 
 -- ---- operands
 
@@ -160,23 +160,23 @@ pub ruleset call-tests = (call-many, call-none, call-other, call-local)
 -- ---- calls
 
 pub push-built : (st st′ : List ℕ) (at call below top p z : ℕ) (vs : List ℕ) → st′ ≡ storeFrom st at (frameWords call below top vs z)
-    → turned (To (p + 1) at (at + z) top) st′ ≡ pushed st at call below top p z vs
+    → transferred (To (p + 1) at (at + z) top) st′ ≡ pushed st at call below top p z vs
 unfolding pushed
 push-built st st′ at call below top p z vs e =
-    ap (λ (i : ℕ). turned (To i at (at + z) top) st′) (one-more p) ∙ ap (λ (y : List ℕ). turned (To (suc p) at (at + z) top) y) e
+    ap (λ (i : ℕ). transferred (To i at (at + z) top) st′) (one-more p) ∙ ap (λ (y : List ℕ). transferred (To (suc p) at (at + z) top) y) e
 
 module _ (t : List ℕ) (d size : ℕ) (st : List ℕ) (s : ℕ) (m : List ℕ) (n at call below top p k z : ℕ) where
-  pub enter-full : length st < at + z → turned Stays st ≡ entered t d size st s m n at call below top p k z
+  pub enter-full : length st < at + z → transferred Stays st ≡ entered t d size st s m n at call below top p k z
   unfolding entered ifLt
   enter-full l = rw (lt-ltb (length st) (at + z) l)
 
   module _ (b : Bool) (ws : List ℕ) (l : at + z ≤ length st) (e : wordsIn b ws k ≡ goodAll size d st s m (take k (slots t (n * 27)))) where
-    pub enter-bad : b ≡ false → turned Stays st ≡ entered t d size st s m n at call below top p k z
+    pub enter-bad : b ≡ false → transferred Stays st ≡ entered t d size st s m n at call below top p k z
     unfolding entered enteredBy ifLt ifTrue
     enter-bad h = rw (le-ltb (length st) (at + z) l, ← e, h)
 
-    pub enter-pushed : (r : Turn) (st′ : List ℕ) → b ≡ true → turned r st′ ≡ pushed st at call below top p z (take (k - 0) ws)
-        → turned r st′ ≡ entered t d size st s m n at call below top p k z
+    pub enter-pushed : (r : Transfer) (st′ : List ℕ) → b ≡ true → transferred r st′ ≡ pushed st at call below top p z (take (k - 0) ws)
+        → transferred r st′ ≡ entered t d size st s m n at call below top p k z
     unfolding entered enteredBy ifLt ifTrue
     enter-pushed r st′ h q =
         let y : k - 0 ≡ k = omega arith in
@@ -185,35 +185,35 @@ module _ (t : List ℕ) (d size : ℕ) (st : List ℕ) (s : ℕ) (m : List ℕ) 
 pub ruleset entering = (enter-full, enter-bad, enter-pushed)
 
 module _ (t : List ℕ) (c d size : ℕ) (st : List ℕ) (s : ℕ) (m : List ℕ) (n at call below top k : ℕ) (e : k ≡ rowAt t n .count) where
-  pub turn-many : 8 < k → turned Stays st ≡ callTurn t c d size st s m n at call below top
-  unfolding callTurn ifLt
-  turn-many l = rw (← e, lt-ltb 8 k l)
+  pub transfer-many : 8 < k → transferred Stays st ≡ callTransfer t c d size st s m n at call below top
+  unfolding callTransfer ifLt
+  transfer-many l = rw (← e, lt-ltb 8 k l)
 
   module _ (p : ℕ) (l : k ≤ 8) (g : p ≡ rowAt t n .callee) where
-    pub turn-past : c ≤ p → turned Stays st ≡ callTurn t c d size st s m n at call below top
-    unfolding callTurn ifLt
-    turn-past h = rw (← e, le-ltb 8 k l, ← g, le-ltb p c h)
+    pub transfer-past : c ≤ p → transferred Stays st ≡ callTransfer t c d size st s m n at call below top
+    unfolding callTransfer ifLt
+    transfer-past h = rw (← e, le-ltb 8 k l, ← g, le-ltb p c h)
 
     module _ (z : ℕ) (h : p < c) (i : z ≡ calleeSize (rowAt t) c p k) where
-      pub turn-none : z ≡ 0 → turned Stays st ≡ callTurn t c d size st s m n at call below top
-      unfolding callTurn ifLt ifEq
-      turn-none q = rw (← e, le-ltb 8 k l, ← g, lt-ltb p c h, ← i, q)
+      pub transfer-none : z ≡ 0 → transferred Stays st ≡ callTransfer t c d size st s m n at call below top
+      unfolding callTransfer ifLt ifEq
+      transfer-none q = rw (← e, le-ltb 8 k l, ← g, lt-ltb p c h, ← i, q)
 
-      pub turn-enters : (r : Turn) (st′ : List ℕ) → (z ≡ 0 → ⊥) → turned r st′ ≡ entered t d size st s m n at call below top p k z
-          → turned r st′ ≡ callTurn t c d size st s m n at call below top
-      unfolding callTurn ifLt ifEq
-      turn-enters r st′ q o = rw (← e, le-ltb 8 k l, ← g, lt-ltb p c h, ← i, ne-eqb z 0 q) o
+      pub transfer-enters : (r : Transfer) (st′ : List ℕ) → (z ≡ 0 → ⊥) → transferred r st′ ≡ entered t d size st s m n at call below top p k z
+          → transferred r st′ ≡ callTransfer t c d size st s m n at call below top
+      unfolding callTransfer ifLt ifEq
+      transfer-enters r st′ q o = rw (← e, le-ltb 8 k l, ← g, lt-ltb p c h, ← i, ne-eqb z 0 q) o
 
-pub ruleset calling = (turn-many, turn-past, turn-none, turn-enters)
+pub ruleset calling = (transfer-many, transfer-past, transfer-none, transfer-enters)
 
 module _ (t : List ℕ) (c d size : ℕ) (st : List ℕ) (s : ℕ) (m : List ℕ) (n top : ℕ) (h : top ≡ getD st (s + 2) 0) where
-  pub tail-high : length m < top → turned Stays st ≡ tailTurn t c d size st s m n
-  unfolding tailTurn ifLt
+  pub tail-high : length m < top → transferred Stays st ≡ tailTransfer t c d size st s m n
+  unfolding tailTransfer ifLt
   tail-high l = rw (← h, lt-ltb (length m) top l)
 
-  pub tail-calls : (call below : ℕ) (r : Turn) (st′ : List ℕ) → call ≡ getD st s 0 → below ≡ getD st (s + 1) 0 → top ≤ length m
-      → turned r st′ ≡ callTurn t c d size st s m n s call below top → turned r st′ ≡ tailTurn t c d size st s m n
-  unfolding tailTurn ifLt
+  pub tail-calls : (call below : ℕ) (r : Transfer) (st′ : List ℕ) → call ≡ getD st s 0 → below ≡ getD st (s + 1) 0 → top ≤ length m
+      → transferred r st′ ≡ callTransfer t c d size st s m n s call below top → transferred r st′ ≡ tailTransfer t c d size st s m n
+  unfolding tailTransfer ifLt
   tail-calls call below r st′ e g l q = rw (← h, le-ltb (length m) top l, ← e, ← g) q
 
 pub ruleset tailing = (tail-high, tail-calls)
@@ -240,85 +240,85 @@ module _ (t : List ℕ) (d size : ℕ) (st : List ℕ) (s : ℕ) (m : List ℕ) 
 pub ruleset results = (result-end, result-bare, result-work, result-none)
 
 module _ (t : List ℕ) (st : List ℕ) (s v p caller back k : ℕ) (e : k ≡ rowAt t p .kind) where
-  pub land-drops : k ≡ 11 → turned (To (p + 1) caller s back) st ≡ landed (rowAt t) st s v p caller back
-  unfolding landed ifEq
-  land-drops h = ap (λ (i : ℕ). turned (To i caller s back) st) (one-more p) ∙ rw (← e, h)
+  pub resume-drops : k ≡ 11 → transferred (To (p + 1) caller s back) st ≡ resumed (rowAt t) st s v p caller back
+  unfolding resumed ifEq
+  resume-drops h = ap (λ (i : ℕ). transferred (To i caller s back) st) (one-more p) ∙ rw (← e, h)
 
-  pub land-stores : (a : ℕ) (st′ : List ℕ) → (k ≡ 11 → ⊥) → a ≡ rowAt t p .a → st′ ≡ set st (caller + a) v → turned (To (p + 1) caller s back) st′ ≡ landed (rowAt t) st s v p caller back
-  unfolding landed ifEq
-  land-stores a st′ h q o = ap (λ (i : ℕ). turned (To i caller s back) st′) (one-more p) ∙ rw (← e, ne-eqb k 11 h, ← q) (ap (λ (y : List ℕ). turned (To (suc p) caller s back) y) o)
+  pub resume-stores : (a : ℕ) (st′ : List ℕ) → (k ≡ 11 → ⊥) → a ≡ rowAt t p .a → st′ ≡ set st (caller + a) v → transferred (To (p + 1) caller s back) st′ ≡ resumed (rowAt t) st s v p caller back
+  unfolding resumed ifEq
+  resume-stores a st′ h q o = ap (λ (i : ℕ). transferred (To i caller s back) st′) (one-more p) ∙ rw (← e, ne-eqb k 11 h, ← q) (ap (λ (y : List ℕ). transferred (To (suc p) caller s back) y) o)
 
-pub ruleset landings = (land-drops, land-stores)
+pub ruleset resumptions = (resume-drops, resume-stores)
 
 module _ (t : List ℕ) (c d : ℕ) (st : List ℕ) (s m v p : ℕ) (e : p ≡ getD st s 0) where
-  pub hand-past : c ≤ p → turned Stays st ≡ handTurn t c d st s m v
-  unfolding handTurn ifLt
+  pub hand-past : c ≤ p → transferred Stays st ≡ handTransfer t c d st s m v
+  unfolding handTransfer ifLt
   hand-past l = rw (← e, le-ltb p c l)
 
   module _ (g z : ℕ) (l : p < c) (i : g ≡ rowAt t p .func) (h : z ≡ sizeOf (rowAt t) c g) where
-    pub hand-none : z ≡ 0 → turned Stays st ≡ handTurn t c d st s m v
-    unfolding handTurn ifLt ifEq
+    pub hand-none : z ≡ 0 → transferred Stays st ≡ handTransfer t c d st s m v
+    unfolding handTransfer ifLt ifEq
     hand-none q = rw (← e, lt-ltb p c l, ← i, ← h, q)
 
-    pub hand-on : (r : Turn) (st′ : List ℕ) → (z ≡ 0 → ⊥) → turned r st′ ≡ handTo t c d st s m v p z → turned r st′ ≡ handTurn t c d st s m v
-    unfolding handTurn ifLt ifEq
+    pub hand-on : (r : Transfer) (st′ : List ℕ) → (z ≡ 0 → ⊥) → transferred r st′ ≡ handTo t c d st s m v p z → transferred r st′ ≡ handTransfer t c d st s m v
+    unfolding handTransfer ifLt ifEq
     hand-on r st′ q o = rw (← e, lt-ltb p c l, ← i, ← h, ne-eqb z 0 q) o
 
 pub ruleset handing = (hand-past, hand-none, hand-on)
 
 module _ (t : List ℕ) (c d : ℕ) (st : List ℕ) (s m v p z caller back : ℕ) (j : caller ≡ getD st (s + 1) 0) (o : back ≡ getD st (s + 2) 0) where
-  pub to-high : m < back → turned Stays st ≡ handTo t c d st s m v p z
+  pub to-high : m < back → transferred Stays st ≡ handTo t c d st s m v p z
   unfolding handTo ifLt
   to-high x = rw (← o, lt-ltb m back x)
 
-  pub to-apart : back ≤ m → (caller + z ≡ s → ⊥) → turned Stays st ≡ handTo t c d st s m v p z
+  pub to-apart : back ≤ m → (caller + z ≡ s → ⊥) → transferred Stays st ≡ handTo t c d st s m v p z
   unfolding handTo ifLt ifEq
   to-apart x y = rw (← o, le-ltb m back x, ← j, ne-eqb (caller + z) s y)
 
   module _ (b : Bool) (x : back ≤ m) (y : caller + z ≡ s) (w : b ≡ callGood t c d z p) where
-    pub to-bad : b ≡ false → turned Stays st ≡ handTo t c d st s m v p z
+    pub to-bad : b ≡ false → transferred Stays st ≡ handTo t c d st s m v p z
     unfolding handTo ifLt ifEq ifTrue
     to-bad u = rw (← o, le-ltb m back x, ← j, eq-eqb (caller + z) s y, ← w, u)
 
-    pub to-lands : (r : Turn) (st′ : List ℕ) → b ≡ true → turned r st′ ≡ landed (rowAt t) st s v p caller back → turned r st′ ≡ handTo t c d st s m v p z
+    pub to-caller : (r : Transfer) (st′ : List ℕ) → b ≡ true → transferred r st′ ≡ resumed (rowAt t) st s v p caller back → transferred r st′ ≡ handTo t c d st s m v p z
     unfolding handTo ifLt ifEq ifTrue
-    to-lands r st′ u k = rw (← o, le-ltb m back x, ← j, eq-eqb (caller + z) s y, ← w, u) k
+    to-caller r st′ u k = rw (← o, le-ltb m back x, ← j, eq-eqb (caller + z) s y, ← w, u) k
 
-pub ruleset handing-to = (to-high, to-apart, to-bad, to-lands)
+pub ruleset handing-to = (to-high, to-apart, to-bad, to-caller)
 
 module _ (t : List ℕ) (c d size : ℕ) (st : List ℕ) (s : ℕ) (m : List ℕ) (n top : ℕ) (x : Worked) (e : x ≡ resultOf t d size st s m n top) where
-  pub back-value : (v end : ℕ) (r : Turn) (st′ : List ℕ) → x ≡ Value v end → turned r st′ ≡ handTurn t c d st s (length m) v → turned r st′ ≡ returnTurn t c d size st s m n top
-  unfolding returnTurn returnBy
+  pub back-value : (v end : ℕ) (r : Transfer) (st′ : List ℕ) → x ≡ Value v end → transferred r st′ ≡ handTransfer t c d st s (length m) v → transferred r st′ ≡ returnTransfer t c d size st s m n top
+  unfolding returnTransfer returnBy
   back-value v end r st′ h q = rw (← e, h) q
 
-  pub back-stop : (k : ℕ) → x ≡ Stop k → turned Stays st ≡ returnTurn t c d size st s m n top
-  unfolding returnTurn returnBy
+  pub back-stop : (k : ℕ) → x ≡ Stop k → transferred Stays st ≡ returnTransfer t c d size st s m n top
+  unfolding returnTransfer returnBy
   back-stop k h = rw (← e, h)
 
 pub ruleset backs = (back-value, back-stop)
 
 module _ (t : List ℕ) (c g d size : ℕ) (st : List ℕ) (s used : ℕ) (m : List ℕ) (n top : ℕ) where
-  pub turn-beyond : c ≤ n → turned Stays st ≡ turnOf t c g d size st s used m n top
-  unfolding turnOf ifLt
-  turn-beyond l = rw (le-ltb n c l)
+  pub transfer-beyond : c ≤ n → transferred Stays st ≡ transferOf t c g d size st s used m n top
+  unfolding transferOf ifLt
+  transfer-beyond l = rw (le-ltb n c l)
 
   module _ (own : ℕ) (l : n < c) (e : own ≡ rowAt t n .func) where
-    pub turn-other : (own ≡ g → ⊥) → turned Stays st ≡ turnOf t c g d size st s used m n top
-    unfolding turnOf ifLt ifEq
-    turn-other h = rw (lt-ltb n c l, ← e, ne-eqb own g h)
+    pub transfer-other : (own ≡ g → ⊥) → transferred Stays st ≡ transferOf t c g d size st s used m n top
+    unfolding transferOf ifLt ifEq
+    transfer-other h = rw (lt-ltb n c l, ← e, ne-eqb own g h)
 
-    module _ (b : Bool) (r : Turn) (st′ : List ℕ) (h : own ≡ g) (q : b ≡ callsAny (rowAt t) size n) where
-      pub turn-call : b ≡ true → turned r st′ ≡ callTurn t c d size st s m n used n s top → turned r st′ ≡ turnOf t c g d size st s used m n top
-      unfolding turnOf ifLt ifEq ifTrue
-      turn-call z o = rw (lt-ltb n c l, ← e, eq-eqb own g h, ← q, z) o
+    module _ (b : Bool) (r : Transfer) (st′ : List ℕ) (h : own ≡ g) (q : b ≡ callsAny (rowAt t) size n) where
+      pub transfer-call : b ≡ true → transferred r st′ ≡ callTransfer t c d size st s m n used n s top → transferred r st′ ≡ transferOf t c g d size st s used m n top
+      unfolding transferOf ifLt ifEq ifTrue
+      transfer-call z o = rw (lt-ltb n c l, ← e, eq-eqb own g h, ← q, z) o
 
       module _ (k : ℕ) (z : b ≡ false) (i : k ≡ rowAt t n .kind) where
-        pub turn-tail : k ≡ 12 → turned r st′ ≡ tailTurn t c d size st s m n → turned r st′ ≡ turnOf t c g d size st s used m n top
-        unfolding turnOf ifLt ifEq ifTrue
-        turn-tail j o = rw (lt-ltb n c l, ← e, eq-eqb own g h, ← q, z, ← i, eq-eqb k 12 j) o
+        pub transfer-tail : k ≡ 12 → transferred r st′ ≡ tailTransfer t c d size st s m n → transferred r st′ ≡ transferOf t c g d size st s used m n top
+        unfolding transferOf ifLt ifEq ifTrue
+        transfer-tail j o = rw (lt-ltb n c l, ← e, eq-eqb own g h, ← q, z, ← i, eq-eqb k 12 j) o
 
-        pub turn-back : (k ≡ 12 → ⊥) → turned r st′ ≡ returnTurn t c d size st s m n top → turned r st′ ≡ turnOf t c g d size st s used m n top
-        unfolding turnOf ifLt ifEq ifTrue
-        turn-back j o = rw (lt-ltb n c l, ← e, eq-eqb own g h, ← q, z, ← i, ne-eqb k 12 j) o
+        pub transfer-back : (k ≡ 12 → ⊥) → transferred r st′ ≡ returnTransfer t c d size st s m n top → transferred r st′ ≡ transferOf t c g d size st s used m n top
+        unfolding transferOf ifLt ifEq ifTrue
+        transfer-back j o = rw (lt-ltb n c l, ← e, eq-eqb own g h, ← q, z, ← i, ne-eqb k 12 j) o
 
-pub ruleset turning = (turn-beyond, turn-other, turn-call, turn-tail, turn-back)
+pub ruleset transferring = (transfer-beyond, transfer-other, transfer-call, transfer-tail, transfer-back)

@@ -21,25 +21,25 @@ use Rattle.vm_definitions.specs.Access.{storeFrom}
 use Rattle.vm_definitions.specs.Operands as machine
 use Rattle.vm_definitions.specs.Operands.{Words, bad, withWord, readAll, onRead}
 use Rattle.vm_definitions.specs.Expressions.{evalOf}
-use Rattle.vm_definitions.specs.Frames.{mark, frameWords, isFirst, isReturnCall, isReturn, isCalling, calledFrom, headGood, passesOn, leavesGood, rowsLeft, landingOf}
+use Rattle.vm_definitions.specs.Frames.{mark, frameWords, isFirst, isReturnCall, isReturn, isCalling, calledFrom, headGood, passesOn, leavesGood, rowsLeft, resumptionOf}
 use Rattle.vm_definitions.specs.Step.{Effect, leaves, movedTo, argumentsOf, callBy, callOf, tailCallBy, handedTo, handedBy, returned, returnOf, workedOf, effectOf}
 use Rattle.vm_definitions.specs.Lent.{world}
-use Rattle.vm_definitions.specs.declared.Landing.the-variants.{Lands}
+use Rattle.vm_definitions.specs.declared.Resumption.the-variants.{Caller}
 use Rattle.vm_definitions.specs.declared.Broken.the-variants.{No}
 use Rattle.vm_definitions.specs.declared.Read.{Read}
 use Rattle.vm_definitions.specs.declared.Read.the-variants.{Got, Bad}
 use Rattle.vm_definitions.specs.declared.Worked.{Worked}
 use Rattle.vm_definitions.specs.declared.Worked.the-variants.{Value, Stop}
 use Rattle.vm_definitions.proofs.Stores.{store-length}
-use Rattle.vm_guard.specs.Gate.{withinBroken}
+use Rattle.vm_guard.specs.Guard.{withinBroken}
 use Rattle.vm_quick_operands.specs.Fast.{goodRead, readEach, goodWork, sizeOf}
 use Rattle.vm_quick_operands.proofs.Good.{good-read, Valued, good-work, stop-value, no-fault, Function, function-good, row-within, row-size, size-function}
 use Rattle.vm_quick_operands.proofs.Reading.{next-slot, no-slots}
-use Rattle.vm_quick_statements.proofs.Right.{Held}
+use Rattle.vm_quick_statements.proofs.Right.{InFrame}
 use Rattle.vm_quick_statements.proofs.Unbroken.{frame-fine, record-fine, call-fine, return-fine}
-use Rattle.vm_quick_calls.specs.declared.Turn.{Turn}
-use Rattle.vm_quick_calls.specs.declared.Turn.the-variants.{To, Stays}
-use Rattle.vm_quick_calls.specs.Turns.{Turned, turned, goodFrom, calleeSize, callsLocal, callsAny, callGood, goodAll, pushed, enteredBy, entered, callTurn, tailTurn, resultOf, landed, handTo, handTurn, returnBy, returnTurn, turnOf}
+use Rattle.vm_quick_calls.specs.declared.Transfer.{Transfer}
+use Rattle.vm_quick_calls.specs.declared.Transfer.the-variants.{To, Stays}
+use Rattle.vm_quick_calls.specs.Transfers.{Transferred, transferred, goodFrom, calleeSize, callsLocal, callsAny, callGood, goodAll, pushed, enteredBy, entered, callTransfer, tailTransfer, resultOf, resumed, handTo, handTransfer, returnBy, returnTransfer, transferOf}
 use Rattle.prog_tables.proofs.Each.{both-false}
 
 -- ---- operands
@@ -279,7 +279,7 @@ handed t c d size p sized =
           stays = x .stays;
         }
 
--- ---- the turn
+-- ---- the transfer
 
 module _ (t : List ℕ) (c g d size : ℕ) (r : Machine) (st m : List ℕ) where
   abbrev n : ℕ
@@ -297,18 +297,18 @@ module _ (t : List ℕ) (c g d size : ℕ) (r : Machine) (st m : List ℕ) where
     pub effect : effectOf Bits32 (rowAt t) c (world r st m) ≡ leaves (world (movedTo r i frame used end) st′ m)
     pub stack : length st′ ≡ length st
 
-  unfoldable pub RightBy : Turn → List ℕ → Type 0
+  unfoldable pub RightBy : Transfer → List ℕ → Type 0
   RightBy (To i frame used end) st′ = Moved i frame used end st′
   RightBy Stays st′ = st′ ≡ st
 
-  abbrev pub Right : Turned → Type 0
+  abbrev pub Right : Transferred → Type 0
   Right x = RightBy (x .move) (x .stack)
 
-  same : Right (turned Stays st)
+  same : Right (transferred Stays st)
   unfolding RightBy
   same = refl
 
-  module _ (h : Held t c g size r st m) (below : r .next < c) (own : rowAt t (r .next) .func ≡ g) where
+  module _ (h : InFrame t c g size r st m) (below : r .next < c) (own : rowAt t (r .next) .func ≡ g) where
     sized : sizeAt (rowAt t) c n ≡ size
     sized = row-size t c g size (h .function) n own
 
@@ -352,26 +352,26 @@ module _ (t : List ℕ) (c g d size : ℕ) (r : Machine) (st m : List ℕ) where
           → Right (entered t d size st s m n at call under top (here .callee) (here .count) z)
       unfolding entered enteredBy pushed RightBy
       right-entered l z e =
-          either Right (length st) (at + z) (turned Stays st) _ (λ b. same) (λ b. by b (goodAll size d st s m (take (here .count) (slots t (n * 27)))) refl)
+          either Right (length st) (at + z) (transferred Stays st) _ (λ b. same) (λ b. by b (goodAll size d st s m (take (here .count) (slots t (n * 27)))) refl)
         where
           by : at + z ≤ length st → (w : Words) → goodAll size d st s m (take (here .count) (slots t (n * 27))) ≡ w
               → Right (enteredBy t d size st s m n at call under top (here .callee) (here .count) z w)
           by b (machine.words vs) q = go l z e vs (each-good size d st s m (take (here .count) (slots t (n * 27))) vs q) b
           by b bad q = same
 
-      right-call : Right (callTurn t c d size st s m n at call under top)
-      unfolding callTurn
+      right-call : Right (callTransfer t c d size st s m n at call under top)
+      unfolding callTransfer
       right-call =
-          either Right 8 (here .count) (turned Stays st) _ (λ l. same)
-          (λ l. either Right (here .callee) c _ (turned Stays st)
-          (λ p. either-eq Right (calleeSize (rowAt t) c (here .callee) (here .count)) 0 (turned Stays st) _ (λ q. same)
+          either Right 8 (here .count) (transferred Stays st) _ (λ l. same)
+          (λ l. either Right (here .callee) c _ (transferred Stays st)
+          (λ p. either-eq Right (calleeSize (rowAt t) c (here .callee) (here .count)) 0 (transferred Stays st) _ (λ q. same)
           (λ q. right-entered l _ (callee-good (rowAt t) c (here .callee) (here .count) _ q refl)))
           (λ p. same))
 
-    right-tail : here .kind ≡ 12 → Right (tailTurn t c d size st s m n)
-    unfolding tailTurn
+    right-tail : here .kind ≡ 12 → Right (tailTransfer t c d size st s m n)
+    unfolding tailTransfer
     right-tail q =
-        either Right (length m) (getD st (s + 2) 0) (turned Stays st) _ (λ l. same)
+        either Right (length m) (getD st (s + 2) 0) (transferred Stays st) _ (λ l. same)
         (λ l. right-call s (getD st s 0) (getD st (s + 1) 0) (getD st (s + 2) 0) (went-tail q l))
 
     -- ---- returns
@@ -384,7 +384,7 @@ module _ (t : List ℕ) (c g d size : ℕ) (r : Machine) (st m : List ℕ) where
       tail : eqb (here .kind) 12 ≡ false
       calls : isCall (here .kind) (here .expr) ≡ false
       returns : isReturn here ≡ true
-      effect : effectOf Bits32 (rowAt t) c (world r st m) ≡ handedBy Bits32 (rowAt t) c (world r st m) v (landingOf Bits32 (rowAt t) c st (suc s) s)
+      effect : effectOf Bits32 (rowAt t) c (world r st m) ≡ handedBy Bits32 (rowAt t) c (world r st m) v (resumptionOf Bits32 (rowAt t) c st (suc s) s)
 
     used : here .operands ≡ take (usedBy (here .kind) (here .expr) (here .count)) (slots t (n * 27))
     unfolding rowAt rowFrom
@@ -474,9 +474,9 @@ module _ (t : List ℕ) (c g d size : ℕ) (r : Machine) (st m : List ℕ) where
       unfolding rowsLeft ifTrue
       rows-left = rw (not-first, called, ep, not-passed)
 
-      lands : landingOf Bits32 (rowAt t) c st (suc s) s ≡ Lands p caller s back
-      unfolding landingOf passesOn ifTrue
-      lands = rw (not-first, called, ep, not-passed, ec, eb)
+      resumes : resumptionOf Bits32 (rowAt t) c st (suc s) s ≡ Caller p caller s back
+      unfolding resumptionOf passesOn ifTrue
+      resumes = rw (not-first, called, ep, not-passed, ec, eb)
 
       back-fine : withinBroken Bits32 (rowAt t) c d r st (length m) ≡ No
       back-fine =
@@ -484,36 +484,36 @@ module _ (t : List ℕ) (c g d size : ℕ) (r : Machine) (st m : List ℕ) where
           (function-good t c (rowAt t p .func) z function d)
           (record-fine t c g d size r st m h below own (rw (y .block)) (rw (y .tail)) (rw (y .returns) leaves-good))
 
-      right-landed : Right (landed (rowAt t) st s v p caller back)
-      unfolding landed RightBy handedBy handedTo ifEq
-      right-landed =
+      right-resumed : Right (resumed (rowAt t) st s v p caller back)
+      unfolding resumed RightBy handedBy handedTo ifEq
+      right-resumed =
           either-eq (λ (w : List ℕ). Moved (suc p) caller s back w) (rowAt t p .kind) 11 st (set st (caller + rowAt t p .a) v)
-          (λ q. record { fine = back-fine; effect = y .effect ∙ rw (lands, x .at, q); stack = refl })
-          (λ q. record { fine = back-fine; effect = y .effect ∙ rw (lands, x .at, ne-eqb _ _ q); stack = length-set st (caller + rowAt t p .a) v })
+          (λ q. record { fine = back-fine; effect = y .effect ∙ rw (resumes, x .at, q); stack = refl })
+          (λ q. record { fine = back-fine; effect = y .effect ∙ rw (resumes, x .at, ne-eqb _ _ q); stack = length-set st (caller + rowAt t p .a) v })
 
-    right-hand : c < 4294967296 → (v : ℕ) → Gives v → Right (handTurn t c d st s (length m) v)
-    unfolding handTurn handTo
+    right-hand : c < 4294967296 → (v : ℕ) → Gives v → Right (handTransfer t c d st s (length m) v)
+    unfolding handTransfer handTo
     right-hand small v y =
-        either Right (getD st s 0) c _ (turned Stays st)
-        (λ l. either-eq Right (sizeOf (rowAt t) c (rowAt t (getD st s 0) .func)) 0 (turned Stays st) _ (λ q. same)
-        (λ q. either Right (length m) (getD st (s + 2) 0) (turned Stays st) _ (λ b. same)
-        (λ b. either-eq Right (getD st (s + 1) 0 + sizeOf (rowAt t) c (rowAt t (getD st s 0) .func)) s _ (turned Stays st)
-        (λ e. either-true Right (callGood t c d (sizeOf (rowAt t) c (rowAt t (getD st s 0) .func)) (getD st s 0)) _ (turned Stays st)
-        (λ w. landing l q b e w) (λ w. same))
+        either Right (getD st s 0) c _ (transferred Stays st)
+        (λ l. either-eq Right (sizeOf (rowAt t) c (rowAt t (getD st s 0) .func)) 0 (transferred Stays st) _ (λ q. same)
+        (λ q. either Right (length m) (getD st (s + 2) 0) (transferred Stays st) _ (λ b. same)
+        (λ b. either-eq Right (getD st (s + 1) 0 + sizeOf (rowAt t) c (rowAt t (getD st s 0) .func)) s _ (transferred Stays st)
+        (λ e. either-true Right (callGood t c d (sizeOf (rowAt t) c (rowAt t (getD st s 0) .func)) (getD st s 0)) _ (transferred Stays st)
+        (λ w. resumption l q b e w) (λ w. same))
         (λ e. same))))
         (λ l. same)
       where
-        landing : getD st s 0 < c → (sizeOf (rowAt t) c (rowAt t (getD st s 0) .func) ≡ 0 → ⊥) → getD st (s + 2) 0 ≤ length m
+        resumption : getD st s 0 < c → (sizeOf (rowAt t) c (rowAt t (getD st s 0) .func) ≡ 0 → ⊥) → getD st (s + 2) 0 ≤ length m
             → getD st (s + 1) 0 + sizeOf (rowAt t) c (rowAt t (getD st s 0) .func) ≡ s
             → callGood t c d (sizeOf (rowAt t) c (rowAt t (getD st s 0) .func)) (getD st s 0) ≡ true
-            → Right (landed (rowAt t) st s v (getD st s 0) (getD st (s + 1) 0) (getD st (s + 2) 0))
-        landing l q b e w =
+            → Right (resumed (rowAt t) st s v (getD st s 0) (getD st (s + 1) 0) (getD st (s + 2) 0))
+        resumption l q b e w =
             let f = size-function (rowAt t) c (rowAt t (getD st s 0) .func) _ q refl in
-            right-landed small v (getD st s 0) (getD st (s + 1) 0) (getD st (s + 2) 0) _ l refl refl refl f b e
+            right-resumed small v (getD st s 0) (getD st (s + 1) 0) (getD st (s + 2) 0) _ l refl refl refl f b e
             (handed t c d _ (getD st s 0) (row-size t c (rowAt t (getD st s 0) .func) _ f (getD st s 0) refl) w) y
 
-    right-return : c < 4294967296 → Right (returnTurn t c d size st s m n (r .top))
-    unfolding returnTurn returnBy
+    right-return : c < 4294967296 → Right (returnTransfer t c d size st s m n (r .top))
+    unfolding returnTransfer returnBy
     right-return small = by (resultOf t d size st s m n (r .top)) refl
       where
         by : (w : Worked) → resultOf t d size st s m n (r .top) ≡ w → Right (returnBy t c d size st s m n (r .top) w)
@@ -521,11 +521,11 @@ module _ (t : List ℕ) (c g d size : ℕ) (r : Machine) (st m : List ℕ) where
         by (Stop k) e = same
 
   -- what became of a call or a return is right
-  pub right-turn : c < 4294967296 → Held t c g size r st m → Right (turnOf t c g d size st s (r .used) m n (r .top))
-  unfolding turnOf
-  right-turn small h =
-      either Right n c _ (turned Stays st)
-      (λ l. either-eq Right (here .func) g _ (turned Stays st)
+  pub right-transfer : c < 4294967296 → InFrame t c g size r st m → Right (transferOf t c g d size st s (r .used) m n (r .top))
+  unfolding transferOf
+  right-transfer small h =
+      either Right n c _ (transferred Stays st)
+      (λ l. either-eq Right (here .func) g _ (transferred Stays st)
       (λ e. either-true Right (callsAny (rowAt t) size n) _ _
       (λ q. right-call h l e (r .used) n s (r .top) (went-call h l e (any-row t c d n size (sized h l e) q)))
       (λ q. either-eq Right (here .kind) 12 _ _ (λ k. right-tail h l e k) (λ k. right-return h l e small)))

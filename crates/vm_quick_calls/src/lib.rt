@@ -13,10 +13,10 @@ ghost use Rattle.prog_tables.specs.Statement.{operandAt, rowAt, slots};
 ghost use Rattle.prog_tables.specs.Faults.{operandFault};
 ghost use Rattle.vm_calls.specs.Outcomes.{wordsIn};
 ghost use Rattle.prog_tables.specs.Layout.{statementRow};
-ghost use Rattle.vm_quick_calls.specs.Turns.{turned, goodFrom, calleeSize, callsLocal, callsAny, callGood, goodAll, pushed, entered, callTurn, tailTurn, resultOf, landed, handTo, handTurn, returnTurn, turnOf};
+ghost use Rattle.vm_quick_calls.specs.Transfers.{transferred, goodFrom, calleeSize, callsLocal, callsAny, callGood, goodAll, pushed, entered, callTransfer, tailTransfer, resultOf, resumed, handTo, handTransfer, returnTransfer, transferOf};
 
 // What became of a call or a return: the run goes on in another frame, with its words and an auto top; or nothing happened.
-pub enum Turn {
+pub enum Transfer {
     To {
         next: u32,
         frame: u32,
@@ -165,12 +165,12 @@ fn push_frame(
     p: u32,
     z: u32,
     words: &[u32],
-) -> Turn
+) -> Transfer
     requires { ⌜ (length (now words) ≤ 8) × (at + z < 4294967296) × (p < 4294967295) ⌝ }
-    ensures { λ r. ⌜ turned r (now (st .exit)) ≡ pushed (now (st .entry)) at call below top p z (now (words .entry)) ⌝ }
+    ensures { λ r. ⌜ transferred r (now (st .exit)) ≡ pushed (now (st .entry)) at call below top p z (now (words .entry)) ⌝ }
 {
     vm_memory::build_frame(st, at, call, below, top, words, z);
-    Turn::To {
+    Transfer::To {
         next: p + 1,
         frame: at,
         used: at + z,
@@ -194,12 +194,12 @@ fn enter(
     p: u32,
     k: u32,
     z: u32,
-) -> Turn
+) -> Transfer
     requires { ⌜ (n * statementRow + statementRow ≤ length (now t)) × (k ≤ 8) × (s + size ≤ length (now st)) × (length (now st) ≤ 16384) × (p < 4294967295) ⌝ }
-    ensures { λ r. ⌜ turned r (now (st .exit)) ≡ entered (now (t .entry)) d size (now (st .entry)) s (now (m .entry)) n at call below top p k z ⌝ }
+    ensures { λ r. ⌜ transferred r (now (st .exit)) ≡ entered (now (t .entry)) d size (now (st .entry)) s (now (m .entry)) n at call below top p k z ⌝ }
 {
     if st.len() < at as usize + z as usize {
-        return Turn::Stays;
+        return Transfer::Stays;
     }
     let mut words = [0u32; 8];
     if read_arguments(
@@ -216,7 +216,7 @@ fn enter(
         let to = k as usize;
         return push_frame(st, at, call, below, top, p, z, &words[0..to]);
     }
-    Turn::Stays
+    Transfer::Stays
 }
 
 // Row n calls its function, whose frame starts at a place.
@@ -233,36 +233,45 @@ fn call_at(
     call: u32,
     below: u32,
     top: u32,
-) -> Turn
+) -> Transfer
     requires { ⌜ (n < c) × (c * statementRow ≤ length (now t)) × (s + size ≤ length (now st)) × (length (now st) ≤ 16384) ⌝ }
-    ensures { λ r. ⌜ turned r (now (st .exit)) ≡ callTurn (now (t .entry)) c d size (now (st .entry)) s (now (m .entry)) n at call below top ⌝ }
+    ensures { λ r. ⌜ transferred r (now (st .exit)) ≡ callTransfer (now (t .entry)) c d size (now (st .entry)) s (now (m .entry)) n at call below top ⌝ }
 {
     let k = prog_tables::count_at(t, n);
     if 8 < k {
-        return Turn::Stays;
+        return Transfer::Stays;
     }
     let p = prog_tables::callee_at(t, n);
     if c <= p {
-        return Turn::Stays;
+        return Transfer::Stays;
     }
     let z = callee_size(t, c, p, k);
     if z == 0 {
-        return Turn::Stays;
+        return Transfer::Stays;
     }
     enter(t, d, size, st, s, m, n, at, call, below, top, p, k, z)
 }
 
 // `tail-call` at row n: the new frame has the head of the frame in use.
-fn tail_call(t: &[u32], c: u32, d: u32, size: u32, st: &mut [u32], s: u32, m: &[u8], n: u32) -> Turn
+fn tail_call(
+    t: &[u32],
+    c: u32,
+    d: u32,
+    size: u32,
+    st: &mut [u32],
+    s: u32,
+    m: &[u8],
+    n: u32,
+) -> Transfer
     requires { ⌜ (n < c) × (c * statementRow ≤ length (now t)) × (s + size ≤ length (now st)) × (length (now st) ≤ 16384) ⌝ }
-    ensures { λ r. ⌜ turned r (now (st .exit)) ≡ tailTurn (now (t .entry)) c d size (now (st .entry)) s (now (m .entry)) n ⌝ }
+    ensures { λ r. ⌜ transferred r (now (st .exit)) ≡ tailTransfer (now (t .entry)) c d size (now (st .entry)) s (now (m .entry)) n ⌝ }
 {
     let i = s as usize;
     let call = prog_tables::word_at(st, i);
     let below = prog_tables::word_at(st, i + 1);
     let top = prog_tables::word_at(st, i + 2);
     if m.len() < top as usize {
-        return Turn::Stays;
+        return Transfer::Stays;
     }
     call_at(t, c, d, size, st, s, m, n, s, call, below, top)
 }
@@ -298,13 +307,13 @@ fn result(t: &[u32], d: u32, size: u32, st: &[u32], s: u32, m: &[u8], n: u32, to
 }
 
 // A value for the call at row p, whose frame is at a place; back is the auto top restored.
-fn land(t: &[u32], st: &mut [u32], s: u32, v: u32, p: u32, caller: u32, back: u32) -> Turn
+fn resume(t: &[u32], st: &mut [u32], s: u32, v: u32, p: u32, caller: u32, back: u32) -> Transfer
     requires { ⌜ p < 4294967295 ⌝ }
-    ensures { λ r. ⌜ turned r (now (st .exit)) ≡ landed (rowAt (now (t .entry))) (now (st .entry)) s v p caller back ⌝ }
+    ensures { λ r. ⌜ transferred r (now (st .exit)) ≡ resumed (rowAt (now (t .entry))) (now (st .entry)) s v p caller back ⌝ }
 {
     let k = prog_tables::kind_at(t, p);
     if k == Kind::CALL {
-        return Turn::To {
+        return Transfer::To {
             next: p + 1,
             frame: caller,
             used: s,
@@ -313,7 +322,7 @@ fn land(t: &[u32], st: &mut [u32], s: u32, v: u32, p: u32, caller: u32, back: u3
     }
     let a = prog_tables::a_at(t, p);
     vm_memory::put(st, caller as usize + a as usize, v);
-    Turn::To {
+    Transfer::To {
         next: p + 1,
         frame: caller,
         used: s,
@@ -332,37 +341,37 @@ fn hand_to(
     v: u32,
     p: u32,
     z: u32,
-) -> Turn
+) -> Transfer
     requires { ⌜ (p < c) × (c < 4294967296) × (c * statementRow ≤ length (now t)) ⌝ }
-    ensures { λ r. ⌜ turned r (now (st .exit)) ≡ handTo (now (t .entry)) c d (now (st .entry)) s m v p z ⌝ }
+    ensures { λ r. ⌜ transferred r (now (st .exit)) ≡ handTo (now (t .entry)) c d (now (st .entry)) s m v p z ⌝ }
 {
     let at = s as usize;
     let caller = prog_tables::word_at(st, at + 1);
     let back = prog_tables::word_at(st, at + 2);
     if m < back as usize {
-        return Turn::Stays;
+        return Transfer::Stays;
     }
     if caller as u64 + z as u64 == s as u64 {
         if is_call_good(t, c, d, z, p) {
-            return land(t, st, s, v, p, caller, back);
+            return resume(t, st, s, v, p, caller, back);
         }
-        return Turn::Stays;
+        return Transfer::Stays;
     }
-    Turn::Stays
+    Transfer::Stays
 }
 
 // A value handed back from the frame at s to the call behind it.
-fn hand(t: &[u32], c: u32, d: u32, st: &mut [u32], s: u32, m: usize, v: u32) -> Turn
+fn hand(t: &[u32], c: u32, d: u32, st: &mut [u32], s: u32, m: usize, v: u32) -> Transfer
     requires { ⌜ c * statementRow ≤ length (now t) ⌝ }
-    ensures { λ r. ⌜ turned r (now (st .exit)) ≡ handTurn (now (t .entry)) c d (now (st .entry)) s m v ⌝ }
+    ensures { λ r. ⌜ transferred r (now (st .exit)) ≡ handTransfer (now (t .entry)) c d (now (st .entry)) s m v ⌝ }
 {
     let p = prog_tables::word_at(st, s as usize);
     if c <= p {
-        return Turn::Stays;
+        return Transfer::Stays;
     }
     let z = vm_quick_operands::size_of(t, c, prog_tables::func_at(t, p));
     if z == 0 {
-        return Turn::Stays;
+        return Transfer::Stays;
     }
     hand_to(t, c, d, st, s, m, v, p, z)
 }
@@ -378,19 +387,19 @@ fn give_back(
     m: &[u8],
     n: u32,
     top: u32,
-) -> Turn
+) -> Transfer
     requires { ⌜ (n < c) × (c * statementRow ≤ length (now t)) × (s + size ≤ length (now st)) × (length (now m) ≤ 65536) ⌝ }
-    ensures { λ r. ⌜ turned r (now (st .exit)) ≡ returnTurn (now (t .entry)) c d size (now (st .entry)) s (now (m .entry)) n top ⌝ }
+    ensures { λ r. ⌜ transferred r (now (st .exit)) ≡ returnTransfer (now (t .entry)) c d size (now (st .entry)) s (now (m .entry)) n top ⌝ }
 {
     let x = result(t, d, size, st, s, m, n, top);
     match x {
         Worked::Value { word, top: end } => hand(t, c, d, st, s, m.len(), word),
-        Worked::Stop(_) => Turn::Stays,
+        Worked::Stop(_) => Transfer::Stays,
     }
 }
 
 // The call or return at row n, where that is a row of function g with this frame size; s is where the frame starts.
-pub fn take_turn(
+pub fn take_transfer(
     t: &[u32],
     c: u32,
     g: u32,
@@ -402,12 +411,12 @@ pub fn take_turn(
     m: &[u8],
     n: u32,
     top: u32,
-) -> Turn
+) -> Transfer
     requires { ⌜ (c * statementRow ≤ length (now t)) × (s + size ≤ length (now st)) × (length (now st) ≤ 16384) × (length (now m) ≤ 65536) ⌝ }
-    ensures { λ r. ⌜ turned r (now (st .exit)) ≡ turnOf (now (t .entry)) c g d size (now (st .entry)) s used (now (m .entry)) n top ⌝ }
+    ensures { λ r. ⌜ transferred r (now (st .exit)) ≡ transferOf (now (t .entry)) c g d size (now (st .entry)) s used (now (m .entry)) n top ⌝ }
 {
     if c <= n {
-        return Turn::Stays;
+        return Transfer::Stays;
     }
     let own = prog_tables::func_at(t, n);
     if own == g {
@@ -420,5 +429,5 @@ pub fn take_turn(
         }
         return give_back(t, c, d, size, st, s, m, n, top);
     }
-    Turn::Stays
+    Transfer::Stays
 }

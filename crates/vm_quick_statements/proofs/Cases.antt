@@ -1,4 +1,4 @@
--- The ways through the statements of a stretch.
+-- The ways through the statements of a plain run.
 -- Assumes nothing.
 use mathlib.Core.Path.{_≡_, refl, sym, _∙_, ap}
 use mathlib.Core.Bool.{Bool, true, false}
@@ -16,7 +16,7 @@ use Rattle.prog_tables.specs.Statement.{isTest, operandAt}
 use Rattle.prog_tables.proofs.Each.{both-right}
 use Rattle.vm_definitions.specs.Access.{byteAddress, wordAddress, byteGood, wordGood, storeFrom}
 use Rattle.vm_definitions.specs.Operands.{onRead}
-use Rattle.vm_definitions.specs.Expressions.{holds}
+use Rattle.vm_definitions.specs.Expressions.{testHolds}
 use Rattle.vm_definitions.specs.declared.Read.{Read}
 use Rattle.vm_definitions.specs.declared.Read.the-variants.{Got, Bad}
 use Rattle.vm_definitions.specs.declared.Worked.{Worked}
@@ -26,8 +26,8 @@ use Rattle.vm_quick_statements.specs.declared.Move.{Move}
 use Rattle.vm_quick_statements.specs.declared.Move.the-variants.{To, Stays}
 use Rattle.vm_quick_statements.specs.declared.Three.{Three}
 use Rattle.vm_quick_statements.specs.declared.Three.the-variants.{All, Unread}
-use Rattle.vm_quick_statements.specs.declared.Stretch.{Stretch}
-use Rattle.vm_quick_statements.specs.Stretch.{Taken, taken, aimed, quickJump, quickBlock, quickEnd, threeRead, assignedBy, quickAssign, byteBy, quickByte, wordBy, quickWord, storedBy, storedAt, quickAt, quickTest, quickJumps, quickStores, quickKind, quickForm, quickStep, Ended, stretched, adding, onMove, stretchOf}
+use Rattle.vm_quick_statements.specs.declared.PlainRun.{PlainRun}
+use Rattle.vm_quick_statements.specs.PlainRun.{Taken, taken, aimed, quickJump, quickBlock, quickEnd, threeRead, assignedBy, quickAssign, byteBy, quickByte, wordBy, quickWord, storedBy, storedAt, quickAt, quickTest, quickJumps, quickStores, quickKind, quickForm, quickStep, Ended, endedWith, adding, onMove, plainRunOf}
 use Rattle.prog_tables.proofs.Ranges.{one-more}
 
 -- the statement behind row n
@@ -235,16 +235,16 @@ module _ (t : List ℕ) (c g d size : ℕ) (st : List ℕ) (s : ℕ) (m : List �
         unfolding quickTest ifTrue onRead
         test-half z = rw (← e, ← i, h, ← p, q, ← o, z)
 
-        pub test-goes : (y : ℕ) (v : Move) → r ≡ Got y → v ≡ To (ifTrue (holds Bits32 k x y) (suc n) a) top → taken v st m ≡ quickTest t c g d size st s m n top k
+        pub test-goes : (y : ℕ) (v : Move) → r ≡ Got y → v ≡ To (ifTrue (testHolds Bits32 k x y) (suc n) a) top → taken v st m ≡ quickTest t c g d size st s m n top k
         unfolding quickTest ifTrue onRead
         test-goes y v z w = rw (← e, ← i, h, ← p, q, ← o, z) (ap (λ (u : Move). taken u st m) w)
 
-module _ (n top k a x y : ℕ) (v : Bool) (w : v ≡ holds Bits32 k x y) where
-  pub branch-on : v ≡ true → To (n + 1) top ≡ To (ifTrue (holds Bits32 k x y) (suc n) a) top
+module _ (n top k a x y : ℕ) (v : Bool) (w : v ≡ testHolds Bits32 k x y) where
+  pub branch-on : v ≡ true → To (n + 1) top ≡ To (ifTrue (testHolds Bits32 k x y) (suc n) a) top
   unfolding ifTrue
   branch-on j = rw (← w, j) (ap (λ (i : ℕ). To i top) (one-more n))
 
-  pub branch-off : v ≡ false → To a top ≡ To (ifTrue (holds Bits32 k x y) (suc n) a) top
+  pub branch-off : v ≡ false → To a top ≡ To (ifTrue (testHolds Bits32 k x y) (suc n) a) top
   unfolding ifTrue
   branch-off j = rw (← w, j)
 
@@ -344,7 +344,7 @@ module _ (t : List ℕ) (c g d size : ℕ) (st : List ℕ) (s : ℕ) (m : List �
 
 pub ruleset steps = (step-past, step-other, step-own)
 
--- ---- the stretch
+-- ---- the plain run
 
 add-none : (y : Ended) → adding 0 y ≡ y
 unfolding adding
@@ -364,7 +364,7 @@ module _ (t : List ℕ) (c g d size s : ℕ) where
     pub below : count ≤ budget
     pub stack : length st ≡ length st₀
     pub memory : length m ≡ length m₀
-    pub rest : adding count (stretchOf t c g d size s (budget - count) st m n top) ≡ stretchOf t c g d size s budget st₀ m₀ n₀ top₀
+    pub rest : adding count (plainRunOf t c g d size s (budget - count) st m n top) ≡ plainRunOf t c g d size s budget st₀ m₀ n₀ top₀
 
   pub so-none : (budget : ℕ) (st m : List ℕ) (n top : ℕ) → SoFar budget st m n top st m n top 0
   so-none budget st m n top =
@@ -373,21 +373,21 @@ module _ (t : List ℕ) (c g d size s : ℕ) where
         below = omega arith;
         stack = refl;
         memory = refl;
-        rest = add-none (stretchOf t c g d size s (budget - 0) st m n top) ∙ ap (λ (b : ℕ). stretchOf t c g d size s b st m n top) z;
+        rest = add-none (plainRunOf t c g d size s (budget - 0) st m n top) ∙ ap (λ (b : ℕ). plainRunOf t c g d size s b st m n top) z;
       }
 
   module _ (budget : ℕ) (st₀ m₀ : List ℕ) (n₀ top₀ : ℕ) (st m : List ℕ) (n top count : ℕ) (h : SoFar budget st₀ m₀ n₀ top₀ st m n top count) where
     module _ (x : Move) (st′ m′ : List ℕ) (l : count < budget) (q : taken x st′ m′ ≡ quickStep t c g d size st s m n top) where
-      one : stretchOf t c g d size s (budget - count) st m n top
+      one : plainRunOf t c g d size s (budget - count) st m n top
           ≡ onMove x (record { next = n; top = top; count = 0; stack = st′; memory = m′ })
-          (λ i e. adding 1 (stretchOf t c g d size s (budget - (count + 1)) st′ m′ i e))
-      unfolding stretchOf
+          (λ i e. adding 1 (plainRunOf t c g d size s (budget - (count + 1)) st′ m′ i e))
+      unfolding plainRunOf
       one =
           let z : budget - count ≡ suc (budget - (count + 1)) = omega arith in
-          ap (λ (b : ℕ). stretchOf t c g d size s b st m n top) z
+          ap (λ (b : ℕ). plainRunOf t c g d size s b st m n top) z
           ∙ ap
           (λ (y : Taken). onMove (y .move) (record { next = n; top = top; count = 0; stack = y .stack; memory = y .memory })
-          (λ i e. adding 1 (stretchOf t c g d size s (budget - (count + 1)) (y .stack) (y .memory) i e)))
+          (λ i e. adding 1 (plainRunOf t c g d size s (budget - (count + 1)) (y .stack) (y .memory) i e)))
           (sym q)
 
       pub so-more : (i e : ℕ) → x ≡ To i e → length st′ ≡ length st → length m′ ≡ length m → SoFar budget st₀ m₀ n₀ top₀ st′ m′ i e (count + 1)
@@ -398,12 +398,12 @@ module _ (t : List ℕ) (c g d size s : ℕ) where
             stack = ls ∙ h .stack;
             memory = lm ∙ h .memory;
             rest =
-                add-more count (stretchOf t c g d size s (budget - (count + 1)) st′ m′ i e)
+                add-more count (plainRunOf t c g d size s (budget - (count + 1)) st′ m′ i e)
                 ∙ ap (adding count) (sym (one ∙ rw o))
                 ∙ h .rest;
           }
 
-      pub so-stays : x ≡ Stays → stretched (record { next = n; top = top; count = count }) st′ m′ ≡ stretchOf t c g d size s budget st₀ m₀ n₀ top₀
+      pub so-stays : x ≡ Stays → endedWith (record { next = n; top = top; count = count }) st′ m′ ≡ plainRunOf t c g d size s budget st₀ m₀ n₀ top₀
       unfolding onMove adding
       so-stays o =
           let z : count ≡ count + 0 = omega arith in
@@ -411,13 +411,13 @@ module _ (t : List ℕ) (c g d size s : ℕ) where
           ∙ ap (adding count) (sym (one ∙ rw o))
           ∙ h .rest
 
-    pub so-done : budget ≤ count → stretched (record { next = n; top = top; count = count }) st m ≡ stretchOf t c g d size s budget st₀ m₀ n₀ top₀
-    unfolding adding stretchOf
+    pub so-done : budget ≤ count → endedWith (record { next = n; top = top; count = count }) st m ≡ plainRunOf t c g d size s budget st₀ m₀ n₀ top₀
+    unfolding adding plainRunOf
     so-done l =
         let z : budget - count ≡ 0 = omega (arith, l) in
         let y : count ≡ count + 0 = omega arith in
         ap (λ (i : ℕ). record { next = n; top = top; count = i; stack = st; memory = m }) y
-        ∙ ap (λ (b : ℕ). adding count (stretchOf t c g d size s b st m n top)) (sym z)
+        ∙ ap (λ (b : ℕ). adding count (plainRunOf t c g d size s b st m n top)) (sym z)
         ∙ h .rest
 
 pub ruleset going = (so-none, so-more, so-stays, so-done)

@@ -1,4 +1,4 @@
--- A statement that a stretch takes is good, and has the effect that the machine's definitions give it.
+-- A statement that a plain run takes is good, and has the effect that the machine's definitions give it.
 -- Assumes nothing.
 use mathlib.Core.Path.{_≡_, refl, sym, _∙_, ap, subst}
 use mathlib.Core.Bool.{Bool, true, false, not}
@@ -23,7 +23,7 @@ use Rattle.prog_tables.specs.declared.Operand.{Operand}
 use Rattle.vm_definitions.specs.Access.{byteAddress, wordAddress, byteGood, wordGood, storeFrom}
 use Rattle.vm_definitions.specs.Operands as machine
 use Rattle.vm_definitions.specs.Operands.{withWord, isAt, numberIn, readOf, readAll, onRead}
-use Rattle.vm_definitions.specs.Expressions.{evalOf, holds, operandNo}
+use Rattle.vm_definitions.specs.Expressions.{evalOf, testHolds, operandNo}
 use Rattle.vm_definitions.specs.Frames.{isReturn, isCalling, headGood}
 use Rattle.vm_definitions.specs.Step.{Effect, leaves, goingOn, keeps, stores, goesTo, blockOf, endBlockOf, testOf, assigned, assignedAt, setAtOf, setByteBy, setWordBy, argumentsOf, workedOf, effectOf}
 use Rattle.vm_definitions.specs.Lent.{world}
@@ -40,7 +40,7 @@ use Rattle.vm_quick_statements.specs.declared.Move.{Move}
 use Rattle.vm_quick_statements.specs.declared.Move.the-variants.{To, Stays}
 use Rattle.vm_quick_statements.specs.declared.Three.{Three}
 use Rattle.vm_quick_statements.specs.declared.Three.the-variants.{All, Unread}
-use Rattle.vm_quick_statements.specs.Stretch.{Taken, taken, aimed, quickJump, quickBlock, quickEnd, threeRead, assignedBy, quickAssign, byteBy, quickByte, wordBy, quickWord, storedBy, storedAt, quickAt, quickTest, quickJumps, quickStores, quickKind, quickForm, quickStep}
+use Rattle.vm_quick_statements.specs.PlainRun.{Taken, taken, aimed, quickJump, quickBlock, quickEnd, threeRead, assignedBy, quickAssign, byteBy, quickByte, wordBy, quickWord, storedBy, storedAt, quickAt, quickTest, quickJumps, quickStores, quickKind, quickForm, quickStep}
 use Rattle.prog_tables.proofs.Each.{both-false}
 use Rattle.prog_tables.proofs.Ranges.{test-least, test-most}
 
@@ -60,10 +60,10 @@ target-in : (f : ℕ → Row) (c n g a : ℕ) → inFunction f c n ≡ true → 
 unfolding targetFault
 target-in f c n g a i j k l m = rw (i, k, lt-ltb a c l, m, j, eq-eqb g g refl) (both-false (oneOf (hasTarget (f n .kind)) (eqb (f n .kind) 10)))
 
--- ---- a row of a stretch
+-- ---- a row of a plain run
 
--- what a stretch stands on: the function, the frame, what is lent, the auto top
-pub record Held (t : List ℕ) (c g size : ℕ) (r : Machine) (st m : List ℕ) : Type 0 where
+-- what a plain run stands on: the function, the frame, what is lent, the auto top
+pub record InFrame (t : List ℕ) (c g size : ℕ) (r : Machine) (st m : List ℕ) : Type 0 where
   pub state : r .state ≡ Running
   pub function : Function (rowAt t) c g size
   pub ends : r .frame + size ≡ r .used
@@ -115,7 +115,7 @@ module _ (t : List ℕ) (c g d size : ℕ) (r : Machine) (st m : List ℕ) where
   abbrev pub Right : Taken → Type 0
   Right x = RightBy (x .move) (x .stack) (x .memory)
 
-  module _ (h : Held t c g size r st m) (below : r .next < c) (own : rowAt t (r .next) .func ≡ g) where
+  module _ (h : InFrame t c g size r st m) (below : r .next < c) (own : rowAt t (r .next) .func ≡ g) where
     within : inFunction (rowAt t) c n ≡ true
     within = row-within t c g size (h .function) n own
 
@@ -543,7 +543,7 @@ module _ (t : List ℕ) (c g d size : ℕ) (r : Machine) (st m : List ℕ) where
     two e = rw (used, test-bare (row .kind) e, test-uncalled (row .kind) (row .expr) e, e)
 
     went-test : isTest (row .kind) ≡ true → aimed t c g a ≡ true → (x y : ℕ) → Sound size d st s m (operandAt t (n * 27 + 11)) x
-        → Sound size d st s m (operandAt t (n * 27 + 13)) y → Went (ifTrue (holds Bits32 (row .kind) x y) (suc n) a) (r .top) st m
+        → Sound size d st s m (operandAt t (n * 27 + 13)) y → Went (ifTrue (testHolds Bits32 (row .kind) x y) (suc n) a) (r .top) st m
     unfolding kindFault calleeFault sizeFault wordFault operandsFault addressFault isListed isReturn hasWord someOf ifLt ifEq ifTrue testOf goesTo onRead
     went-test e z x y o p =
         let low = test-least (row .kind) e in
@@ -584,11 +584,11 @@ module _ (t : List ℕ) (c g d size : ℕ) (r : Machine) (st m : List ℕ) where
         (λ z. by z (goodRead size d st s m (operandAt t (n * 27 + 11))) (goodRead size d st s m (operandAt t (n * 27 + 13))) refl refl) (λ z. stays)
       where
         by : aimed t c g a ≡ true → (i j : Read) → goodRead size d st s m (operandAt t (n * 27 + 11)) ≡ i → goodRead size d st s m (operandAt t (n * 27 + 13)) ≡ j
-            → Right (onRead i (taken Stays st m) (λ x. onRead j (taken Stays st m) (λ y. taken (To (ifTrue (holds Bits32 k x y) (suc n) a) (r .top)) st m)))
+            → Right (onRead i (taken Stays st m) (λ x. onRead j (taken Stays st m) (λ y. taken (To (ifTrue (testHolds Bits32 k x y) (suc n) a) (r .top)) st m)))
         by z Bad j o p = stays
         by z (Got x) Bad o p = stays
         by z (Got x) (Got y) o p =
-            subst (λ (i : ℕ). Went (ifTrue (holds Bits32 i x y) (suc n) a) (r .top) st m) q
+            subst (λ (i : ℕ). Went (ifTrue (testHolds Bits32 i x y) (suc n) a) (r .top) st m) q
             (went-test (ap isTest q ∙ e) z x y (good-read size d st s m (operandAt t (n * 27 + 11)) x o) (good-read size d st s m (operandAt t (n * 27 + 13)) y p))
 
     -- ---- by the kind
@@ -628,8 +628,8 @@ module _ (t : List ℕ) (c g d size : ℕ) (r : Machine) (st m : List ℕ) where
   unfolding rowAt rowFrom
   func-is = refl
 
-  -- what a stretch makes of a statement is right
-  pub right-step : Held t c g size r st m → Right (quickStep t c g d size st s m n (r .top))
+  -- what a plain run makes of a statement is right
+  pub right-step : InFrame t c g size r st m → Right (quickStep t c g d size st s m n (r .top))
   unfolding quickStep
   right-step h =
       either Right n c _ (taken Stays st m) (λ l. either-eq Right (getD t (n * 27 + 1) 0) g _ (taken Stays st m) (λ e. right-form h l (func-is ∙ e)) (λ e. same)) (λ l. same)

@@ -19,9 +19,9 @@ use Rattle.vm_definitions.specs.Frames.{topAtEntry, isReturn, headGood, leavesG
 use Rattle.vm_definitions.specs.Broken.{lowest, orElse, nextBad, frameEnds, rowsUsed, recordGood}
 use Rattle.vm_definitions.specs.declared.Broken.{Broken}
 use Rattle.vm_definitions.specs.declared.Broken.the-variants.{No, At, Somewhere}
-use Rattle.vm_guard.specs.Gate.{rowBad, withinBroken}
+use Rattle.vm_guard.specs.Guard.{rowBad, withinBroken}
 use Rattle.vm_quick_operands.proofs.Good.{Function, function-good, row-within, row-size}
-use Rattle.vm_quick_statements.proofs.Right.{Held, Went}
+use Rattle.vm_quick_statements.proofs.Right.{InFrame, Went}
 use Rattle.prog_tables.proofs.Each.{both-false}
 
 -- ---- rows
@@ -39,7 +39,7 @@ row-fine f c d n i q e = elim (ℕ-discrete i n) [
 
 -- ---- the record
 
-module _ (t : List ℕ) (c g d size : ℕ) (r : Machine) (st m : List ℕ) (h : Held t c g size r st m) (below : r .next < c) (own : rowAt t (r .next) .func ≡ g) where
+module _ (t : List ℕ) (c g d size : ℕ) (r : Machine) (st m : List ℕ) (h : InFrame t c g size r st m) (below : r .next < c) (own : rowAt t (r .next) .func ≡ g) where
   abbrev f : ℕ → Row
   f = rowAt t
 
@@ -108,8 +108,8 @@ module _ (t : List ℕ) (c g d size : ℕ) (r : Machine) (st m : List ℕ) (h : 
         broken-by (p ∷ f p .func ∷ []) (rw (lt-ltb _ _ below, row-within t c g size (h .function) (r .next) own, e, q, k, l))
         (rw (row-fine f c d (r .next) p next-good x, row-fine f c d (r .next) (f p .func) next-good y)) z
 
--- a statement of a stretch
-pub went-fine : (t : List ℕ) (c g d size : ℕ) (r : Machine) (st m : List ℕ) (i end : ℕ) (st′ m′ : List ℕ) → Held t c g size r st m → Went t c g d size r st m i end st′ m′
+-- a statement of a plain run
+pub went-fine : (t : List ℕ) (c g d size : ℕ) (r : Machine) (st m : List ℕ) (i end : ℕ) (st′ m′ : List ℕ) → InFrame t c g size r st m → Went t c g d size r st m i end st′ m′
     → withinBroken Bits32 (rowAt t) c d r st (length m) ≡ No
 went-fine t c g d size r st m i end st′ m′ h w =
     plain-fine t c g d size r st m h (w .below) (w .own) (w .line) (w .good) (w .calls) (w .returns)

@@ -1,4 +1,4 @@
-// A stretch: statements inside one frame that neither call nor return, each taken with few tests. What is not taken is left to the exact step.
+// A plain run: statements inside one frame that neither call nor return, each taken with few tests. What is not taken is left to the exact step.
 use lang_kinds::Kind;
 use prog_tables::OperandKind;
 use prog_tables::StatementRow;
@@ -12,10 +12,10 @@ ghost use lib.ListN.{length, replicate};
 ghost use Rattle.base_prelude.specs.Choice.{ifTrue};
 ghost use Rattle.base_limits.specs.declared.Width.the-variants.{Bits32};
 ghost use Rattle.vm_definitions.specs.Access.{storeFrom};
-ghost use Rattle.vm_definitions.specs.Expressions.{holds};
 ghost use Rattle.prog_tables.specs.Layout.{statementRow};
+ghost use Rattle.vm_definitions.specs.Expressions.{testHolds};
 ghost use Rattle.vm_quick_statements.specs.declared.Move.the-variants.{To};
-ghost use Rattle.vm_quick_statements.specs.Stretch.{taken, stretched, aimed, quickAssign, quickTest, quickJump, quickBlock, quickEnd, threeRead, quickByte, quickWord, storedAt, quickAt, quickForm, quickStep, stretchOf};
+ghost use Rattle.vm_quick_statements.specs.PlainRun.{taken, endedWith, aimed, quickAssign, quickTest, quickJump, quickBlock, quickEnd, threeRead, quickByte, quickWord, storedAt, quickAt, quickForm, quickStep, plainRunOf};
 
 // What became of a statement: it goes on at a statement with an auto top; or nothing happened.
 pub enum Move {
@@ -23,8 +23,8 @@ pub enum Move {
     Stays,
 }
 
-// Where a stretch ends: the next statement, the auto top, and the steps counted.
-pub struct Stretch {
+// Where a plain run ends: the next statement, the auto top, and the steps counted.
+pub struct PlainRun {
     pub next: u32,
     pub top: u32,
     pub count: u64,
@@ -71,7 +71,7 @@ fn is_aimed(t: &[u32], c: u32, g: u32, a: u32) -> bool
 // Where a test of kind k at row n goes with two words; a is its target.
 fn branch(n: u32, top: u32, k: u32, a: u32, x: u32, y: u32) -> Move
     requires { ⌜ n < 4294967295 ⌝ }
-    ensures { λ r. ⌜ r ≡ To (ifTrue (holds Bits32 k x y) (suc n) a) top ⌝ }
+    ensures { λ r. ⌜ r ≡ To (ifTrue (testHolds Bits32 k x y) (suc n) a) top ⌝ }
 {
     if vm_operands::test(k, x, y) {
         return Move::To {
@@ -388,7 +388,7 @@ fn take(
 }
 
 // Statements from row n on, of function g with this frame size, within a budget; s is where the frame starts.
-pub fn run_stretch(
+pub fn run_plain(
     t: &[u32],
     c: u32,
     g: u32,
@@ -400,9 +400,9 @@ pub fn run_stretch(
     m: &mut [u8],
     n: u32,
     top: u32,
-) -> Stretch
+) -> PlainRun
     requires { ⌜ (c * statementRow ≤ length (now t)) × (s + size ≤ length (now st)) × (length (now m) ≤ 65536) ⌝ }
-    ensures { λ r. ⌜ stretched r (now (st .exit)) (now (m .exit)) ≡ stretchOf (now (t .entry)) c g d size s budget (now (st .entry)) (now (m .entry)) n top ⌝ }
+    ensures { λ r. ⌜ endedWith r (now (st .exit)) (now (m .exit)) ≡ plainRunOf (now (t .entry)) c g d size s budget (now (st .entry)) (now (m .entry)) n top ⌝ }
 {
     let mut next = n;
     let mut end = top;
@@ -410,7 +410,7 @@ pub fn run_stretch(
     while count < budget {
         let x = take(t, c, g, d, size, st, s, m, next, end);
         let Move::To { next: i, top: e } = x else {
-            return Stretch {
+            return PlainRun {
                 next: next,
                 top: end,
                 count: count,
@@ -420,7 +420,7 @@ pub fn run_stretch(
         end = e;
         count += 1;
     }
-    Stretch {
+    PlainRun {
         next: next,
         top: end,
         count: count,

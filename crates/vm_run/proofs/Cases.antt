@@ -20,11 +20,11 @@ use Rattle.prog_tables.specs.Statement.{Row, rowAt}
 use Rattle.prog_tables.specs.Label.{Tables, rows}
 use Rattle.prog_tables.specs.Faults.{countFault}
 use Rattle.vm_counts.proofs.Cases.{count-any}
-use Rattle.vm_guard.specs.Gate.{withinBroken}
+use Rattle.vm_guard.specs.Guard.{withinBroken}
 use Rattle.vm_guard.specs.Passed.{Passed}
 use Rattle.vm_guard.proofs.Passed.{passed, step-broken}
 use Rattle.vm_definitions.specs.Broken.{stepBroken}
-use Rattle.vm_definitions.specs.Step.{World, After, Effect, idle, gated, inState, effected, counting, effectOf, stepOf, runOf}
+use Rattle.vm_definitions.specs.Step.{World, After, Effect, idle, guarded, inState, effected, counting, effectOf, stepOf, runOf}
 use Rattle.vm_definitions.specs.Lent.{tablesOf, world, left}
 use Rattle.vm_definitions.specs.declared.Outcome.{Outcome}
 use Rattle.vm_definitions.specs.declared.Broken.{Broken}
@@ -32,14 +32,14 @@ use Rattle.vm_definitions.specs.declared.Broken.the-variants.{No, At, Somewhere
 use Rattle.vm_calls.specs.Outcomes as outcomes
 use Rattle.vm_statements.specs.Ready.{Ready}
 use Rattle.vm_definitions.specs.Step.{movedTo}
-use Rattle.vm_guard.specs.Framed.{heldSize}
-use Rattle.vm_quick_statements.specs.Stretch.{stretched, stretchOf}
-use Rattle.vm_quick_statements.specs.declared.Stretch.{Stretch}
-use Rattle.vm_quick_statements.proofs.Right.{Held}
-use Rattle.vm_quick_calls.specs.Turns.{Turned, turned, turnOf}
-use Rattle.vm_quick_calls.specs.declared.Turn.{Turn}
-use Rattle.vm_quick_calls.specs.declared.Turn.the-variants.{To, Stays}
-use Rattle.vm_run.specs.Steps.{usableSize, after, endBy, stretchEnd, heldBy, heldSteps, someSteps}
+use Rattle.vm_guard.specs.FrameInUse.{goodFrameSize}
+use Rattle.vm_quick_statements.specs.PlainRun.{endedWith, plainRunOf}
+use Rattle.vm_quick_statements.specs.declared.PlainRun.{PlainRun}
+use Rattle.vm_quick_statements.proofs.Right.{InFrame}
+use Rattle.vm_quick_calls.specs.Transfers.{Transferred, transferred, transferOf}
+use Rattle.vm_quick_calls.specs.declared.Transfer.{Transfer}
+use Rattle.vm_quick_calls.specs.declared.Transfer.the-variants.{To, Stays}
+use Rattle.vm_run.specs.Steps.{usableSize, after, endBy, plainRunEnd, stepsInFrameBy, stepsInFrame, someSteps}
 use Rattle.vm_run.proofs.Several.{count-none, count-add, usable-good, Several, several}
 use Rattle.vm_run.specs.Within.{givenBack, isRunning, takenStep, withinStep, withinRun}
 use Rattle.prog_tables.proofs.Each.{one-no}
@@ -55,15 +55,15 @@ take-ready t c d r st m b e h = ready (passed (rowAt t) c d r st m (sym e ∙ h)
 
 module _ (t : List ℕ) (c d : ℕ) (r : Machine) (st m : List ℕ) (b : Broken) (e : b ≡ withinBroken Bits32 (rowAt t) c d r st (length m)) where
   pub take-on : (o : Outcome) (st′ m′ : List ℕ) → b ≡ No → left o st′ m′ ≡ outcomes.after effectOf t c r st m → left o st′ m′ ≡ takenStep t c d (world r st m)
-  unfolding takenStep gated
+  unfolding takenStep guarded
   take-on o st′ m′ h q = rw (← e, h) q
 
   pub take-at : (i : ℕ) (o : Outcome) → b ≡ At i → o ≡ givenBack r (At i) → left o st m ≡ takenStep t c d (world r st m)
-  unfolding takenStep gated idle
+  unfolding takenStep guarded idle
   take-at i o h q = rw (← e, h, q)
 
   pub take-nowhere : (o : Outcome) → b ≡ Somewhere → o ≡ givenBack r Somewhere → left o st m ≡ takenStep t c d (world r st m)
-  unfolding takenStep gated idle
+  unfolding takenStep guarded idle
   take-nowhere o h q = rw (← e, h, q)
 
 pub ruleset taking = (take-on, take-at, take-nowhere)
@@ -84,7 +84,7 @@ pub ruleset within = (within-on, within-idle)
 -- ---- several steps at once
 
 module _ (f : ℕ → Row) (c m : ℕ) (r : Machine) (st : List ℕ) (b : Bool) (e : b ≡ isRunning (r .state)) where
-  pub usable-on : (z : ℕ) → b ≡ true → z ≡ heldSize f c m r st → z ≡ usableSize f c m r st
+  pub usable-on : (z : ℕ) → b ≡ true → z ≡ goodFrameSize f c m r st → z ≡ usableSize f c m r st
   unfolding usableSize ifTrue
   usable-on z h q = rw (← e, h) q
 
@@ -94,49 +94,49 @@ module _ (f : ℕ → Row) (c m : ℕ) (r : Machine) (st : List ℕ) (b : Bool) 
 
 pub ruleset usable = (usable-on, usable-off)
 
-module _ (t : List ℕ) (c g d size : ℕ) (r : Machine) (k : ℕ) (st m : List ℕ) (y : Turn) (st′ : List ℕ)
-    (e : turned y st′ ≡ turnOf t c g d size st (r .frame) (r .used) m (r .next) (r .top)) where
-  by-turn : stretchEnd t c d g size k (world r st m) ≡ endBy t c d k (world r st m) y st′
-  unfolding stretchEnd
-  by-turn = ap (λ (x : Turned). endBy t c d k (world r st m) (x .move) (x .stack)) (sym e)
+module _ (t : List ℕ) (c g d size : ℕ) (r : Machine) (k : ℕ) (st m : List ℕ) (y : Transfer) (st′ : List ℕ)
+    (e : transferred y st′ ≡ transferOf t c g d size st (r .frame) (r .used) m (r .next) (r .top)) where
+  by-transfer : plainRunEnd t c d g size k (world r st m) ≡ endBy t c d k (world r st m) y st′
+  unfolding plainRunEnd
+  by-transfer = ap (λ (x : Transferred). endBy t c d k (world r st m) (x .move) (x .stack)) (sym e)
 
-  pub end-turns : (next frame used top : ℕ) (q : Machine) → y ≡ To next frame used top → q ≡ movedTo r next frame used top
-      → left (record { machine = q; count = k + 1; broken = No }) st′ m ≡ stretchEnd t c d g size k (world r st m)
+  pub end-transfers : (next frame used top : ℕ) (q : Machine) → y ≡ To next frame used top → q ≡ movedTo r next frame used top
+      → left (record { machine = q; count = k + 1; broken = No }) st′ m ≡ plainRunEnd t c d g size k (world r st m)
   unfolding endBy
-  end-turns next frame used top q h p = sym (by-turn ∙ rw (h, p))
+  end-transfers next frame used top q h p = sym (by-transfer ∙ rw (h, p))
 
-  pub end-rests : y ≡ Stays → 0 < k → left (record { machine = r; count = k; broken = No }) st′ m ≡ stretchEnd t c d g size k (world r st m)
+  pub end-rests : y ≡ Stays → 0 < k → left (record { machine = r; count = k; broken = No }) st′ m ≡ plainRunEnd t c d g size k (world r st m)
   unfolding endBy ifLt
-  end-rests h l = sym (by-turn ∙ rw (h, lt-ltb 0 k l))
+  end-rests h l = sym (by-transfer ∙ rw (h, lt-ltb 0 k l))
 
-  pub end-steps : (o : Outcome) (st″ m″ : List ℕ) → y ≡ Stays → k ≤ 0 → left o st″ m″ ≡ withinStep t c d (world r st′ m) → left o st″ m″ ≡ stretchEnd t c d g size k (world r st m)
+  pub end-steps : (o : Outcome) (st″ m″ : List ℕ) → y ≡ Stays → k ≤ 0 → left o st″ m″ ≡ withinStep t c d (world r st′ m) → left o st″ m″ ≡ plainRunEnd t c d g size k (world r st m)
   unfolding endBy ifLt
-  end-steps o st″ m″ h l q = sym (by-turn ∙ rw (h, le-ltb 0 k l) (sym q))
+  end-steps o st″ m″ h l q = sym (by-transfer ∙ rw (h, le-ltb 0 k l) (sym q))
 
-pub ruleset stretch-ends = (end-turns, end-rests, end-steps)
+pub ruleset plain-ends = (end-transfers, end-rests, end-steps)
 
-module _ (t : List ℕ) (c d size budget : ℕ) (r : Machine) (st m : List ℕ) (g : ℕ) (x : Stretch) (st′ m′ : List ℕ) (q : Machine) (i : g ≡ rowAt t (r .next) .func)
-    (e : stretched x st′ m′ ≡ stretchOf t c g d size (r .frame) budget st m (r .next) (r .top)) (h : q ≡ movedTo r (x .next) (r .frame) (r .used) (x .top)) where
-  by-stretch : heldSteps t c d size budget (world r st m)
-      ≡ ifLt (x .count) budget (stretchEnd t c d g size (x .count) (world q st′ m′)) (after (world q st′ m′) (x .count))
-  unfolding heldSteps heldBy
-  by-stretch =
-      ap (λ (j : ℕ). heldBy t c d j size budget r (stretchOf t c j d size (r .frame) budget st m (r .next) (r .top))) (sym i)
-      ∙ ap (heldBy t c d g size budget r) (sym e)
-      ∙ ap (λ (z : Machine). ifLt (x .count) budget (stretchEnd t c d g size (x .count) (world z st′ m′)) (after (world z st′ m′) (x .count))) (sym h)
+module _ (t : List ℕ) (c d size budget : ℕ) (r : Machine) (st m : List ℕ) (g : ℕ) (x : PlainRun) (st′ m′ : List ℕ) (q : Machine) (i : g ≡ rowAt t (r .next) .func)
+    (e : endedWith x st′ m′ ≡ plainRunOf t c g d size (r .frame) budget st m (r .next) (r .top)) (h : q ≡ movedTo r (x .next) (r .frame) (r .used) (x .top)) where
+  by-plain : stepsInFrame t c d size budget (world r st m)
+      ≡ ifLt (x .count) budget (plainRunEnd t c d g size (x .count) (world q st′ m′)) (after (world q st′ m′) (x .count))
+  unfolding stepsInFrame stepsInFrameBy
+  by-plain =
+      ap (λ (j : ℕ). stepsInFrameBy t c d j size budget r (plainRunOf t c j d size (r .frame) budget st m (r .next) (r .top))) (sym i)
+      ∙ ap (stepsInFrameBy t c d g size budget r) (sym e)
+      ∙ ap (λ (z : Machine). ifLt (x .count) budget (plainRunEnd t c d g size (x .count) (world z st′ m′)) (after (world z st′ m′) (x .count))) (sym h)
 
-  pub held-ends : (o : Outcome) (st″ m″ : List ℕ) → x .count < budget → left o st″ m″ ≡ stretchEnd t c d g size (x .count) (world q st′ m′)
-      → left o st″ m″ ≡ heldSteps t c d size budget (world r st m)
+  pub in-frame-ends : (o : Outcome) (st″ m″ : List ℕ) → x .count < budget → left o st″ m″ ≡ plainRunEnd t c d g size (x .count) (world q st′ m′)
+      → left o st″ m″ ≡ stepsInFrame t c d size budget (world r st m)
   unfolding ifLt
-  held-ends o st″ m″ l p = sym (by-stretch ∙ rw (lt-ltb _ _ l) (sym p))
+  in-frame-ends o st″ m″ l p = sym (by-plain ∙ rw (lt-ltb _ _ l) (sym p))
 
-  pub held-whole : budget ≤ x .count → left (record { machine = q; count = x .count; broken = No }) st′ m′ ≡ heldSteps t c d size budget (world r st m)
+  pub in-frame-whole : budget ≤ x .count → left (record { machine = q; count = x .count; broken = No }) st′ m′ ≡ stepsInFrame t c d size budget (world r st m)
   unfolding ifLt
-  held-whole l = sym (by-stretch ∙ rw (le-ltb _ _ l))
+  in-frame-whole l = sym (by-plain ∙ rw (le-ltb _ _ l))
 
-pub ruleset held = (held-ends, held-whole)
+pub ruleset in-frame = (in-frame-ends, in-frame-whole)
 
--- the record that a stretch leaves stands in the same frame
+-- the record that a plain run leaves stands in the same frame
 pub moved-room : (r q : Machine) (n top size : ℕ) (st st′ : List ℕ) → q ≡ movedTo r n (r .frame) (r .used) top → r .frame + size ≤ length st → length st′ ≡ length st → q .frame + size ≤ length st′
 unfolding movedTo
 moved-room r q n top size st st′ e l h = rw (e, h) l
@@ -146,24 +146,24 @@ module _ (t : List ℕ) (c d budget : ℕ) (r : Machine) (st m : List ℕ) (z : 
   unfolding someSteps ifEq
   some-exact o st′ m′ h q = rw (← e, h) q
 
-  pub some-held : (o : Outcome) (st′ m′ : List ℕ) → (z ≡ 0 → ⊥) → left o st′ m′ ≡ heldSteps t c d z budget (world r st m) → left o st′ m′ ≡ someSteps t c d budget (world r st m)
+  pub some-in-frame : (o : Outcome) (st′ m′ : List ℕ) → (z ≡ 0 → ⊥) → left o st′ m′ ≡ stepsInFrame t c d z budget (world r st m) → left o st′ m′ ≡ someSteps t c d budget (world r st m)
   unfolding someSteps ifEq
-  some-held o st′ m′ h q = rw (← e, ne-eqb z 0 h) q
+  some-in-frame o st′ m′ h q = rw (← e, ne-eqb z 0 h) q
 
   module _ (h : z ≡ 0 → ⊥) where
-    usable-held : Held t c (rowAt t (r .next) .func) z r st m
-    usable-held = usable-good t c r st m z (sym e) h
+    usable-in-frame : InFrame t c (rowAt t (r .next) .func) z r st m
+    usable-in-frame = usable-good t c r st m z (sym e) h
 
     pub usable-room : r .frame + z ≤ length st
-    usable-room = let x = usable-held in omega (arith, x .ends, x .room)
+    usable-room = let x = usable-in-frame in omega (arith, x .ends, x .room)
 
     pub usable-stack : length st ≤ 16384
-    usable-stack = usable-held .stack
+    usable-stack = usable-in-frame .stack
 
     pub usable-memory : length m ≤ 65536
-    usable-memory = usable-held .memory
+    usable-memory = usable-in-frame .memory
 
-pub ruleset somes = (some-exact, some-held)
+pub ruleset somes = (some-exact, some-in-frame)
 
 -- ---- a run over tables whose counts are good
 
@@ -246,7 +246,7 @@ module _ (t : List ℕ) (c : ℕ) (l : List ℕ) (k : ℕ) (names : List ℕ) (d
   unfolding stepOf withinStep takenStep ifTrue
   step-is x e =
       in-state (x .machine .state) _ _
-      ∙ ap (λ (b : Broken). ifTrue (isRunning (x .machine .state)) (gated x (effectOf Bits32 (rowAt t) c x) b) (idle x No))
+      ∙ ap (λ (b : Broken). ifTrue (isRunning (x .machine .state)) (guarded x (effectOf Bits32 (rowAt t) c x) b) (idle x No))
       (step-broken Bits32 T (x .machine) (x .stack) (length (x .memory)) ∙ ifTrue-no Somewhere (withinBroken Bits32 (rowAt t) c d (x .machine) (x .stack) (length (x .memory))) e)
 
   run-is : (b : ℕ) (x : World) → countFault T ≡ false → runOf Bits32 T b x ≡ withinRun t c d b x
@@ -278,10 +278,10 @@ module _ (t : List ℕ) (c : ℕ) (l : List ℕ) (k : ℕ) (names : List ℕ) (d
       fault = sym (g ∙ count-any t c l k names d)
 
       pub step-fault : (o : Outcome) → f ≡ true → o ≡ givenBack r Somewhere → left o st m ≡ stepOf Bits32 T (world r st m)
-      unfolding stepOf idle gated
+      unfolding stepOf idle guarded
       step-fault o i q =
           ap (λ (z : Outcome). left z st m) q
-          ∙ ap (gated (world r st m) (effectOf Bits32 (rowAt t) c (world r st m)))
+          ∙ ap (guarded (world r st m) (effectOf Bits32 (rowAt t) c (world r st m)))
           (sym (step-broken Bits32 T r st (length m) ∙ ifTrue-yes Somewhere (withinBroken Bits32 (rowAt t) c d r st (length m)) (fault ∙ i)))
           ∙ sym (in-state (r .state) _ _ ∙ ifTrue-yes _ (idle (world r st m) No) (sym e ∙ h))
 

@@ -14,25 +14,25 @@ use Rattle.base_limits.specs.declared.State.the-variants.{Running, Finished, St
 use Rattle.base_limits.specs.declared.Machine.{Machine}
 use Rattle.prog_tables.specs.Statement.{Row, rowAt}
 use Rattle.vm_definitions.specs.Frames.{isFirst, calledFrom, headGood}
-use Rattle.vm_definitions.specs.Step.{World, After, Effect, stops, leaves, goingOn, movedTo, idle, gated, effected, counting, effectOf}
+use Rattle.vm_definitions.specs.Step.{World, After, Effect, stops, leaves, goingOn, movedTo, idle, guarded, effected, counting, effectOf}
 use Rattle.vm_definitions.specs.Lent.{world}
 use Rattle.vm_definitions.specs.declared.Broken.{Broken}
 use Rattle.vm_definitions.specs.declared.Broken.the-variants.{No, At, Somewhere}
-use Rattle.vm_guard.specs.Gate.{withinBroken}
-use Rattle.vm_guard.specs.Framed.{framed, heldSize}
+use Rattle.vm_guard.specs.Guard.{withinBroken}
+use Rattle.vm_guard.specs.FrameInUse.{frameGood, goodFrameSize}
 use Rattle.vm_quick_operands.specs.Fast.{sizeOf}
 use Rattle.vm_quick_operands.proofs.Good.{Function, size-function}
-use Rattle.vm_quick_statements.specs.Stretch.{Taken, quickStep, Ended, adding, onMove, stretchOf}
+use Rattle.vm_quick_statements.specs.PlainRun.{Taken, quickStep, Ended, adding, onMove, plainRunOf}
 use Rattle.vm_quick_statements.specs.declared.Move.{Move}
 use Rattle.vm_quick_statements.specs.declared.Move.the-variants as move
-use Rattle.vm_quick_statements.proofs.Right.{Held, Went, Same, RightBy, right-step}
+use Rattle.vm_quick_statements.proofs.Right.{InFrame, Went, Same, RightBy, right-step}
 use Rattle.vm_quick_statements.proofs.Unbroken.{went-fine}
-use Rattle.vm_quick_calls.specs.Turns.{Turned, turnOf}
-use Rattle.vm_quick_calls.specs.declared.Turn.{Turn}
-use Rattle.vm_quick_calls.specs.declared.Turn.the-variants.{To, Stays}
-use Rattle.vm_quick_calls.proofs.Right as turning
+use Rattle.vm_quick_calls.specs.Transfers.{Transferred, transferOf}
+use Rattle.vm_quick_calls.specs.declared.Transfer.{Transfer}
+use Rattle.vm_quick_calls.specs.declared.Transfer.the-variants.{To, Stays}
+use Rattle.vm_quick_calls.proofs.Right as transferring
 use Rattle.vm_run.specs.Within.{isRunning, takenStep, withinStep, withinRun}
-use Rattle.vm_run.specs.Steps.{usableSize, after, ends, endBy, stretchEnd, heldBy, heldSteps, someSteps}
+use Rattle.vm_run.specs.Steps.{usableSize, after, ends, endBy, plainRunEnd, stepsInFrameBy, stepsInFrame, someSteps}
 
 -- ---- counts
 
@@ -57,11 +57,11 @@ module _ (t : List ℕ) (c : ℕ) (r : Machine) (st m : List ℕ) (z : ℕ) wher
   g = rowAt t (r .next) .func
 
   abbrev Holds : Type 0
-  Holds = Held t c g z r st m
+  Holds = InFrame t c g z r st m
 
-  framed-held : r .state ≡ Running → (z ≡ 0 → ⊥) → sizeOf (rowAt t) c g ≡ z → framed (rowAt t) c (length m) r z st ≡ true → Holds
-  unfolding framed
-  framed-held s n e =
+  frame-good-in-frame : r .state ≡ Running → (z ≡ 0 → ⊥) → sizeOf (rowAt t) c g ≡ z → frameGood (rowAt t) c (length m) r z st ≡ true → Holds
+  unfolding frameGood
+  frame-good-in-frame s n e =
       either (λ (b : Bool). b ≡ true → Holds) (length m) (r .top) false _ (λ l q. true-false (sym q))
       (λ o. either (λ (b : Bool). b ≡ true → Holds) 65536 (length m) false _ (λ l q. true-false (sym q))
       (λ p. either (λ (b : Bool). b ≡ true → Holds) 16384 (length st) false _ (λ l q. true-false (sym q))
@@ -82,20 +82,20 @@ module _ (t : List ℕ) (c : ℕ) (r : Machine) (st m : List ℕ) (z : ℕ) wher
   none : 0 ≡ z → (z ≡ 0 → ⊥) → Holds
   none e n = absurd (n (sym e))
 
-  held-is : r .state ≡ Running → (z ≡ 0 → ⊥) → heldSize (rowAt t) c (length m) r st ≡ z → Holds
-  unfolding heldSize
-  held-is s n =
+  in-frame-is : r .state ≡ Running → (z ≡ 0 → ⊥) → goodFrameSize (rowAt t) c (length m) r st ≡ z → Holds
+  unfolding goodFrameSize
+  in-frame-is s n =
       either (λ (x : ℕ). x ≡ z → Holds) (r .next) c _ 0
-      (λ l. either-true (λ (x : ℕ). x ≡ z → Holds) (framed (rowAt t) c (length m) r (sizeOf (rowAt t) c g) st) (sizeOf (rowAt t) c g) 0
-      (λ q e. framed-held s n e (subst (λ (x : ℕ). framed (rowAt t) c (length m) r x st ≡ true) e q)) (λ q e. none e n))
+      (λ l. either-true (λ (x : ℕ). x ≡ z → Holds) (frameGood (rowAt t) c (length m) r (sizeOf (rowAt t) c g) st) (sizeOf (rowAt t) c g) 0
+      (λ q e. frame-good-in-frame s n e (subst (λ (x : ℕ). frameGood (rowAt t) c (length m) r x st ≡ true) e q)) (λ q e. none e n))
       (λ l e. none e n)
 
   -- a running record in a frame of some words stands in a good frame
   pub usable-good : usableSize (rowAt t) c (length m) r st ≡ z → (z ≡ 0 → ⊥) → Holds
   unfolding usableSize
   usable-good e n =
-      either-true (λ (x : ℕ). x ≡ z → Holds) (isRunning (r .state)) (heldSize (rowAt t) c (length m) r st) 0
-      (λ s q. held-is (running-is (r .state) s) n q) (λ s q. none q n) e
+      either-true (λ (x : ℕ). x ≡ z → Holds) (isRunning (r .state)) (goodFrameSize (rowAt t) c (length m) r st) 0
+      (λ s q. in-frame-is (running-is (r .state) s) n q) (λ s q. none q n) e
 
 -- ---- one step
 
@@ -106,7 +106,7 @@ module _ (t : List ℕ) (c d : ℕ) where
 
   taken-leaves : (x y : World) → withinBroken Bits32 (rowAt t) c d (x .machine) (x .stack) (length (x .memory)) ≡ No → effectOf Bits32 (rowAt t) c x ≡ leaves y
       → takenStep t c d x ≡ after y 1
-  unfolding takenStep gated effected
+  unfolding takenStep guarded effected
   taken-leaves x y b e = rw (b, e)
 
   step-leaves : (r : Machine) (st m : List ℕ) (y : World) → r .state ≡ Running → withinBroken Bits32 (rowAt t) c d r st (length m) ≡ No
@@ -116,29 +116,29 @@ module _ (t : List ℕ) (c d : ℕ) where
       ifTrue-yes (takenStep t c d (world r st m)) (idle (world r st m) No) (runs-on (r .state) s) ∙ taken-leaves (world r st m) y b e
 
   -- a step counts one at most
-  gated-low : (x : World) (e : Effect) (b : Broken) → gated x e b .count ≤ 1
-  unfolding gated effected idle
-  gated-low x (stops k) No = omega arith
-  gated-low x (leaves y) No = omega arith
-  gated-low x e (At i) = omega arith
-  gated-low x e Somewhere = omega arith
+  guarded-low : (x : World) (e : Effect) (b : Broken) → guarded x e b .count ≤ 1
+  unfolding guarded effected idle
+  guarded-low x (stops k) No = omega arith
+  guarded-low x (leaves y) No = omega arith
+  guarded-low x e (At i) = omega arith
+  guarded-low x e Somewhere = omega arith
 
   step-low : (x : World) → withinStep t c d x .count ≤ 1
   unfolding withinStep takenStep idle
   step-low x =
-      either-true (λ (y : After). y .count ≤ 1) (isRunning (x .machine .state)) _ _ (λ s. gated-low x _ _) (λ s. omega arith)
+      either-true (λ (y : After). y .count ≤ 1) (isRunning (x .machine .state)) _ _ (λ s. guarded-low x _ _) (λ s. omega arith)
 
   run-one : (b : ℕ) (x y : World) → withinStep t c d x ≡ after y 1 → withinRun t c d (suc b) x ≡ counting 1 (withinRun t c d b y)
   unfolding withinRun ifEq
   run-one b x y e = rw e
 
-  -- ---- a stretch
+  -- ---- a plain run
 
   -- the steps of a run so far, and where the record stands
-  record Stretched (g size b : ℕ) (x y : World) (k : ℕ) : Type 0 where
+  record PlainRuns (g size b : ℕ) (x y : World) (k : ℕ) : Type 0 where
     bound : k ≤ b
     runs : withinRun t c d b x ≡ counting k (withinRun t c d (b - k) y)
-    held : Held t c g size (y .machine) (y .stack) (y .memory)
+    in-frame : InFrame t c g size (y .machine) (y .stack) (y .memory)
 
   head-same : (st st′ : List ℕ) (s : ℕ) → getD st′ s 0 ≡ getD st s 0 → getD st′ (s + 1) 0 ≡ getD st (s + 1) 0 → headGood Bits32 (rowAt t) c st s ≡ true
       → headGood Bits32 (rowAt t) c st′ s ≡ true
@@ -146,9 +146,9 @@ module _ (t : List ℕ) (c d : ℕ) where
   head-same st st′ s e q h = rw (e, q) h
 
   module _ (g size : ℕ) where
-    held-on : (r : Machine) (st m : List ℕ) (i end : ℕ) (st′ m′ : List ℕ) → Held t c g size r st m → Went t c g d size r st m i end st′ m′ → Held t c g size (goingOn r i end) st′ m′
+    in-frame-on : (r : Machine) (st m : List ℕ) (i end : ℕ) (st′ m′ : List ℕ) → InFrame t c g size r st m → Went t c g d size r st m i end st′ m′ → InFrame t c g size (goingOn r i end) st′ m′
     unfolding goingOn
-    held-on r st m i end st′ m′ h w =
+    in-frame-on r st m i end st′ m′ h w =
         record {
           state = h .state;
           function = h .function;
@@ -160,28 +160,28 @@ module _ (t : List ℕ) (c d : ℕ) where
           head = head-same st st′ (r .frame) (w .first) (w .second) (h .head);
         }
 
-    went-step : (r : Machine) (st m : List ℕ) (i end : ℕ) (st′ m′ : List ℕ) → Held t c g size r st m → Went t c g d size r st m i end st′ m′
+    went-step : (r : Machine) (st m : List ℕ) (i end : ℕ) (st′ m′ : List ℕ) → InFrame t c g size r st m → Went t c g d size r st m i end st′ m′
         → withinStep t c d (world r st m) ≡ after (world (goingOn r i end) st′ m′) 1
     went-step r st m i end st′ m′ h w = step-leaves r st m (world (goingOn r i end) st′ m′) (h .state) (went-fine t c g d size r st m i end st′ m′ h w) (w .effect)
 
-    stand : (b : ℕ) (r : Machine) (st m : List ℕ) → Held t c g size r st m
-        → Stretched g size b (world r st m) (ends t c d r (record { next = r .next; top = r .top; count = 0; stack = st; memory = m })) 0
+    stand : (b : ℕ) (r : Machine) (st m : List ℕ) → InFrame t c g size r st m
+        → PlainRuns g size b (world r st m) (ends t c d r (record { next = r .next; top = r .top; count = 0; stack = st; memory = m })) 0
     unfolding movedTo
     stand b r st m h =
         let z : b - 0 ≡ b = omega arith in
         record {
           bound = omega arith;
           runs = sym (count-none _ ∙ ap (λ (n : ℕ). withinRun t c d n (world r st m)) z);
-          held = h;
+          in-frame = h;
         }
 
-    -- where a stretch from a record, a stack and a memory ends
+    -- where a plain run from a record, a stack and a memory ends
     abbrev ended : ℕ → Machine → List ℕ → List ℕ → Ended
-    ended b r st m = stretchOf t c g d size (r .frame) b st m (r .next) (r .top)
+    ended b r st m = plainRunOf t c g d size (r .frame) b st m (r .next) (r .top)
 
-    -- that a stretch of so many steps is steps of a run
+    -- that a plain run of so many steps is steps of a run
     abbrev Right : ℕ → Machine → List ℕ → List ℕ → Ended → Type 0
-    Right b r st m e = Stretched g size b (world r st m) (ends t c d r e) (e .count)
+    Right b r st m e = PlainRuns g size b (world r st m) (ends t c d r e) (e .count)
 
     one-more : (b : ℕ) (r : Machine) (st m : List ℕ) (i end : ℕ) (st′ m′ : List ℕ) (e : Ended) → withinStep t c d (world r st m) ≡ after (world (goingOn r i end) st′ m′) 1
         → Right b (goingOn r i end) st′ m′ e → Right (suc b) r st m (adding 1 e)
@@ -195,23 +195,23 @@ module _ (t : List ℕ) (c d : ℕ) where
               ∙ ap (counting 1) (s .runs)
               ∙ sym (count-add 1 (e .count) _)
               ∙ ap (λ (n : ℕ). counting (1 + e .count) (withinRun t c d n (ends t c d (goingOn r i end) e))) (sym z);
-          held = s .held;
+          in-frame = s .in-frame;
         }
 
     -- by what became of the first statement
-    from-move : (b : ℕ) (r : Machine) (st m : List ℕ) → Held t c g size r st m → (x : Move) (st′ m′ : List ℕ)
-        → ((r : Machine) (st m : List ℕ) → Held t c g size r st m → Right b r st m (ended b r st m)) → RightBy t c g d size r st m x st′ m′
+    from-move : (b : ℕ) (r : Machine) (st m : List ℕ) → InFrame t c g size r st m → (x : Move) (st′ m′ : List ℕ)
+        → ((r : Machine) (st m : List ℕ) → InFrame t c g size r st m → Right b r st m (ended b r st m)) → RightBy t c g d size r st m x st′ m′
         → Right (suc b) r st m
-        (onMove x (record { next = r .next; top = r .top; count = 0; stack = st′; memory = m′ }) (λ i e. adding 1 (stretchOf t c g d size (r .frame) b st′ m′ i e)))
+        (onMove x (record { next = r .next; top = r .top; count = 0; stack = st′; memory = m′ }) (λ i e. adding 1 (plainRunOf t c g d size (r .frame) b st′ m′ i e)))
     unfolding onMove RightBy goingOn
     from-move b r st m h (move.To i end) st′ m′ go w =
-        one-more b r st m i end st′ m′ _ (went-step r st m i end st′ m′ h w) (go (goingOn r i end) st′ m′ (held-on r st m i end st′ m′ h w))
+        one-more b r st m i end st′ m′ _ (went-step r st m i end st′ m′ h w) (go (goingOn r i end) st′ m′ (in-frame-on r st m i end st′ m′ h w))
     from-move b r st m h move.Stays st′ m′ go w = rw (w .stack, w .memory) (stand (suc b) r st m h)
 
-    stretched : (b : ℕ) (r : Machine) (st m : List ℕ) → Held t c g size r st m → Right b r st m (ended b r st m)
-    unfolding stretchOf
-    stretched zero r st m h = stand 0 r st m h
-    stretched (suc b) r st m h = from-move b r st m h _ _ _ (stretched b) (right-step t c g d size r st m h)
+    plain-runs : (b : ℕ) (r : Machine) (st m : List ℕ) → InFrame t c g size r st m → Right b r st m (ended b r st m)
+    unfolding plainRunOf
+    plain-runs zero r st m h = stand 0 r st m h
+    plain-runs (suc b) r st m h = from-move b r st m h _ _ _ (plain-runs b) (right-step t c g d size r st m h)
 
   -- ---- several steps
 
@@ -236,8 +236,8 @@ module _ (t : List ℕ) (c d : ℕ) where
         stops = λ n. ifEq-yes (withinStep t c d x) (counting 1 (withinRun t c d b (withinStep t c d x .world))) n;
       }
 
-  module _ (g size b : ℕ) (x y : World) (k : ℕ) (s : Stretched g size b x y k) where
-    -- the stretch alone
+  module _ (g size b : ℕ) (x y : World) (k : ℕ) (s : PlainRuns g size b x y k) where
+    -- the plain run alone
     alone : 0 < k → Several b x (after y k)
     alone l = record { bound = s .bound; runs = λ n. s .runs; stops = λ n. absurd (omega (arith, l, n)) }
 
@@ -255,7 +255,7 @@ module _ (t : List ℕ) (c d : ℕ) where
           stops = λ n. absurd (let z : k + 1 ≡ 0 = n in omega (arith, z));
         }
 
-    -- a stretch of no step
+    -- a plain run of no step
     nothing : k ≡ 0 → (z : After) → Several b y z → Several b x z
     nothing e z v =
         let same : withinRun t c d b x ≡ withinRun t c d b y =
@@ -265,29 +265,29 @@ module _ (t : List ℕ) (c d : ℕ) where
         ∙ ap (λ (i : ℕ). withinRun t c d i y) (let q : b - 0 ≡ b = omega arith in q) in
         record { bound = v .bound; runs = λ n. same ∙ v .runs n; stops = λ n. same ∙ v .stops n }
 
-    rests : (v : Turn) (st′ : List ℕ) → k < b → turning.RightBy t c g d size (y .machine) (y .stack) (y .memory) v st′ → Several b x (endBy t c d k y v st′)
-    unfolding turning.RightBy endBy
-    rests (To i frame used end) st′ l w = further _ l (step-leaves (y .machine) (y .stack) (y .memory) _ (s .held .state) (w .fine) (w .effect))
+    rests : (v : Transfer) (st′ : List ℕ) → k < b → transferring.RightBy t c g d size (y .machine) (y .stack) (y .memory) v st′ → Several b x (endBy t c d k y v st′)
+    unfolding transferring.RightBy endBy
+    rests (To i frame used end) st′ l w = further _ l (step-leaves (y .machine) (y .stack) (y .memory) _ (s .in-frame .state) (w .fine) (w .effect))
     rests Stays st′ l w =
         rw w
         (either (Several b x) 0 k (after y k) (withinStep t c d y) (λ p. alone p)
         (λ p. nothing (omega (arith, p)) (withinStep t c d y) (exact b y (omega (arith, l)))))
 
-    stretch-end : c < 4294967296 → k < b → Several b x (stretchEnd t c d g size k y)
-    unfolding stretchEnd
-    stretch-end small l = rests _ _ l (turning.right-turn t c g d size (y .machine) (y .stack) (y .memory) small (s .held))
+    plain-end : c < 4294967296 → k < b → Several b x (plainRunEnd t c d g size k y)
+    unfolding plainRunEnd
+    plain-end small l = rests _ _ l (transferring.right-transfer t c g d size (y .machine) (y .stack) (y .memory) small (s .in-frame))
 
-  held-by : c < 4294967296 → (g size b : ℕ) (r : Machine) (st m : List ℕ) → 0 < b → Held t c g size r st m → (e : Ended) → Stretched g size b (world r st m) (ends t c d r e) (e .count)
-      → Several b (world r st m) (heldBy t c d g size b r e)
-  unfolding heldBy
-  held-by small g size b r st m p h e s =
-      either (Several b (world r st m)) (e .count) b _ _ (λ l. stretch-end g size b (world r st m) (ends t c d r e) (e .count) s small l)
+  in-frame-by : c < 4294967296 → (g size b : ℕ) (r : Machine) (st m : List ℕ) → 0 < b → InFrame t c g size r st m → (e : Ended) → PlainRuns g size b (world r st m) (ends t c d r e) (e .count)
+      → Several b (world r st m) (stepsInFrameBy t c d g size b r e)
+  unfolding stepsInFrameBy
+  in-frame-by small g size b r st m p h e s =
+      either (Several b (world r st m)) (e .count) b _ _ (λ l. plain-end g size b (world r st m) (ends t c d r e) (e .count) s small l)
       (λ l. alone g size b (world r st m) (ends t c d r e) (e .count) s (omega (arith, l, p)))
 
   -- what is taken at once is the first steps of a run, or all it does
   pub several : c < 4294967296 → (b : ℕ) (r : Machine) (st m : List ℕ) → 0 < b → Several b (world r st m) (someSteps t c d b (world r st m))
-  unfolding someSteps heldSteps
+  unfolding someSteps stepsInFrame
   several small b r st m p =
       either-eq (Several b (world r st m)) (usableSize (rowAt t) c (length m) r st) 0 _ _ (λ e. exact b (world r st m) p)
       (λ n. let h = usable-good t c r st m (usableSize (rowAt t) c (length m) r st) refl n in
-      held-by small (rowAt t (r .next) .func) (usableSize (rowAt t) c (length m) r st) b r st m p h _ (stretched (rowAt t (r .next) .func) (usableSize (rowAt t) c (length m) r st) b r st m h))
+      in-frame-by small (rowAt t (r .next) .func) (usableSize (rowAt t) c (length m) r st) b r st m p h _ (plain-runs (rowAt t (r .next) .func) (usableSize (rowAt t) c (length m) r st) b r st m h))

@@ -10,8 +10,8 @@ use Rattle.base_limits.specs.declared.State.{State}
 use Rattle.base_limits.specs.declared.State.the-variants.{Running, Finished, Stopped}
 use Rattle.base_limits.specs.declared.Machine.{Machine}
 use Rattle.prog_tables.specs.Statement.{rowAt}
-use Rattle.vm_guard.specs.Gate.{withinBroken}
-use Rattle.vm_definitions.specs.Step.{World, After, idle, gated, counting, effectOf}
+use Rattle.vm_guard.specs.Guard.{withinBroken}
+use Rattle.vm_definitions.specs.Step.{World, After, idle, guarded, counting, effectOf}
 use Rattle.vm_definitions.specs.declared.Outcome.{Outcome}
 use Rattle.vm_definitions.specs.declared.Broken.{Broken}
 use Rattle.vm_definitions.specs.declared.Broken.the-variants.{No}
@@ -29,7 +29,7 @@ isRunning (Stopped k i) = false
 module _ (t : List ℕ) (c d : ℕ) where
   -- a running record's step
   unfoldable pub takenStep : World → After
-  takenStep x = gated x (effectOf Bits32 (rowAt t) c x) (withinBroken Bits32 (rowAt t) c d (x .machine) (x .stack) (length (x .memory)))
+  takenStep x = guarded x (effectOf Bits32 (rowAt t) c x) (withinBroken Bits32 (rowAt t) c d (x .machine) (x .stack) (length (x .memory)))
 
   unfoldable pub withinStep : World → After
   withinStep x = ifTrue (isRunning (x .machine .state)) (takenStep x) (idle x No)

@@ -3,7 +3,7 @@ use base_limits::Machine;
 use base_limits::State;
 use vm_definitions::Broken;
 use vm_definitions::Outcome;
-use vm_quick_calls::Turn;
+use vm_quick_calls::Transfer;
 ghost use mathlib.Core.Path.{_≡_};
 ghost use Prim.Native.Nat.{_+_, _*_, _≤_, _<_};
 ghost use lib.ListN.{length};
@@ -13,7 +13,7 @@ ghost use Rattle.vm_definitions.specs.Step.{movedTo, stepOf, runOf};
 ghost use Rattle.vm_definitions.specs.Lent.{tablesOf, world, left};
 ghost use Rattle.prog_tables.specs.Layout.{statementRow};
 ghost use Rattle.vm_run.specs.Within.{givenBack, isRunning, takenStep, withinStep, withinRun};
-ghost use Rattle.vm_run.specs.Steps.{usableSize, stretchEnd, heldSteps, someSteps};
+ghost use Rattle.vm_run.specs.Steps.{usableSize, plainRunEnd, stepsInFrame, someSteps};
 
 // Nothing happened, but perhaps a 35.
 fn give_back(r: Machine, b: Broken) -> Outcome
@@ -66,7 +66,7 @@ fn usable_size(t: &[u32], c: u32, m: usize, q: Machine, st: &[u32]) -> u32
     ensures { λ z. ⌜ z ≡ usableSize (rowAt (now (t .entry))) c m q (now (st .entry)) ⌝ }
 {
     if is_running(q) {
-        return vm_guard::held_size(t, c, m, q, st);
+        return vm_guard::good_frame_size(t, c, m, q, st);
     }
     0
 }
@@ -85,8 +85,8 @@ fn moved(r: Machine, next: u32, frame: u32, used: u32, top: u32) -> Machine
     }
 }
 
-// The statement that a stretch of so many steps ends at: a call or a return, or else the exact step where there was none before it.
-fn end_stretch(
+// The statement that a plain run of so many steps ends at: a call or a return, or else the exact step where there was none before it.
+fn end_plain(
     t: &[u32],
     c: u32,
     g: u32,
@@ -98,11 +98,11 @@ fn end_stretch(
     m: &mut [u8],
 ) -> Outcome
     requires { ⌜ (c * statementRow ≤ length (now t)) × (r .frame + size ≤ length (now st)) × (length (now st) ≤ 16384) × (length (now m) ≤ 65536) × (count < 18446744073709551615) ⌝ }
-    ensures { λ o. ⌜ left o (now (st .exit)) (now (m .exit)) ≡ stretchEnd (now (t .entry)) c d g size count (world r (now (st .entry)) (now (m .entry))) ⌝ }
+    ensures { λ o. ⌜ left o (now (st .exit)) (now (m .exit)) ≡ plainRunEnd (now (t .entry)) c d g size count (world r (now (st .entry)) (now (m .entry))) ⌝ }
 {
-    let y = vm_quick_calls::take_turn(t, c, g, d, size, st, r.frame, r.used, m, r.next, r.top);
+    let y = vm_quick_calls::take_transfer(t, c, g, d, size, st, r.frame, r.used, m, r.next, r.top);
     match y {
-        Turn::To {
+        Transfer::To {
             next,
             frame,
             used,
@@ -112,7 +112,7 @@ fn end_stretch(
             count: count + 1,
             broken: Broken::No,
         },
-        Turn::Stays => {
+        Transfer::Stays => {
             if 0 < count {
                 return Outcome {
                     machine: r,
@@ -125,8 +125,8 @@ fn end_stretch(
     }
 }
 
-// Steps of a running record that stands in a good frame of this size: a stretch, and what it ends at.
-fn advance_held(
+// Steps of a running record that stands in a good frame of this size: a plain run, and what it ends at.
+fn advance_in_frame(
     t: &[u32],
     c: u32,
     d: u32,
@@ -137,26 +137,14 @@ fn advance_held(
     m: &mut [u8],
 ) -> Outcome
     requires { ⌜ (c * statementRow ≤ length (now t)) × (r .frame + size ≤ length (now st)) × (length (now st) ≤ 16384) × (length (now m) ≤ 65536) ⌝ }
-    ensures { λ o. ⌜ left o (now (st .exit)) (now (m .exit)) ≡ heldSteps (now (t .entry)) c d size budget (world r (now (st .entry)) (now (m .entry))) ⌝ }
+    ensures { λ o. ⌜ left o (now (st .exit)) (now (m .exit)) ≡ stepsInFrame (now (t .entry)) c d size budget (world r (now (st .entry)) (now (m .entry))) ⌝ }
 {
     let g = prog_tables::func_at(t, r.next);
-    let x = vm_quick_statements::run_stretch(
-        t,
-        c,
-        g,
-        d,
-        size,
-        budget,
-        st,
-        r.frame,
-        m,
-        r.next,
-        r.top,
-    );
+    let x = vm_quick_statements::run_plain(t, c, g, d, size, budget, st, r.frame, m, r.next, r.top);
     let count = x.count;
     let q = moved(r, x.next, r.frame, r.used, x.top);
     if count < budget {
-        return end_stretch(t, c, g, d, size, q, count, st, m);
+        return end_plain(t, c, g, d, size, q, count, st, m);
     }
     Outcome {
         machine: q,
@@ -182,7 +170,7 @@ fn advance(
     if size == 0 {
         return step_within(t, c, d, r, st, m);
     }
-    advance_held(t, c, d, size, budget, r, st, m)
+    advance_in_frame(t, c, d, size, budget, r, st, m)
 }
 
 // Steps within a budget, over tables whose counts are good.

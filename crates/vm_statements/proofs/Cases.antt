@@ -20,7 +20,7 @@ use Rattle.prog_tables.specs.declared.Operand.the-variants.{Unlisted}
 use Rattle.vm_definitions.specs.Access.{byteAddress, wordAddress, byteGood, wordGood, storeFrom}
 use Rattle.vm_definitions.specs.Operands as machine
 use Rattle.vm_definitions.specs.Operands.{Words, bad, withWord, numberIn, readOf, onRead, readAll}
-use Rattle.vm_definitions.specs.Expressions.{holds, operandNo}
+use Rattle.vm_definitions.specs.Expressions.{testHolds, operandNo}
 use Rattle.vm_definitions.specs.Frames.{isCalling}
 use Rattle.vm_definitions.specs.Step.{Effect, goingOn, movedTo, keeps, stores, goesTo, blockOf, endBlockOf, testOf, assigned, assignedAt, setAtOf, setByteBy, setWordBy, argumentsOf, returned, workedOf, effectOf, effected, stopped}
 use Rattle.vm_definitions.specs.Lent.{world, left}
@@ -29,7 +29,7 @@ use Rattle.vm_definitions.specs.declared.Read.{Read}
 use Rattle.vm_definitions.specs.declared.Read.the-variants.{Got, Bad}
 use Rattle.vm_definitions.specs.declared.Worked.{Worked}
 use Rattle.vm_definitions.specs.declared.Worked.the-variants.{Value, Stop}
-use Rattle.vm_calls.specs.Outcomes.{counted, halted, after, calling, atCalling, tailCalling, handing, assigning, settingByte, settingWord}
+use Rattle.vm_calls.specs.Outcomes.{oneStep, halted, after, calling, atCalling, tailCalling, handing, assigning, settingByte, settingWord}
 use Rattle.vm_statements.proofs.Forms.{test-bare, test-uncalled}
 use Rattle.vm_statements.specs.Three.{threeWords}
 use Rattle.vm_statements.specs.declared.Three.{Three}
@@ -39,11 +39,11 @@ use Rattle.prog_tables.proofs.Ranges.{one-more}
 
 -- ---- going on
 
-pub went : (r : Machine) (top : ℕ) (o : Outcome) → o ≡ counted (goingOn r (r .next + 1) top) → o ≡ counted (goingOn r (suc (r .next)) top)
-went r top o e = e ∙ ap (λ (n : ℕ). counted (goingOn r n top)) (one-more (r .next))
+pub went : (r : Machine) (top : ℕ) (o : Outcome) → o ≡ oneStep (goingOn r (r .next + 1) top) → o ≡ oneStep (goingOn r (suc (r .next)) top)
+went r top o e = e ∙ ap (λ (n : ℕ). oneStep (goingOn r n top)) (one-more (r .next))
 
-pub went-to : (r : Machine) (n a top v : ℕ) (o : Outcome) → a ≡ v → o ≡ counted (goingOn r a top) → o ≡ counted (goingOn r v top)
-went-to r n a top v o d e = e ∙ ap (λ (n : ℕ). counted (goingOn r n top)) d
+pub went-to : (r : Machine) (n a top v : ℕ) (o : Outcome) → a ≡ v → o ≡ oneStep (goingOn r a top) → o ≡ oneStep (goingOn r v top)
+went-to r n a top v o d e = e ∙ ap (λ (n : ℕ). oneStep (goingOn r n top)) d
 
 store-cons : (st : List ℕ) (at x : ℕ) (xs : List ℕ) → storeFrom st at (x ∷ xs) ≡ storeFrom (set st at x) (at + 1) xs
 unfolding storeFrom
@@ -61,18 +61,18 @@ module _ (t : List ℕ) (r : Machine) where
       rw (← d, ← e)
       (p ∙ ap (λ (z : List ℕ). storeFrom z (r .frame + a + 1) (replicate b 0)) q ∙ sym (store-cons st (r .frame + a) (r .top) (replicate b 0)))
 
-  pub block-left : (st : List ℕ) (a top : ℕ) (o : Outcome) → a ≡ rowAt t (r .next) .a → top ≡ getD st (r .frame + a) 0 → o ≡ counted (goingOn r (r .next + 1) top)
-      → o ≡ counted (goingOn r (suc (r .next)) (getD st (r .frame + rowAt t (r .next) .a) 0))
+  pub block-left : (st : List ℕ) (a top : ℕ) (o : Outcome) → a ≡ rowAt t (r .next) .a → top ≡ getD st (r .frame + a) 0 → o ≡ oneStep (goingOn r (r .next + 1) top)
+      → o ≡ oneStep (goingOn r (suc (r .next)) (getD st (r .frame + rowAt t (r .next) .a) 0))
   block-left st a top o d e q = rw (← d, ← e) (went r top o q)
 
-  module _ (k x y : ℕ) (b : Bool) (o : Outcome) (e : b ≡ holds Bits32 k x y) where
-    pub branch-on : b ≡ true → o ≡ counted (goingOn r (r .next + 1) (r .top))
-        → o ≡ counted (goingOn r (ifTrue (holds Bits32 k x y) (suc (r .next)) (rowAt t (r .next) .a)) (r .top))
+  module _ (k x y : ℕ) (b : Bool) (o : Outcome) (e : b ≡ testHolds Bits32 k x y) where
+    pub branch-on : b ≡ true → o ≡ oneStep (goingOn r (r .next + 1) (r .top))
+        → o ≡ oneStep (goingOn r (ifTrue (testHolds Bits32 k x y) (suc (r .next)) (rowAt t (r .next) .a)) (r .top))
     unfolding ifTrue
     branch-on h q = rw (← e, h) (went r (r .top) o q)
 
-    pub branch-off : (a : ℕ) → b ≡ false → a ≡ rowAt t (r .next) .a → o ≡ counted (goingOn r a (r .top))
-        → o ≡ counted (goingOn r (ifTrue (holds Bits32 k x y) (suc (r .next)) (rowAt t (r .next) .a)) (r .top))
+    pub branch-off : (a : ℕ) → b ≡ false → a ≡ rowAt t (r .next) .a → o ≡ oneStep (goingOn r a (r .top))
+        → o ≡ oneStep (goingOn r (ifTrue (testHolds Bits32 k x y) (suc (r .next)) (rowAt t (r .next) .a)) (r .top))
     unfolding ifTrue
     branch-off a h d q = rw (← e, h, ← d) q
 
@@ -151,14 +151,14 @@ module _ (t : List ℕ) (c : ℕ) (r : Machine) (st m : List ℕ) where
       test-second o l d = rw (are, ← p, ← q, h, ← s, ← u, l, d)
 
       pub test-both : (y : ℕ) (o : Outcome) → g ≡ Got y
-          → o ≡ counted (goingOn r (ifTrue (holds Bits32 k x y) (suc (r .next)) (rowAt t (r .next) .a)) (r .top)) → left o st m ≡ after testOf t c r st m
+          → o ≡ oneStep (goingOn r (ifTrue (testHolds Bits32 k x y) (suc (r .next)) (rowAt t (r .next) .a)) (r .top)) → left o st m ≡ after testOf t c r st m
       unfolding testOf onRead effected goesTo
       test-both y o l d = rw (are, ← p, ← q, h, ← s, ← u, l, ← e, d)
 
   -- `let` and `set` of a local
   module _ (x : Worked) (e : x ≡ workedOf Bits32 (rowAt t) c (world r st m)) where
     pub assign-value : (v top a : ℕ) (st′ : List ℕ) (o : Outcome) → x ≡ Value v top → a ≡ row .a → st′ ≡ set st (r .frame + a) v
-        → o ≡ counted (goingOn r (r .next + 1) top) → left o st′ m ≡ after assigning t c r st m
+        → o ≡ oneStep (goingOn r (r .next + 1) top) → left o st′ m ≡ after assigning t c r st m
     unfolding assigned effected keeps storeFrom
     assign-value v top a st′ o h d q p = rw (← e, h, ← d, q, went r top o p)
 
@@ -168,7 +168,7 @@ module _ (t : List ℕ) (c : ℕ) (r : Machine) (st m : List ℕ) where
 
     -- `set @`
     pub word-value : (v top a : ℕ) (m′ : List ℕ) (o : Outcome) → x ≡ Value v top → a ≡ numberIn st (r .frame) (row .address) → m′ ≡ storeFrom m a (wordBytes 4 v)
-        → o ≡ counted (goingOn r (r .next + 1) top) → left o st m′ ≡ after assigningAt t c r st m
+        → o ≡ oneStep (goingOn r (r .next + 1) top) → left o st m′ ≡ after assigningAt t c r st m
     unfolding assignedAt effected stores
     word-value v top a m′ o h d q p = rw (← e, h, ← d, q, went r top o p)
 
@@ -205,7 +205,7 @@ module _ (t : List ℕ) (c : ℕ) (r : Machine) (st m : List ℕ) where
 
   module _ (x y z a : ℕ) (b : Bool) (o : Outcome) (e : argumentsOf Bits32 (rowAt t) c (world r st m) ≡ machine.words (x ∷ y ∷ z ∷ [])) where
     byte-put : (m′ : List ℕ) → a ≡ byteAddress Bits32 x y → b ≡ byteGood (length m) a → b ≡ true → m′ ≡ storeFrom m a (z % 256 ∷ [])
-        → o ≡ counted (goingOn r (r .next + 1) (r .top)) → left o st m′ ≡ after settingByte t c r st m
+        → o ≡ oneStep (goingOn r (r .next + 1) (r .top)) → left o st m′ ≡ after settingByte t c r st m
     unfolding setByteBy effected stores ifTrue
     byte-put m′ d i h q p = rw (e, ← d, ← i, h, q, went r (r .top) o p)
 
@@ -214,7 +214,7 @@ module _ (t : List ℕ) (c : ℕ) (r : Machine) (st m : List ℕ) where
     byte-off d i h q = rw (e, ← d, ← i, h, q)
 
     word-put : (m′ : List ℕ) → a ≡ wordAddress Bits32 x y → b ≡ wordGood Bits32 (length m) a → b ≡ true → m′ ≡ storeFrom m a (wordBytes 4 z)
-        → o ≡ counted (goingOn r (r .next + 1) (r .top)) → left o st m′ ≡ after settingWord t c r st m
+        → o ≡ oneStep (goingOn r (r .next + 1) (r .top)) → left o st m′ ≡ after settingWord t c r st m
     unfolding setWordBy effected stores ifTrue
     word-put m′ d i h q p = rw (e, ← d, ← i, h, q, went r (r .top) o p)
 
@@ -244,7 +244,7 @@ module _ (t : List ℕ) (c : ℕ) (r : Machine) (st m : List ℕ) where
       byte-unread o d q = byte-bad o (unread d has-8) q
 
       module _ (b i v a : ℕ) (h : Bool) (o : Outcome) (d : x ≡ All b i v) (da : a ≡ byteAddress Bits32 b i) (dh : h ≡ byteGood (length m) a) where
-        pub byte-in : (m′ : List ℕ) → h ≡ true → m′ ≡ storeFrom m a (v % 256 ∷ []) → o ≡ counted (goingOn r (r .next + 1) (r .top)) → left o st m′ ≡ after settingByte t c r st m
+        pub byte-in : (m′ : List ℕ) → h ≡ true → m′ ≡ storeFrom m a (v % 256 ∷ []) → o ≡ oneStep (goingOn r (r .next + 1) (r .top)) → left o st m′ ≡ after settingByte t c r st m
         byte-in m′ l w q = byte-put b i v a h o (all-read b i v d has-8) m′ da dh l w q
 
         pub byte-out : h ≡ false → o ≡ halted r 32 → left o st m ≡ after settingByte t c r st m
@@ -258,7 +258,7 @@ module _ (t : List ℕ) (c : ℕ) (r : Machine) (st m : List ℕ) where
       word-unread o d q = word-bad o (unread d has-9) q
 
       module _ (b i v a : ℕ) (h : Bool) (o : Outcome) (d : x ≡ All b i v) (da : a ≡ wordAddress Bits32 b i) (dh : h ≡ wordGood Bits32 (length m) a) where
-        pub word-in : (m′ : List ℕ) → h ≡ true → m′ ≡ storeFrom m a (wordBytes 4 v) → o ≡ counted (goingOn r (r .next + 1) (r .top)) → left o st m′ ≡ after settingWord t c r st m
+        pub word-in : (m′ : List ℕ) → h ≡ true → m′ ≡ storeFrom m a (wordBytes 4 v) → o ≡ oneStep (goingOn r (r .next + 1) (r .top)) → left o st m′ ≡ after settingWord t c r st m
         word-in m′ l w q = word-put b i v a h o (all-read b i v d has-9) m′ da dh l w q
 
         pub word-out : h ≡ false → o ≡ halted r 32 → left o st m ≡ after settingWord t c r st m

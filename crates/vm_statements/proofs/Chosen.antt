@@ -18,7 +18,7 @@ use Rattle.vm_definitions.specs.Frames.{isCalling}
 use Rattle.vm_definitions.specs.Step.{Effect, goingOn, keeps, goesTo, blockOf, endBlockOf, testOf, setAtOf, effectOf, effected}
 use Rattle.vm_definitions.specs.Lent.{world, left}
 use Rattle.vm_definitions.specs.declared.Outcome.{Outcome}
-use Rattle.vm_calls.specs.Outcomes.{counted, after, calling, atCalling, tailCalling, handing, assigning, settingByte, settingWord}
+use Rattle.vm_calls.specs.Outcomes.{oneStep, after, calling, atCalling, tailCalling, handing, assigning, settingByte, settingWord}
 use Rattle.vm_statements.specs.Ready.{Ready, settingLocal, returning}
 use Rattle.vm_statements.proofs.Forms as forms
 use Rattle.prog_tables.proofs.Each.{one-true}
@@ -65,12 +65,12 @@ module _ (t : List ℕ) (c : ℕ) (r : Machine) (st m : List ℕ) where
     pub do-end : (st′ m′ : List ℕ) → k ≡ 2 → left o st′ m′ ≡ after (handing 0) t c r st m → left o st′ m′ ≡ after effectOf t c r st m
     do-end st′ m′ q p = becomes (handing 0 Bits32 (rowAt t) c (world r st m)) o st′ m′ (forms.of-end Bits32 (rowAt t) c (world r st m) (sym e ∙ q)) p
 
-    pub do-block : (st′ : List ℕ) → k ≡ 3 → o ≡ counted (goingOn r (suc (r .next)) (r .top)) → st′ ≡ storeFrom st (r .frame + row .a) (r .top ∷ replicate (row .b) 0)
+    pub do-block : (st′ : List ℕ) → k ≡ 3 → o ≡ oneStep (goingOn r (suc (r .next)) (r .top)) → st′ ≡ storeFrom st (r .frame + row .a) (r .top ∷ replicate (row .b) 0)
         → left o st′ m ≡ after effectOf t c r st m
     unfolding blockOf keeps effected
     do-block st′ q p s = becomes (blockOf Bits32 (rowAt t) c (world r st m)) o st′ m (forms.of-block Bits32 (rowAt t) c (world r st m) (sym e ∙ q)) (rw (p, s))
 
-    pub do-end-block : k ≡ 4 → o ≡ counted (goingOn r (suc (r .next)) (getD st (r .frame + row .a) 0)) → left o st m ≡ after effectOf t c r st m
+    pub do-end-block : k ≡ 4 → o ≡ oneStep (goingOn r (suc (r .next)) (getD st (r .frame + row .a) 0)) → left o st m ≡ after effectOf t c r st m
     unfolding endBlockOf keeps storeFrom effected
     do-end-block q p = becomes (endBlockOf Bits32 (rowAt t) c (world r st m)) o st m (forms.of-end-block Bits32 (rowAt t) c (world r st m) (sym e ∙ q)) (rw p)
 
@@ -92,7 +92,7 @@ module _ (t : List ℕ) (c : ℕ) (r : Machine) (st m : List ℕ) where
     pub do-tail-call : (st′ : List ℕ) → k ≡ 12 → left o st′ m ≡ after tailCalling t c r st m → left o st′ m ≡ after effectOf t c r st m
     do-tail-call st′ q p = becomes (tailCalling Bits32 (rowAt t) c (world r st m)) o st′ m (forms.of-tail-call Bits32 (rowAt t) c (world r st m) (sym e ∙ q)) p
 
-    pub do-end-if : k ≡ 22 → o ≡ counted (goingOn r (suc (r .next)) (r .top)) → left o st m ≡ after effectOf t c r st m
+    pub do-end-if : k ≡ 22 → o ≡ oneStep (goingOn r (suc (r .next)) (r .top)) → left o st m ≡ after effectOf t c r st m
     unfolding goesTo effected
     do-end-if q p = becomes (goesTo Bits32 (rowAt t) c (world r st m) (suc (r .next))) o st m (forms.of-end-if Bits32 (rowAt t) c (world r st m) (sym e ∙ q)) (rw p)
 
@@ -100,7 +100,7 @@ module _ (t : List ℕ) (c : ℕ) (r : Machine) (st m : List ℕ) where
     do-test b d q p = becomes (testOf Bits32 (rowAt t) c (world r st m)) o st m (forms.of-test Bits32 (rowAt t) c (world r st m) (ap isTest (sym e) ∙ sym d ∙ q)) p
 
     pub do-jump : (b : Bool) → b ≡ isTest k → b ≡ false → (k ≡ 2 → ⊥) → (k ≡ 3 → ⊥) → (k ≡ 4 → ⊥) → (k ≡ 5 → ⊥) → (k ≡ 6 → ⊥) → (k ≡ 7 → ⊥) → (k ≡ 8 → ⊥)
-        → (k ≡ 9 → ⊥) → (k ≡ 11 → ⊥) → (k ≡ 12 → ⊥) → (k ≡ 13 → ⊥) → (k ≡ 22 → ⊥) → o ≡ counted (goingOn r (row .a) (r .top)) → left o st m ≡ after effectOf t c r st m
+        → (k ≡ 9 → ⊥) → (k ≡ 11 → ⊥) → (k ≡ 12 → ⊥) → (k ≡ 13 → ⊥) → (k ≡ 22 → ⊥) → o ≡ oneStep (goingOn r (row .a) (r .top)) → left o st m ≡ after effectOf t c r st m
     unfolding goesTo effected
     do-jump b d q a2 a3 a4 a5 a6 a7 a8 a9 a11 a12 a13 a22 p =
         becomes (goesTo Bits32 (rowAt t) c (world r st m) (row .a)) o st m

@@ -15,18 +15,18 @@ ghost use Rattle.base_limits.specs.declared.Width.the-variants.{Bits32};
 ghost use Rattle.prog_tables.specs.Statement.{rowAt, slots, isTest, hasExpression};
 ghost use Rattle.vm_definitions.specs.Access.{storeFrom};
 ghost use Rattle.vm_definitions.specs.Operands.{numberIn, readAll};
-ghost use Rattle.vm_definitions.specs.Expressions.{holds};
+ghost use Rattle.vm_definitions.specs.Expressions.{testHolds};
 ghost use Rattle.vm_definitions.specs.Step.{goingOn, testOf, setAtOf, effectOf};
 ghost use Rattle.vm_definitions.specs.Lent.{left};
-ghost use Rattle.vm_calls.specs.Outcomes.{counted, after, assigning, settingByte, settingWord, Expressed};
 ghost use Rattle.prog_tables.specs.Layout.{statementRow};
+ghost use Rattle.vm_calls.specs.Outcomes.{oneStep, after, assigning, settingByte, settingWord, Expressed};
 ghost use Rattle.vm_statements.specs.Three.{threeWords};
 ghost use Rattle.vm_statements.specs.Ready.{Ready, settingLocal, assigningAt, returning};
 
 // `block`: the auto top is saved, the block's words are zeroed.
 fn enter_block(t: &[u32], r: Machine, st: &mut [u32]) -> Outcome
     requires { ⌜ r .next < 4294967295 ⌝ }
-    ensures { λ o. ⌜ (o ≡ counted (goingOn r (suc (r .next)) (r .top))) × (now (st .exit) ≡ storeFrom (now (st .entry)) (r .frame + rowAt (now (t .entry)) (r .next) .a) (r .top ∷ replicate (rowAt (now (t .entry)) (r .next) .b) 0)) ⌝ }
+    ensures { λ o. ⌜ (o ≡ oneStep (goingOn r (suc (r .next)) (r .top))) × (now (st .exit) ≡ storeFrom (now (st .entry)) (r .frame + rowAt (now (t .entry)) (r .next) .a) (r .top ∷ replicate (rowAt (now (t .entry)) (r .next) .b) 0)) ⌝ }
 {
     let n = r.next;
     let top = r.top;
@@ -42,7 +42,7 @@ fn enter_block(t: &[u32], r: Machine, st: &mut [u32]) -> Outcome
 // `end block`: the auto top is restored.
 fn leave_block(t: &[u32], r: Machine, st: &[u32]) -> Outcome
     requires { ⌜ r .next < 4294967295 ⌝ }
-    ensures { λ o. ⌜ o ≡ counted (goingOn r (suc (r .next)) (getD (now (st .entry)) (r .frame + rowAt (now (t .entry)) (r .next) .a) 0)) ⌝ }
+    ensures { λ o. ⌜ o ≡ oneStep (goingOn r (suc (r .next)) (getD (now (st .entry)) (r .frame + rowAt (now (t .entry)) (r .next) .a) 0)) ⌝ }
 {
     let n = r.next;
     let frame = r.frame;
@@ -54,7 +54,7 @@ fn leave_block(t: &[u32], r: Machine, st: &[u32]) -> Outcome
 // Where a test of kind k goes with two words.
 fn branch(t: &[u32], r: Machine, k: u32, x: u32, y: u32) -> Outcome
     requires { ⌜ r .next < 4294967295 ⌝ }
-    ensures { λ o. ⌜ o ≡ counted (goingOn r (ifTrue (holds Bits32 k x y) (suc (r .next)) (rowAt (now (t .entry)) (r .next) .a)) (r .top)) ⌝ }
+    ensures { λ o. ⌜ o ≡ oneStep (goingOn r (ifTrue (testHolds Bits32 k x y) (suc (r .next)) (rowAt (now (t .entry)) (r .next) .a)) (r .top)) ⌝ }
 {
     let n = r.next;
     let top = r.top;
@@ -265,7 +265,7 @@ fn give_back(t: &[u32], c: u32, r: Machine, st: &mut [u32], m: &mut [u8]) -> Out
 
 // A jump: `goto`, `else`.
 fn jump(t: &[u32], r: Machine) -> Outcome
-    ensures { λ o. ⌜ o ≡ counted (goingOn r (rowAt (now (t .entry)) (r .next) .a) (r .top)) ⌝ }
+    ensures { λ o. ⌜ o ≡ oneStep (goingOn r (rowAt (now (t .entry)) (r .next) .a) (r .top)) ⌝ }
 {
     let n = r.next;
     let top = r.top;
@@ -275,7 +275,7 @@ fn jump(t: &[u32], r: Machine) -> Outcome
 // `end if`.
 fn pass(r: Machine) -> Outcome
     requires { ⌜ r .next < 4294967295 ⌝ }
-    ensures { λ o. ⌜ o ≡ counted (goingOn r (suc (r .next)) (r .top)) ⌝ }
+    ensures { λ o. ⌜ o ≡ oneStep (goingOn r (suc (r .next)) (r .top)) ⌝ }
 {
     let n = r.next;
     let top = r.top;

@@ -1,4 +1,4 @@
--- `limits::all_limits` meets its contract: each constant of the type is the number of specs/Limits.
+-- `base_limits::all_limits` meets its contract: each constant of the type is the number of specs/Limits.
 -- Assumes nothing.
 use mathlib.Core.Path.{refl}
 use Rattle.base_limits.specs.Limits.{limitsOf}

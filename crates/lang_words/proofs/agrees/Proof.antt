@@ -1,4 +1,4 @@
--- `vocabulary::agrees` meets its contract.
+-- `lang_words::agrees` meets its contract.
 -- Assumes nothing.
 use borrow.Author.Needs.{needs}
 use Rattle.lang_words.proofs.agrees.Statement.{statement}

@@ -1,4 +1,4 @@
--- `vocabulary::is_word` meets its contract.
+-- `lang_words::is_word` meets its contract.
 -- Assumes nothing.
 use borrow.Author.Needs.{needs}
 use Prim.Native.Nat.{_-_}

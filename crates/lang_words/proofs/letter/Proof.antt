@@ -1,7 +1,7 @@
--- `vocabulary::letter` meets its contract.
+-- `lang_words::letter` meets its contract.
 -- Assumes nothing.
 use Rattle.lang_words.specs.Words.{words}
-use Rattle.lang_words.specs.Table.{joined, letterAt}
+use Rattle.lang_words.specs.Table.{allLetters, letterAt}
 use borrow.Author.Needs.{needs}
 use Rattle.lang_words.proofs.letter.Statement.{statement}
 use Rattle.lang_words.proofs.letter.Tie as tie
@@ -13,7 +13,7 @@ wide-requires : tie.Need-wide-requires
 wide-requires c κs = search needs
 
 returns : tie.Need-returns
-unfolding words joined letterAt
+unfolding words allLetters letterAt
 returns c =
     c .wide .ensures .0
 

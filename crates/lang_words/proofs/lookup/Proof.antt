@@ -1,15 +1,15 @@
--- `vocabulary::lookup` meets its contract.
+-- `lang_words::lookup` meets its contract.
 -- Assumes nothing.
 use borrow.Author.Needs.{needs}
 use Prim.Native.Nat.{_-_}
-use Rattle.lang_words.specs.Words.{isNamed}
+use Rattle.lang_words.specs.Words.{isSpelled}
 use Rattle.lang_words.proofs.Searching.{Searching, named-fits, naming}
 use Rattle.lang_words.proofs.lookup.Statement.{statement}
 use Rattle.lang_words.proofs.lookup.Tie as tie
 
 abbrev Inv-loop : tie.InvT-loop
 Inv-loop name rows k₀ k =
-    Searching rows (isNamed name) k
+    Searching rows (isSpelled name) k
 
 abbrev μ-loop : tie.MeasureT-loop
 μ-loop name rows k₀ k =

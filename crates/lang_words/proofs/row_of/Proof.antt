@@ -1,4 +1,4 @@
--- `vocabulary::row_of` meets its contract.
+-- `lang_words::row_of` meets its contract.
 -- Assumes nothing.
 use borrow.Author.Needs.{needs}
 use Prim.Native.Nat.{_-_}

@@ -1,4 +1,4 @@
--- `vocabulary::substitute` meets its contract.
+-- `lang_words::substitute` meets its contract.
 -- Assumes nothing.
 use Rattle.lang_words.proofs.Substituting.{substitutes}
 use borrow.Author.Needs.{needs}

@@ -1,4 +1,4 @@
--- `vocabulary::table` meets its contract.
+-- `lang_words::table` meets its contract.
 -- Assumes nothing.
 use Rattle.lang_words.specs.Words.{words}
 use Rattle.lang_words.specs.Table.{rowsFrom, rows}

@@ -1,4 +1,4 @@
--- `vocabulary::word_number` meets its contract.
+-- `lang_words::word_number` meets its contract.
 -- Assumes nothing.
 use Rattle.lang_words.specs.Numbers.{numbers}
 use mathlib.Core.Path.{refl}

@@ -8,7 +8,7 @@ use Rattle.lex_source.proofs.lex_from.Statement.{statement}
 use Rattle.lex_source.proofs.lex_from.Tie as tie
 use Rattle.lex_source.proofs.lex_from.Reads as reads
 use Rattle.lex_source.proofs.lex_from.Lts as lts
-use Rattle.lex_source.proofs.take_turn.Reads as take-turn-reads
+use Rattle.lex_source.proofs.fill_at.Reads as fill-at-reads
 use Rattle.base_prelude.proofs.clear_from.Reads as clear-from-reads
 
 abbrev Inv-loop : tie.InvT-loop
@@ -23,8 +23,8 @@ loop-holds : tie.Need-loop-holds Inv-loop μ-loop
 loop-holds c =
     search (lexing, needs)
 
-take-turn-requires : tie.Need-take-turn-requires Inv-loop μ-loop
-take-turn-requires c κs = search needs
+fill-at-requires : tie.Need-fill-at-requires Inv-loop μ-loop
+fill-at-requires c κs = search needs
 
 enum-known-next : tie.Need-enum-known-next Inv-loop μ-loop
 enum-known-next c = search needs
@@ -79,7 +79,7 @@ lex-from-spec =
     Inv-loop
     μ-loop
     loop-holds
-    take-turn-requires
+    fill-at-requires
     enum-known-next
     add-n
     loop-less

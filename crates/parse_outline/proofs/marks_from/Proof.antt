@@ -7,7 +7,7 @@ use Rattle.parse_outline.proofs.marks_from.Statement.{statement}
 use Rattle.parse_outline.proofs.marks_from.Tie as tie
 use Rattle.parse_outline.proofs.marks_from.Reads as reads
 use Rattle.parse_outline.proofs.marks_from.Lts as lts
-use Rattle.parse_outline.proofs.mark_turn.Reads as mark-turn-reads
+use Rattle.parse_outline.proofs.mark_step.Reads as mark-step-reads
 
 abbrev Inv-loop : tie.InvT-loop
 Inv-loop t x₀ s₀ x s =
@@ -21,8 +21,8 @@ loop-holds : tie.Need-loop-holds Inv-loop μ-loop
 loop-holds c =
     search walking
 
-mark-turn-requires : tie.Need-mark-turn-requires Inv-loop μ-loop
-mark-turn-requires c κs =
+mark-step-requires : tie.Need-mark-step-requires Inv-loop μ-loop
+mark-step-requires c κs =
     search walking-fits
 
 enum-known-y : tie.Need-enum-known-y Inv-loop μ-loop
@@ -53,7 +53,7 @@ marks-from-spec =
     Inv-loop
     μ-loop
     loop-holds
-    mark-turn-requires
+    mark-step-requires
     enum-known-y
     loop-less
     loop-again

@@ -1,13 +1,13 @@
 use borrow.Author.Needs.{needs}
 use Prim.Native.Nat.{_-_}
-use Rattle.parse_units.proofs.Turns.{Parsing, parsing, parsing-less, parsing-fits}
+use Rattle.parse_units.proofs.UnitSteps.{Parsing, parsing, parsing-less, parsing-fits}
 use native.Mathlib.Omega.{arith}
 use mathlib.Core.Path.{_≡_, refl, sym, _∙_, ap, subst}
 use Rattle.parse_units.proofs.parse_from.Statement.{statement}
 use Rattle.parse_units.proofs.parse_from.Tie as tie
 use Rattle.parse_units.proofs.parse_from.Reads as reads
 use Rattle.parse_units.proofs.parse_from.Lts as lts
-use Rattle.parse_units.proofs.take_turn.Reads as take-turn-reads
+use Rattle.parse_units.proofs.step_unit.Reads as step-unit-reads
 
 abbrev Inv-loop : tie.InvT-loop
 Inv-loop w t n rows₀ s₀ rows s =
@@ -21,8 +21,8 @@ loop-holds : tie.Need-loop-holds Inv-loop μ-loop
 loop-holds c =
     search (parsing, needs)
 
-take-turn-requires : tie.Need-take-turn-requires Inv-loop μ-loop
-take-turn-requires c κs =
+step-unit-requires : tie.Need-step-unit-requires Inv-loop μ-loop
+step-unit-requires c κs =
     search parsing-fits
 
 enum-known-x : tie.Need-enum-known-x Inv-loop μ-loop
@@ -53,7 +53,7 @@ parse-from-spec =
     Inv-loop
     μ-loop
     loop-holds
-    take-turn-requires
+    step-unit-requires
     enum-known-x
     loop-less
     loop-again

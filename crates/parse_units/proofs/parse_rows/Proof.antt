@@ -1,4 +1,4 @@
-use Rattle.parse_units.proofs.Turns.{start-fits, start-labels, parse-is}
+use Rattle.parse_units.proofs.UnitSteps.{start-fits, start-labels, parse-is}
 use native.Mathlib.Omega.{arith}
 use mathlib.Core.Path.{_≡_, refl, sym, _∙_, ap, subst}
 use borrow.Author.Needs.{needs}

@@ -7,7 +7,7 @@ use Rattle.res_data.proofs.lay_from.Statement.{statement}
 use Rattle.res_data.proofs.lay_from.Tie as tie
 use Rattle.res_data.proofs.lay_from.Reads as reads
 use Rattle.res_data.proofs.lay_from.Lts as lts
-use Rattle.res_data.proofs.lay_turn.Reads as lay-turn-reads
+use Rattle.res_data.proofs.lay_step.Reads as lay-step-reads
 
 abbrev Inv-loop : tie.InvT-loop
 Inv-loop w s t out₀ c₀ out c =
@@ -21,8 +21,8 @@ loop-holds : tie.Need-loop-holds Inv-loop μ-loop
 loop-holds c =
     search imaging
 
-lay-turn-requires : tie.Need-lay-turn-requires Inv-loop μ-loop
-lay-turn-requires c κs =
+lay-step-requires : tie.Need-lay-step-requires Inv-loop μ-loop
+lay-step-requires c κs =
     search imaging-fits
 
 enum-known-y : tie.Need-enum-known-y Inv-loop μ-loop
@@ -63,7 +63,7 @@ lay-from-spec =
     Inv-loop
     μ-loop
     loop-holds
-    lay-turn-requires
+    lay-step-requires
     enum-known-y
     loop-less
     loop-again

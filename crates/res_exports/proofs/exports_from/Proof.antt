@@ -8,7 +8,7 @@ use Rattle.res_exports.proofs.exports_from.Statement.{statement}
 use Rattle.res_exports.proofs.exports_from.Tie as tie
 use Rattle.res_exports.proofs.exports_from.Reads as reads
 use Rattle.res_exports.proofs.exports_from.Lts as lts
-use Rattle.res_exports.proofs.export_turn.Reads as export-turn-reads
+use Rattle.res_exports.proofs.export_step.Reads as export-step-reads
 
 abbrev Inv-loop : tie.InvT-loop
 Inv-loop t n y l uses flags₀ s₀ flags s =
@@ -22,8 +22,8 @@ loop-holds : tie.Need-loop-holds Inv-loop μ-loop
 loop-holds c =
     search exporting
 
-export-turn-requires : tie.Need-export-turn-requires Inv-loop μ-loop
-export-turn-requires c κs =
+export-step-requires : tie.Need-export-step-requires Inv-loop μ-loop
+export-step-requires c κs =
     search exporting-fits
 
 enum-known-x : tie.Need-enum-known-x Inv-loop μ-loop
@@ -55,7 +55,7 @@ exports-from-spec =
     Inv-loop
     μ-loop
     loop-holds
-    export-turn-requires
+    export-step-requires
     enum-known-x
     loop-less
     loop-again

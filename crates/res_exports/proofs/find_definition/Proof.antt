@@ -7,7 +7,7 @@ use Rattle.res_exports.proofs.find_definition.Statement.{statement}
 use Rattle.res_exports.proofs.find_definition.Tie as tie
 use Rattle.res_exports.proofs.find_definition.Reads as reads
 use Rattle.res_exports.proofs.find_definition.Lts as lts
-use Rattle.res_exports.proofs.seek_turn.Reads as seek-turn-reads
+use Rattle.res_exports.proofs.seek_step.Reads as seek-step-reads
 
 abbrev Inv-loop : tie.InvT-loop
 Inv-loop t from at₀ at =
@@ -21,8 +21,8 @@ loop-holds : tie.Need-loop-holds Inv-loop μ-loop
 loop-holds c =
     search definitions
 
-seek-turn-requires : tie.Need-seek-turn-requires Inv-loop μ-loop
-seek-turn-requires c κs =
+seek-step-requires : tie.Need-seek-step-requires Inv-loop μ-loop
+seek-step-requires c κs =
     search seeking-fits
 
 enum-known-x : tie.Need-enum-known-x Inv-loop μ-loop
@@ -50,7 +50,7 @@ find-definition-spec =
     Inv-loop
     μ-loop
     loop-holds
-    seek-turn-requires
+    seek-step-requires
     enum-known-x
     loop-less
     loop-again

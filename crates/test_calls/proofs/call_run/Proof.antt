@@ -1,4 +1,4 @@
--- `casecalls::call_run` meets its contract.
+-- `test_calls::call_run` meets its contract.
 -- Assumes nothing.
 use Rattle.test_calls.proofs.Cases.{call-run-is}
 use borrow.Author.Needs.{needs}

@@ -1,4 +1,4 @@
--- `casecalls::call_start` meets its contract.
+-- `test_calls::call_start` meets its contract.
 -- Assumes nothing.
 use Rattle.test_calls.proofs.Cases.{call-start-is}
 use borrow.Author.Needs.{needs}

@@ -1,4 +1,4 @@
--- `casecalls::call_step` meets its contract.
+-- `test_calls::call_step` meets its contract.
 -- Assumes nothing.
 use Rattle.test_calls.proofs.Cases.{call-step-is}
 use borrow.Author.Needs.{needs}

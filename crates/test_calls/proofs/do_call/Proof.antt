@@ -1,4 +1,4 @@
--- `casecalls::do_call` meets its contract.
+-- `test_calls::do_call` meets its contract.
 -- Assumes nothing.
 use Rattle.test_calls.proofs.Cases.{do-call-ways}
 use borrow.Author.Needs.{needs}

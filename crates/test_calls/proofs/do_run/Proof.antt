@@ -1,4 +1,4 @@
--- `casecalls::do_run` meets its contract.
+-- `test_calls::do_run` meets its contract.
 -- Assumes nothing.
 use Rattle.test_calls.proofs.Cases.{do-run-is}
 use borrow.Author.Needs.{needs}

@@ -1,4 +1,4 @@
--- `casecalls::do_start` meets its contract.
+-- `test_calls::do_start` meets its contract.
 -- Assumes nothing.
 use Rattle.test_calls.proofs.Cases.{do-start-is}
 use borrow.Author.Needs.{needs}

@@ -1,4 +1,4 @@
--- `casecalls::do_step` meets its contract.
+-- `test_calls::do_step` meets its contract.
 -- Assumes nothing.
 use Rattle.test_calls.proofs.Cases.{do-step-is}
 use borrow.Author.Needs.{needs}

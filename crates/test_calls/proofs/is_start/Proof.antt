@@ -1,4 +1,4 @@
--- `casecalls::is_start` meets its contract.
+-- `test_calls::is_start` meets its contract.
 -- Assumes nothing.
 use Rattle.test_calls.proofs.Cases.{is-start-ways}
 use borrow.Author.Needs.{needs}

@@ -1,4 +1,4 @@
--- `casecalls::read_call` meets its contract.
+-- `test_calls::read_call` meets its contract.
 -- Assumes nothing.
 use Rattle.test_calls.proofs.Cases.{read-call-is}
 use borrow.Author.Needs.{needs}

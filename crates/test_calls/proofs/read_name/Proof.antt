@@ -1,4 +1,4 @@
--- `casecalls::read_name` meets its contract.
+-- `test_calls::read_name` meets its contract.
 -- Assumes nothing.
 use Rattle.test_calls.proofs.Cases.{read-name-is}
 use borrow.Author.Needs.{needs}

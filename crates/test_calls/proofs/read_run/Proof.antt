@@ -1,4 +1,4 @@
--- `casecalls::read_run` meets its contract.
+-- `test_calls::read_run` meets its contract.
 -- Assumes nothing.
 use Rattle.test_calls.proofs.Cases.{read-run-ways}
 use borrow.Author.Needs.{needs}

@@ -1,4 +1,4 @@
--- `casecalls::read_start` meets its contract.
+-- `test_calls::read_start` meets its contract.
 -- Assumes nothing.
 use Rattle.test_state.specs.Views.{blank}
 use Rattle.test_calls.specs.Calls.{noWords}

@@ -1,4 +1,4 @@
--- `casecalls::start_named` meets its contract.
+-- `test_calls::start_named` meets its contract.
 -- Assumes nothing.
 use Rattle.test_calls.proofs.Cases.{start-named-is}
 use borrow.Author.Needs.{needs}

@@ -1,4 +1,4 @@
--- `casecalls::with_opening` meets its contract.
+-- `test_calls::with_opening` meets its contract.
 -- Assumes nothing.
 use Rattle.test_calls.proofs.Cases.{with-opening-is}
 use borrow.Author.Needs.{needs}

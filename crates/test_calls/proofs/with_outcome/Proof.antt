@@ -1,4 +1,4 @@
--- `casecalls::with_outcome` meets its contract.
+-- `test_calls::with_outcome` meets its contract.
 -- Assumes nothing.
 use Rattle.test_calls.proofs.Cases.{with-outcome-is}
 use borrow.Author.Needs.{needs}

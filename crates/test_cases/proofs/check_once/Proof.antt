@@ -1,4 +1,4 @@
--- `caserun::check_once` meets its contract.
+-- `test_cases::check_once` meets its contract.
 -- Assumes nothing.
 use Rattle.test_cases.proofs.Cases.{check-once-ways}
 use borrow.Author.Needs.{needs}

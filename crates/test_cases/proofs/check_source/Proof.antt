@@ -1,4 +1,4 @@
--- `caserun::check_source` meets its contract.
+-- `test_cases::check_source` meets its contract.
 -- Assumes nothing.
 use Prim.Native.Nat.{ℕ}
 use lib.ListN.{length-replicate}

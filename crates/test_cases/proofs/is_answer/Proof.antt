@@ -1,4 +1,4 @@
--- `caserun::is_answer` meets its contract.
+-- `test_cases::is_answer` meets its contract.
 -- Assumes nothing.
 use Rattle.test_cases.proofs.Cases.{is-answer-ways}
 use borrow.Author.Needs.{needs}

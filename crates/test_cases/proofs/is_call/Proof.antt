@@ -1,4 +1,4 @@
--- `caserun::is_call` meets its contract.
+-- `test_cases::is_call` meets its contract.
 -- Assumes nothing.
 use Rattle.test_cases.proofs.Cases.{is-call-ways}
 use borrow.Author.Needs.{needs}

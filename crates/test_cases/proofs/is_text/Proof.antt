@@ -1,4 +1,4 @@
--- `caserun::is_text` meets its contract.
+-- `test_cases::is_text` meets its contract.
 -- Assumes nothing.
 use Rattle.test_cases.proofs.Cases.{is-text-ways}
 use borrow.Author.Needs.{needs}

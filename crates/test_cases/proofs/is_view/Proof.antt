@@ -1,4 +1,4 @@
--- `caserun::is_view` meets its contract.
+-- `test_cases::is_view` meets its contract.
 -- Assumes nothing.
 use Rattle.test_cases.proofs.Cases.{is-view-ways}
 use borrow.Author.Needs.{needs}

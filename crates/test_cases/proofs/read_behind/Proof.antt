@@ -1,4 +1,4 @@
--- `caserun::read_behind` meets its contract.
+-- `test_cases::read_behind` meets its contract.
 -- Assumes nothing.
 use Rattle.test_cases.proofs.Cases.{read-behind-ways}
 use borrow.Author.Needs.{needs}

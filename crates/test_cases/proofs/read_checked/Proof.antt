@@ -1,4 +1,4 @@
--- `caserun::read_checked` meets its contract.
+-- `test_cases::read_checked` meets its contract.
 -- Assumes nothing.
 use Rattle.test_cases.proofs.Cases.{read-checked-ways}
 use borrow.Author.Needs.{needs}

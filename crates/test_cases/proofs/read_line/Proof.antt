@@ -1,4 +1,4 @@
--- `caserun::read_line` meets its contract.
+-- `test_cases::read_line` meets its contract.
 -- Assumes nothing.
 use Rattle.test_cases.proofs.Cases.{read-line-ways}
 use borrow.Author.Needs.{needs}

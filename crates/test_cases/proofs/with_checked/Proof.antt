@@ -1,4 +1,4 @@
--- `caserun::with_checked` meets its contract.
+-- `test_cases::with_checked` meets its contract.
 -- Assumes nothing.
 use Rattle.test_cases.proofs.Cases.{with-checked-ways}
 use borrow.Author.Needs.{needs}

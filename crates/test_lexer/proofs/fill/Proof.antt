@@ -1,4 +1,4 @@
--- `lexer_cases::fill` is safe and ends.
+-- `test_lexer::fill` is safe and ends.
 -- Assumes nothing.
 use borrow.Author.Needs.{needs}
 use Prim.Native.Nat.{_-_}

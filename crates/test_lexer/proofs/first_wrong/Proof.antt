@@ -1,4 +1,4 @@
--- `lexer_cases::first_wrong` is safe and ends.
+-- `test_lexer::first_wrong` is safe and ends.
 -- Assumes nothing.
 use borrow.Author.Needs.{needs}
 use Prim.Native.Nat.{_-_}

@@ -1,4 +1,4 @@
--- `lexer_cases::put_row` is safe and ends.
+-- `test_lexer::put_row` is safe and ends.
 -- Assumes nothing.
 use borrow.Author.Needs.{needs}
 use Prim.Native.Nat.{_-_}

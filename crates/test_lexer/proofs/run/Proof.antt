@@ -1,4 +1,4 @@
--- `lexer_cases::run` is safe and ends.
+-- `test_lexer::run` is safe and ends.
 -- Assumes nothing.
 use borrow.Author.Needs.{needs}
 use Prim.Native.Nat.{_-_, _≤_, suc}

@@ -1,4 +1,4 @@
--- `cases::run` is safe and ends.
+-- `test_machine::run` is safe and ends.
 -- Assumes nothing.
 use borrow.Author.Needs.{needs}
 use Prim.Native.Nat.{_≤_, _-_, suc}

@@ -1,4 +1,4 @@
--- `parser_cases::is_listed` is safe and ends.
+-- `test_parser::is_listed` is safe and ends.
 -- Assumes nothing.
 use borrow.Author.Needs.{needs}
 use Prim.Native.Nat.{_-_}

@@ -1,4 +1,4 @@
--- `parser_cases::put_words` is safe and ends.
+-- `test_parser::put_words` is safe and ends.
 -- Assumes nothing.
 use borrow.Author.Needs.{needs}
 use Prim.Native.Nat.{_-_}

@@ -1,4 +1,4 @@
--- `parser_cases::run` is safe and ends.
+-- `test_parser::run` is safe and ends.
 -- Assumes nothing.
 use borrow.Author.Needs.{needs}
 use Prim.Native.Nat.{_-_, _≤_, suc}

@@ -1,4 +1,4 @@
--- `casestate::add_change` meets its contract.
+-- `test_state::add_change` meets its contract.
 -- Assumes nothing.
 use Rattle.test_state.proofs.Cases.{add-change-ways}
 use borrow.Author.Needs.{needs}

@@ -1,4 +1,4 @@
--- `casestate::close_body` meets its contract.
+-- `test_state::close_body` meets its contract.
 -- Assumes nothing.
 use Rattle.test_state.proofs.Cases.{close-body-ways}
 use borrow.Author.Needs.{needs}

@@ -1,4 +1,4 @@
--- `casestate::compare` meets its contract.
+-- `test_state::compare` meets its contract.
 -- Assumes nothing.
 use Rattle.test_state.specs.Views.{blank}
 use Rattle.test_state.proofs.Cases.{compare-ways}

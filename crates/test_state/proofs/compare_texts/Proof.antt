@@ -1,4 +1,4 @@
--- `casestate::compare_texts` meets its contract.
+-- `test_state::compare_texts` meets its contract.
 -- Assumes nothing.
 use Rattle.test_state.proofs.Cases.{compare-texts-ways}
 use borrow.Author.Needs.{needs}

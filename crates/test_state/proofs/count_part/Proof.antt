@@ -1,4 +1,4 @@
--- `casestate::count_part` meets its contract.
+-- `test_state::count_part` meets its contract.
 -- Assumes nothing.
 use Rattle.test_state.proofs.Cases.{count-part-ways}
 use borrow.Author.Needs.{needs}

@@ -1,4 +1,4 @@
--- `casestate::failed` meets its contract.
+-- `test_state::failed` meets its contract.
 -- Assumes nothing.
 use Rattle.test_state.specs.Progress.{failedOf}
 use mathlib.Core.Path.{refl}

@@ -1,4 +1,4 @@
--- `casestate::first` meets its contract.
+-- `test_state::first` meets its contract.
 -- Assumes nothing.
 use Rattle.test_state.proofs.Cases.{first-is}
 use borrow.Author.Needs.{needs}

@@ -1,4 +1,4 @@
--- `casestate::full` meets its contract.
+-- `test_state::full` meets its contract.
 -- Assumes nothing.
 use Rattle.test_state.specs.Progress.{allLent}
 use mathlib.Core.Path.{refl}

@@ -1,4 +1,4 @@
--- `casestate::lend_bytes` meets its contract.
+-- `test_state::lend_bytes` meets its contract.
 -- Assumes nothing.
 use Rattle.test_state.proofs.Cases.{lend-bytes-ways}
 use borrow.Author.Needs.{needs}

@@ -1,4 +1,4 @@
--- `casestate::lend_labels` meets its contract.
+-- `test_state::lend_labels` meets its contract.
 -- Assumes nothing.
 use Rattle.test_state.proofs.Cases.{lend-labels-ways}
 use borrow.Author.Needs.{needs}

@@ -1,4 +1,4 @@
--- `casestate::lend_names` meets its contract.
+-- `test_state::lend_names` meets its contract.
 -- Assumes nothing.
 use Rattle.test_state.proofs.Cases.{lend-names-ways}
 use borrow.Author.Needs.{needs}

@@ -1,4 +1,4 @@
--- `casestate::lend_statements` meets its contract.
+-- `test_state::lend_statements` meets its contract.
 -- Assumes nothing.
 use Rattle.test_state.proofs.Cases.{lend-statements-ways}
 use borrow.Author.Needs.{needs}

@@ -1,4 +1,4 @@
--- `casestate::open_body` meets its contract.
+-- `test_state::open_body` meets its contract.
 -- Assumes nothing.
 use Rattle.test_state.proofs.Cases.{open-body-ways}
 use borrow.Author.Needs.{needs}

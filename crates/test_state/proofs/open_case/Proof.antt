@@ -1,4 +1,4 @@
--- `casestate::open_case` meets its contract.
+-- `test_state::open_case` meets its contract.
 -- Assumes nothing.
 use Rattle.test_state.proofs.Cases.{opened-is}
 use borrow.Author.Needs.{needs}

@@ -1,4 +1,4 @@
--- `casestate::poke_label` meets its contract.
+-- `test_state::poke_label` meets its contract.
 -- Assumes nothing.
 use Rattle.test_state.proofs.Cases.{poke-label-ways}
 use borrow.Author.Needs.{needs}

@@ -1,4 +1,4 @@
--- `casestate::poke_name` meets its contract.
+-- `test_state::poke_name` meets its contract.
 -- Assumes nothing.
 use Rattle.test_state.proofs.Cases.{poke-name-ways}
 use borrow.Author.Needs.{needs}

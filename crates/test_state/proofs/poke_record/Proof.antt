@@ -1,4 +1,4 @@
--- `casestate::poke_record` meets its contract.
+-- `test_state::poke_record` meets its contract.
 -- Assumes nothing.
 use Rattle.test_state.proofs.Cases.{poke-record-ways}
 use borrow.Author.Needs.{needs}

@@ -1,4 +1,4 @@
--- `casestate::poke_stack` meets its contract.
+-- `test_state::poke_stack` meets its contract.
 -- Assumes nothing.
 use Rattle.test_state.proofs.Cases.{poke-stack-ways}
 use borrow.Author.Needs.{needs}

@@ -1,4 +1,4 @@
--- `casestate::poke_statement` meets its contract.
+-- `test_state::poke_statement` meets its contract.
 -- Assumes nothing.
 use Rattle.test_state.proofs.Cases.{poke-statement-ways}
 use borrow.Author.Needs.{needs}

@@ -1,4 +1,4 @@
--- `casestate::read_accepted` meets its contract.
+-- `test_state::read_accepted` meets its contract.
 -- Assumes nothing.
 use Rattle.test_state.proofs.Cases.{read-accepted-ways}
 use borrow.Author.Needs.{needs}

@@ -1,4 +1,4 @@
--- `casestate::read_answer` meets its contract.
+-- `test_state::read_answer` meets its contract.
 -- Assumes nothing.
 use Rattle.test_state.proofs.Cases.{read-answer-ways}
 use borrow.Author.Needs.{needs}

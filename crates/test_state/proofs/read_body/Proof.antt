@@ -1,4 +1,4 @@
--- `casestate::read_body` meets its contract.
+-- `test_state::read_body` meets its contract.
 -- Assumes nothing.
 use Rattle.test_state.proofs.Cases.{read-body-is}
 use borrow.Author.Needs.{needs}

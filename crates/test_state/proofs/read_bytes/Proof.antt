@@ -1,4 +1,4 @@
--- `casestate::read_bytes` meets its contract.
+-- `test_state::read_bytes` meets its contract.
 -- Assumes nothing.
 use Rattle.test_state.proofs.Cases.{read-bytes-ways}
 use borrow.Author.Needs.{needs}

@@ -1,4 +1,4 @@
--- `casestate::read_change` meets its contract.
+-- `test_state::read_change` meets its contract.
 -- Assumes nothing.
 use Rattle.test_state.proofs.Cases.{read-change-ways}
 use borrow.Author.Needs.{needs}

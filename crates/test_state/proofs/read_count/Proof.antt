@@ -1,4 +1,4 @@
--- `casestate::read_count` meets its contract.
+-- `test_state::read_count` meets its contract.
 -- Assumes nothing.
 use Rattle.test_state.proofs.Cases.{read-count-ways}
 use borrow.Author.Needs.{needs}

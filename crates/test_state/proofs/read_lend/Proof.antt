@@ -1,4 +1,4 @@
--- `casestate::read_lend` meets its contract.
+-- `test_state::read_lend` meets its contract.
 -- Assumes nothing.
 use Rattle.test_state.proofs.Cases.{read-lend-ways}
 use borrow.Author.Needs.{needs}

@@ -1,4 +1,4 @@
--- `casestate::read_memory` meets its contract.
+-- `test_state::read_memory` meets its contract.
 -- Assumes nothing.
 use Rattle.test_state.proofs.Cases.{read-memory-ways}
 use borrow.Author.Needs.{needs}

@@ -1,4 +1,4 @@
--- `casestate::read_poke` meets its contract.
+-- `test_state::read_poke` meets its contract.
 -- Assumes nothing.
 use Rattle.test_state.proofs.Cases.{read-poke-ways}
 use borrow.Author.Needs.{needs}

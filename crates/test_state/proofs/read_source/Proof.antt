@@ -1,4 +1,4 @@
--- `casestate::read_source` meets its contract.
+-- `test_state::read_source` meets its contract.
 -- Assumes nothing.
 use Rattle.test_state.proofs.Cases.{read-source-ways}
 use borrow.Author.Needs.{needs}

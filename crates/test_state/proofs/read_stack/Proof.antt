@@ -1,4 +1,4 @@
--- `casestate::read_stack` meets its contract.
+-- `test_state::read_stack` meets its contract.
 -- Assumes nothing.
 use Rattle.test_state.proofs.Cases.{read-stack-ways}
 use borrow.Author.Needs.{needs}

@@ -1,4 +1,4 @@
--- `casestate::read_view` meets its contract.
+-- `test_state::read_view` meets its contract.
 -- Assumes nothing.
 use Rattle.test_state.proofs.Cases.{read-view-ways}
 use borrow.Author.Needs.{needs}

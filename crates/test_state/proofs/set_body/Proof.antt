@@ -1,4 +1,4 @@
--- `casestate::set_body` meets its contract.
+-- `test_state::set_body` meets its contract.
 -- Assumes nothing.
 use Rattle.test_state.specs.Progress.{bodiedOf}
 use mathlib.Core.Path.{refl}

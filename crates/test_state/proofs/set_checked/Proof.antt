@@ -1,4 +1,4 @@
--- `casestate::set_checked` meets its contract.
+-- `test_state::set_checked` meets its contract.
 -- Assumes nothing.
 use Rattle.test_state.specs.Progress.{checkedOf}
 use mathlib.Core.Path.{refl}

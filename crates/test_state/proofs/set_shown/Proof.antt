@@ -1,4 +1,4 @@
--- `casestate::set_shown` meets its contract.
+-- `test_state::set_shown` meets its contract.
 -- Assumes nothing.
 use Rattle.test_state.specs.Progress.{shownOf}
 use mathlib.Core.Path.{refl}

@@ -1,4 +1,4 @@
--- `casestate::set_size` meets its contract.
+-- `test_state::set_size` meets its contract.
 -- Assumes nothing.
 use Rattle.test_state.specs.Progress.{sizedOf}
 use mathlib.Core.Path.{refl}

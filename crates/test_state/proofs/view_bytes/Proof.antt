@@ -1,4 +1,4 @@
--- `casestate::view_bytes` meets its contract.
+-- `test_state::view_bytes` meets its contract.
 -- Assumes nothing.
 use Rattle.test_state.proofs.Cases.{view-bytes-ways}
 use borrow.Author.Needs.{needs}

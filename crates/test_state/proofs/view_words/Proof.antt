@@ -1,4 +1,4 @@
--- `casestate::view_words` meets its contract.
+-- `test_state::view_words` meets its contract.
 -- Assumes nothing.
 use Rattle.test_state.proofs.Cases.{view-words-ways}
 use borrow.Author.Needs.{needs}

@@ -1,4 +1,4 @@
--- `casestate::with_answer` meets its contract.
+-- `test_state::with_answer` meets its contract.
 -- Assumes nothing.
 use Rattle.test_state.specs.Progress.{answeredOf}
 use mathlib.Core.Path.{refl}

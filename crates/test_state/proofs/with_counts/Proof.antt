@@ -1,4 +1,4 @@
--- `casestate::with_counts` meets its contract.
+-- `test_state::with_counts` meets its contract.
 -- Assumes nothing.
 use Rattle.test_state.specs.Progress.{countedOf}
 use mathlib.Core.Path.{refl}

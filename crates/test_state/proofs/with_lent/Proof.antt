@@ -1,4 +1,4 @@
--- `casestate::with_lent` meets its contract.
+-- `test_state::with_lent` meets its contract.
 -- Assumes nothing.
 use Rattle.test_state.specs.Progress.{lentOf}
 use mathlib.Core.Path.{refl}

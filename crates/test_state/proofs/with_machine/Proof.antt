@@ -1,4 +1,4 @@
--- `casestate::with_machine` meets its contract.
+-- `test_state::with_machine` meets its contract.
 -- Assumes nothing.
 use Rattle.test_state.specs.Progress.{machineOf}
 use mathlib.Core.Path.{refl}

@@ -1,4 +1,4 @@
--- `casestate::with_memory` meets its contract.
+-- `test_state::with_memory` meets its contract.
 -- Assumes nothing.
 use Rattle.test_state.proofs.Cases.{with-memory-is}
 use borrow.Author.Needs.{needs}

@@ -1,4 +1,4 @@
--- `casestate::with_size` meets its contract.
+-- `test_state::with_size` meets its contract.
 -- Assumes nothing.
 use Rattle.test_state.proofs.Cases.{with-size-ways}
 use borrow.Author.Needs.{needs}

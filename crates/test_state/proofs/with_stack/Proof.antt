@@ -1,4 +1,4 @@
--- `casestate::with_stack` meets its contract.
+-- `test_state::with_stack` meets its contract.
 -- Assumes nothing.
 use Rattle.test_state.proofs.Cases.{with-stack-is}
 use borrow.Author.Needs.{needs}

@@ -1,4 +1,4 @@
--- `casestate::without_answer` meets its contract.
+-- `test_state::without_answer` meets its contract.
 -- Assumes nothing.
 use Rattle.test_state.specs.Progress.{unansweredOf}
 use mathlib.Core.Path.{refl}

@@ -1,4 +1,4 @@
--- `casetext::add_broken` meets its contract.
+-- `test_text::add_broken` meets its contract.
 -- Assumes nothing.
 use Rattle.test_text.proofs.Cases.{brokens}
 use borrow.Author.Needs.{needs}

@@ -1,4 +1,4 @@
--- `casetext::add_bytes` meets its contract.
+-- `test_text::add_bytes` meets its contract.
 -- Assumes nothing.
 use borrow.Author.Needs.{needs}
 use Prim.Native.Nat.{_-_}

@@ -1,4 +1,4 @@
--- `casetext::add_counted` meets its contract.
+-- `test_text::add_counted` meets its contract.
 -- Assumes nothing.
 use Rattle.test_text.proofs.Cases.{counted-added}
 use borrow.Author.Needs.{needs}

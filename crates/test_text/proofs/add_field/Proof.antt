@@ -1,4 +1,4 @@
--- `casetext::add_field` meets its contract.
+-- `test_text::add_field` meets its contract.
 -- Assumes nothing.
 use borrow.Author.Needs.{needs}
 use Rattle.test_text.proofs.Cases.{fields}

@@ -1,4 +1,4 @@
--- `casetext::add_finished` meets its contract.
+-- `test_text::add_finished` meets its contract.
 -- Assumes nothing.
 use Rattle.test_text.proofs.Cases.{finished-added}
 use borrow.Author.Needs.{needs}

@@ -1,4 +1,4 @@
--- `casetext::add_next` meets its contract.
+-- `test_text::add_next` meets its contract.
 -- Assumes nothing.
 use Rattle.test_text.proofs.Cases.{next-added}
 use borrow.Author.Needs.{needs}

@@ -1,4 +1,4 @@
--- `casetext::add_number` meets its contract.
+-- `test_text::add_number` meets its contract.
 -- Assumes nothing.
 use Rattle.test_text.proofs.Cases.{number-added}
 use borrow.Author.Needs.{needs}

@@ -1,4 +1,4 @@
--- `casetext::add_outcome` meets its contract.
+-- `test_text::add_outcome` meets its contract.
 -- Assumes nothing.
 use Rattle.test_text.proofs.Cases.{outcomes}
 use borrow.Author.Needs.{needs}

@@ -1,4 +1,4 @@
--- `casetext::add_raw` meets its contract.
+-- `test_text::add_raw` meets its contract.
 -- Assumes nothing.
 use borrow.Author.Needs.{needs}
 use Rattle.test_text.proofs.Cases.{raw-added}

@@ -1,4 +1,4 @@
--- `casetext::add_record` meets its contract.
+-- `test_text::add_record` meets its contract.
 -- Assumes nothing.
 use Rattle.test_text.proofs.Cases.{record-added}
 use borrow.Author.Needs.{needs}

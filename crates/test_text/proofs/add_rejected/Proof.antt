@@ -1,4 +1,4 @@
--- `casetext::add_rejected` meets its contract.
+-- `test_text::add_rejected` meets its contract.
 -- Assumes nothing.
 use Rattle.test_text.proofs.Cases.{rejected-added}
 use borrow.Author.Needs.{needs}

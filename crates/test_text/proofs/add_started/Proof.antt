@@ -1,4 +1,4 @@
--- `casetext::add_started` meets its contract.
+-- `test_text::add_started` meets its contract.
 -- Assumes nothing.
 use Rattle.test_text.proofs.Cases.{starteds}
 use borrow.Author.Needs.{needs}

@@ -1,4 +1,4 @@
--- `casetext::add_state` meets its contract.
+-- `test_text::add_state` meets its contract.
 -- Assumes nothing.
 use Rattle.test_text.proofs.Cases.{states}
 use borrow.Author.Needs.{needs}

@@ -1,4 +1,4 @@
--- `casetext::add_stopped` meets its contract.
+-- `test_text::add_stopped` meets its contract.
 -- Assumes nothing.
 use Rattle.test_text.proofs.Cases.{stopped-added}
 use borrow.Author.Needs.{needs}

@@ -1,4 +1,4 @@
--- `casetext::add_unsound` meets its contract.
+-- `test_text::add_unsound` meets its contract.
 -- Assumes nothing.
 use Rattle.test_text.proofs.Cases.{unsound-added}
 use borrow.Author.Needs.{needs}

@@ -1,4 +1,4 @@
--- `casetext::are_values` meets its contract.
+-- `test_text::are_values` meets its contract.
 -- Assumes nothing.
 use borrow.Author.Needs.{needs}
 use Prim.Native.Nat.{_-_}

@@ -1,4 +1,4 @@
--- `casetext::at_most` gives the lesser of two numbers.
+-- `test_text::at_most` gives the lesser of two numbers.
 -- Assumes nothing.
 use Rattle.test_text.proofs.Cases.{lessers}
 use borrow.Author.Needs.{needs}

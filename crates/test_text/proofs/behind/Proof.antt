@@ -1,4 +1,4 @@
--- `casetext::behind` gives the labels.
+-- `test_text::behind` gives the labels.
 -- Assumes nothing.
 use Rattle.test_text.proofs.Cases.{behinds}
 use borrow.Author.Needs.{needs}

@@ -1,4 +1,4 @@
--- `casetext::behind_names` gives the data.
+-- `test_text::behind_names` gives the data.
 -- Assumes nothing.
 use Rattle.test_text.proofs.Cases.{behinds}
 use borrow.Author.Needs.{needs}

@@ -1,4 +1,4 @@
--- `casetext::changed_byte` meets its contract.
+-- `test_text::changed_byte` meets its contract.
 -- Assumes nothing.
 use borrow.Author.Needs.{needs}
 use Prim.Native.Nat.{_-_}

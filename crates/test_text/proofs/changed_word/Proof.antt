@@ -1,4 +1,4 @@
--- `casetext::changed_word` meets its contract.
+-- `test_text::changed_word` meets its contract.
 -- Assumes nothing.
 use borrow.Author.Needs.{needs}
 use Prim.Native.Nat.{_-_}

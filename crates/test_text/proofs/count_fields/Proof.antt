@@ -1,4 +1,4 @@
--- `casetext::count_fields` counts the fields of a line.
+-- `test_text::count_fields` counts the fields of a line.
 -- Assumes nothing.
 use borrow.Author.Needs.{needs}
 use Prim.Native.Nat.{_-_}

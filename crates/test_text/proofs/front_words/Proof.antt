@@ -1,4 +1,4 @@
--- `casetext::front_words` gives the first words.
+-- `test_text::front_words` gives the first words.
 -- Assumes nothing.
 use Rattle.test_lines.proofs.Cases.{fronts}
 use borrow.Author.Needs.{needs}

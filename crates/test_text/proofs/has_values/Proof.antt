@@ -1,4 +1,4 @@
--- `casetext::has_values` meets its contract.
+-- `test_text::has_values` meets its contract.
 -- Assumes nothing.
 use borrow.Author.Needs.{needs}
 use Rattle.test_text.proofs.Cases.{has-values}

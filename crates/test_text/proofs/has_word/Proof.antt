@@ -1,4 +1,4 @@
--- `casetext::has_word` says whether a field starts with a word.
+-- `test_text::has_word` says whether a field starts with a word.
 -- Assumes nothing.
 use Rattle.test_text.proofs.Cases.{word-at}
 use borrow.Author.Needs.{needs}

@@ -1,4 +1,4 @@
--- `casetext::is_digits` meets its contract.
+-- `test_text::is_digits` meets its contract.
 -- Assumes nothing.
 use borrow.Author.Needs.{needs}
 use Prim.Native.Nat.{_-_}

@@ -1,4 +1,4 @@
--- `casetext::is_number_poke` meets its contract.
+-- `test_text::is_number_poke` meets its contract.
 -- Assumes nothing.
 use Rattle.test_text.proofs.Cases.{named}
 use borrow.Author.Needs.{needs}

@@ -1,4 +1,4 @@
--- `casetext::is_record_poke` meets its contract.
+-- `test_text::is_record_poke` meets its contract.
 -- Assumes nothing.
 use borrow.Author.Needs.{needs}
 use Rattle.test_text.proofs.Cases.{changes}

@@ -1,4 +1,4 @@
--- `casetext::is_state_poke` meets its contract.
+-- `test_text::is_state_poke` meets its contract.
 -- Assumes nothing.
 use borrow.Author.Needs.{needs}
 use Rattle.test_text.proofs.Cases.{state-names}

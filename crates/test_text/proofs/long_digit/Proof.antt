@@ -1,4 +1,4 @@
--- `casetext::long_digit` meets its contract.
+-- `test_text::long_digit` meets its contract.
 -- Assumes nothing.
 use Rattle.test_text.proofs.Cases.{longs}
 use borrow.Author.Needs.{needs}

@@ -1,4 +1,4 @@
--- `casetext::long_number` meets its contract.
+-- `test_text::long_number` meets its contract.
 -- Assumes nothing.
 use borrow.Author.Needs.{needs}
 use Prim.Native.Nat.{_-_}

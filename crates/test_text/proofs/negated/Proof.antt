@@ -1,4 +1,4 @@
--- `casetext::negated` meets its contract.
+-- `test_text::negated` meets its contract.
 -- Assumes nothing.
 use Rattle.test_text.proofs.Cases.{negations}
 use borrow.Author.Needs.{needs}

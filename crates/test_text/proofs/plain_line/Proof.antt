@@ -1,4 +1,4 @@
--- `casetext::plain_line` meets its contract.
+-- `test_text::plain_line` meets its contract.
 -- Assumes nothing.
 use borrow.Author.Needs.{needs}
 use Prim.Native.Nat.{_-_}

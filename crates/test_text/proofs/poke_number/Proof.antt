@@ -1,4 +1,4 @@
--- `casetext::poke_number` meets its contract.
+-- `test_text::poke_number` meets its contract.
 -- Assumes nothing.
 use Rattle.test_text.proofs.Cases.{pokes}
 use borrow.Author.Needs.{needs}

@@ -1,4 +1,4 @@
--- `casetext::poke_record` meets its contract.
+-- `test_text::poke_record` meets its contract.
 -- Assumes nothing.
 use borrow.Author.Needs.{needs}
 use Rattle.test_text.proofs.Cases.{poked}

@@ -1,4 +1,4 @@
--- `casetext::poke_state` meets its contract.
+-- `test_text::poke_state` meets its contract.
 -- Assumes nothing.
 use Rattle.test_text.proofs.Cases.{state-pokes}
 use borrow.Author.Needs.{needs}

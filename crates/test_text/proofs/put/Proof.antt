@@ -1,4 +1,4 @@
--- `casetext::put` meets its contract.
+-- `test_text::put` meets its contract.
 -- Assumes nothing.
 use Rattle.vm_memory.proofs.Cases.{put-past}
 use borrow.Author.Needs.{needs}

@@ -1,4 +1,4 @@
--- `casetext::put_bytes` meets its contract.
+-- `test_text::put_bytes` meets its contract.
 -- Assumes nothing.
 use borrow.Author.Needs.{needs}
 use Prim.Native.Nat.{_-_}

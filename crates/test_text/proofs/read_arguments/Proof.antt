@@ -1,4 +1,4 @@
--- `casetext::read_arguments` meets its contract.
+-- `test_text::read_arguments` meets its contract.
 -- Assumes nothing.
 use borrow.Author.Needs.{needs}
 use Prim.Native.Nat.{_-_}

@@ -1,4 +1,4 @@
--- `casetext::value` meets its contract.
+-- `test_text::value` meets its contract.
 -- Assumes nothing.
 use Rattle.test_text.proofs.Cases.{values, sign-within}
 use borrow.Author.Needs.{needs}

@@ -1,4 +1,4 @@
--- `casetext::with_state` meets its contract.
+-- `test_text::with_state` meets its contract.
 -- Assumes nothing.
 use Rattle.test_text.specs.Records.{withState}
 use mathlib.Core.Path.{refl}

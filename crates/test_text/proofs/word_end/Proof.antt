@@ -1,4 +1,4 @@
--- `casetext::word_end` finds the end of a word.
+-- `test_text::word_end` finds the end of a word.
 -- Assumes nothing.
 use borrow.Author.Needs.{needs}
 use Prim.Native.Nat.{_-_}

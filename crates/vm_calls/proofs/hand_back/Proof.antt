@@ -1,4 +1,4 @@
-use Rattle.vm_calls.proofs.Cases.{back, landed-low}
+use Rattle.vm_calls.proofs.Cases.{back, resumed-low}
 use native.Mathlib.Omega.{arith}
 use mathlib.Core.Path.{_≡_, refl, sym, _∙_, ap, subst}
 use borrow.Author.Needs.{needs}
@@ -9,10 +9,10 @@ use Rattle.vm_calls.proofs.hand_back.Lts as lts
 use Rattle.vm_calls.proofs.finish.Reads as finish-reads
 use Rattle.vm_calls.proofs.hand_to.Reads as hand-to-reads
 use Rattle.vm_calls.proofs.move_to.Reads as move-to-reads
-use Rattle.vm_guard.proofs.landing.Reads as landing-reads
+use Rattle.vm_guard.proofs.resumption.Reads as resumption-reads
 
-landing-requires : tie.Need-landing-requires
-landing-requires c κs = search needs
+resumption-requires : tie.Need-resumption-requires
+resumption-requires c κs = search needs
 
 enum-known-way : tie.Need-enum-known-way
 enum-known-way c = search needs
@@ -25,7 +25,7 @@ enum-known-way-2 c = search needs
 
 add-move-to : tie.Need-add-move-to
 add-move-to c =
-    omega (arith, landed-low _ _ _ _ _ _ _ _ _ _ (c .before .before .before .before .before .before .before .before .pre) (c .before .before .before .landing .ensures) (c .before .way2 .given .1))
+    omega (arith, resumed-low _ _ _ _ _ _ _ _ _ _ (c .before .before .before .before .before .before .before .before .pre) (c .before .before .before .resumption .ensures) (c .before .way2 .given .1))
 
 move-to-requires : tie.Need-move-to-requires
 move-to-requires c κs = search needs
@@ -54,7 +54,7 @@ pub hand-back-spec : {M : Type 1} → statement M
 hand-back-spec =
     tie.close
     (tie.spec
-    landing-requires
+    resumption-requires
     enum-known-way
     finish-requires
     enum-known-way-2

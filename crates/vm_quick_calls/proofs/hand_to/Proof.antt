@@ -8,7 +8,7 @@ use Rattle.vm_quick_calls.proofs.hand_to.Reads as reads
 use Rattle.vm_quick_calls.proofs.hand_to.Lts as lts
 use Rattle.prog_tables.proofs.word_at.Reads as word-at-reads
 use Rattle.vm_quick_calls.proofs.is_call_good.Reads as is-call-good-reads
-use Rattle.vm_quick_calls.proofs.land.Reads as land-reads
+use Rattle.vm_quick_calls.proofs.resume.Reads as resume-reads
 
 add-word-at : tie.Need-add-word-at
 add-word-at c = search needs
@@ -41,8 +41,8 @@ add-if2 c = search needs
 is-call-good-requires : tie.Need-is-call-good-requires
 is-call-good-requires c κs = search needs
 
-land-requires : tie.Need-land-requires
-land-requires c κs = search needs
+resume-requires : tie.Need-resume-requires
+resume-requires c κs = search needs
 
 same-length-2 : tie.Need-same-length-2
 same-length-2 c = search needs
@@ -79,7 +79,7 @@ hand-to-spec =
     cast-if2
     add-if2
     is-call-good-requires
-    land-requires
+    resume-requires
     same-length-2
     returns-2
     same-length-3

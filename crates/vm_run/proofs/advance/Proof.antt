@@ -6,7 +6,7 @@ use Rattle.vm_run.proofs.advance.Statement.{statement}
 use Rattle.vm_run.proofs.advance.Tie as tie
 use Rattle.vm_run.proofs.advance.Reads as reads
 use Rattle.vm_run.proofs.advance.Lts as lts
-use Rattle.vm_run.proofs.advance_held.Reads as advance-held-reads
+use Rattle.vm_run.proofs.advance_in_frame.Reads as advance-in-frame-reads
 use Rattle.vm_run.proofs.step_within.Reads as step-within-reads
 use Rattle.vm_run.proofs.usable_size.Reads as usable-size-reads
 
@@ -26,8 +26,8 @@ returns : tie.Need-returns
 returns c =
     search somes
 
-advance-held-requires : tie.Need-advance-held-requires
-advance-held-requires c κs =
+advance-in-frame-requires : tie.Need-advance-in-frame-requires
+advance-in-frame-requires c κs =
     (search needs, search usable-room, search usable-stack, search usable-memory)
 
 same-length-3 : tie.Need-same-length-3
@@ -49,7 +49,7 @@ advance-spec =
     same-length
     same-length-2
     returns
-    advance-held-requires
+    advance-in-frame-requires
     same-length-3
     same-length-4
     returns-2)

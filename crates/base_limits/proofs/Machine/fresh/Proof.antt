@@ -1,4 +1,4 @@
--- `limits::Machine::fresh` meets its contract.
+-- `base_limits::Machine::fresh` meets its contract.
 -- Assumes nothing.
 use mathlib.Core.Path.{refl}
 use Rattle.base_limits.specs.Fresh.{freshOf}
