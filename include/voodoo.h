@@ -38,7 +38,8 @@
  *
  * Everything is proved: for all inputs and all buffers the answer and every word
  * of every buffer are those of one definition (voodoo_check: crates/c_voodoo/specs
- * and crates/check_source/specs; the others: crates/c_voodoo/specs/Calls.antt over
+ * and crates/check_source/specs, over crates/check_judge/specs and
+ * crates/check_fill/specs; the others: crates/c_voodoo/specs/Calls.antt over
  * crates/vm_definitions/specs and crates/c_words/specs). The functions return for
  * every input, allocate nothing, keep nothing between calls and call nothing but
  * memcpy and memset, so any number of threads may call them at once, each with its

@@ -5,7 +5,7 @@ use mathlib.Core.List.{List}
 use Prim.Native.Nat.{ℕ, _%_}
 use lib.ListN.{length}
 use Rattle.base_limits.specs.declared.Width.the-variants.{Bits32}
-use Rattle.check_source.specs.Check.{Lent, lent, Left, left, checkOf}
+use Rattle.check_source.specs.Check.{lent, Filled, filled, checkOf}
 use Rattle.check_source.specs.declared.Checked.{Checked}
 use Rattle.check_source.specs.declared.Checked.the-variants.{Accepted, Refused}
 use Rattle.app_page.specs.Page.{Shown, shownOn, acceptedPage, refusedPage}
@@ -27,8 +27,8 @@ lent-is : (l m n o p : ℕ) → l ≡ 32768 → m ≡ 27648 → n ≡ 1024 → o
 lent-is l m n o p hl hm hn ho hp = rw (hl, hm, hn, ho, hp)
 
 pub list-is : (s : List ℕ) (x : Checked) (a b c d e out : List ℕ) (l m n o p : ℕ) (z : Shown) → l ≡ 32768 → m ≡ 27648 → n ≡ 1024 → o ≡ 16384 → p ≡ 32768
-    → left x a b c d e ≡ checkOf Bits32 s (lent l m n o p) → z ≡ shownOn (pageBy s x c d b) out → z ≡ shownOn (listOf s) out
+    → filled x a b c d e ≡ checkOf Bits32 s (lent l m n o p) → z ≡ shownOn (pageBy s x c d b) out → z ≡ shownOn (listOf s) out
 unfolding listOf pageOf
 list-is s x a b c d e out l m n o p z hl hm hn ho hp h q =
-    let k : left x a b c d e ≡ checkOf Bits32 s fullTables = h ∙ ap (checkOf Bits32 s) (lent-is l m n o p hl hm hn ho hp) in
-    q ∙ ap (λ (v : Left). shownOn (pageBy s (v .answer) (v .labels) (v .names) (v .statements)) out) k
+    let k : filled x a b c d e ≡ checkOf Bits32 s fullTables = h ∙ ap (checkOf Bits32 s) (lent-is l m n o p hl hm hn ho hp) in
+    q ∙ ap (λ (v : Filled). shownOn (pageBy s (v .answer) (v .labels) (v .names) (v .statements)) out) k

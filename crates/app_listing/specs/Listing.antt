@@ -5,7 +5,7 @@ use mathlib.Core.List.{List}
 use Rattle.base_limits.specs.Limits.{tokenWords, dataBytes}
 use Rattle.base_limits.specs.declared.Width.the-variants.{Bits32}
 use Rattle.prog_tables.specs.Layout.{statementWords, labelWords, nameTable}
-use Rattle.check_source.specs.Check.{Lent, lent, Left, left, checkOf}
+use Rattle.check_source.specs.Check.{Lent, lent, Filled, checkOf}
 use Rattle.check_source.specs.declared.Checked.{Checked}
 use Rattle.check_source.specs.declared.Checked.the-variants.{Accepted, Refused}
 use Rattle.app_page.specs.Page.{acceptedPage, refusedPage}
@@ -19,7 +19,7 @@ unfoldable pub pageBy : List ℕ → Checked → List ℕ → List ℕ → List 
 pageBy s (Accepted tokens statements labels size) table names rows = acceptedPage statements labels size table names rows
 pageBy s (Refused number place) table names rows = refusedPage s number (place % 4294967296)
 
-unfoldable pub pageOf : List ℕ → Left → List ℕ
+unfoldable pub pageOf : List ℕ → Filled → List ℕ
 pageOf s x = pageBy s (x .answer) (x .labels) (x .names) (x .statements)
 
 -- the page of a source

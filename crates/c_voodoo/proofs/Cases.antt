@@ -6,7 +6,7 @@ use Prim.Native.Nat.{ℕ, _%_, _<_, _≤_}
 use lib.ListN.{length}
 use Rattle.base_prelude.specs.Lists.{overlay}
 use Rattle.base_prelude.proofs.Choice.{ifLt-yes, ifLt-no}
-use Rattle.check_source.specs.Check.{Left, left}
+use Rattle.check_source.specs.Check.{Filled, filled}
 use Rattle.check_source.specs.declared.Checked.{Checked}
 use Rattle.check_source.specs.declared.Checked.the-variants.{Accepted, Refused}
 use Rattle.base_limits.specs.declared.Width.the-variants.{Bits32}
@@ -47,11 +47,11 @@ module _ (x : Checked) (out o : List ℕ) (r : ℕ) where
     unfolding resultWords
     words-refused q = q ∙ sym (ap (λ (y : Checked). overlay (resultWords y) out) e)
 
-pub told-is : (x : Checked) (a b c d e : List ℕ) (y : Left) (number : ℕ) (out o : List ℕ) → left x a b c d e ≡ y
+pub told-is : (x : Checked) (a b c d e : List ℕ) (y : Filled) (number : ℕ) (out o : List ℕ) → filled x a b c d e ≡ y
     → (number ≡ answerNumber x) × (o ≡ overlay (resultWords x) out) → told number a b c d e o ≡ toldOf y out
 unfolding toldOf
 told-is x a b c d e y number out o p q =
-    ap₂ (λ (n : ℕ) (l : List ℕ). told n a b c d e l) (q .0) (q .1) ∙ ap (λ (z : Left). toldOf z out) p
+    ap₂ (λ (n : ℕ) (l : List ℕ). told n a b c d e l) (q .0) (q .1) ∙ ap (λ (z : Filled). toldOf z out) p
 
 -- ---- start, step and run
 

@@ -3,7 +3,7 @@
 use Prim.Native.Nat.{ℕ, _%_}
 use mathlib.Core.List.{List, [], _∷_}
 use Rattle.base_prelude.specs.Lists.{overlay}
-use Rattle.check_source.specs.Check.{Left}
+use Rattle.check_source.specs.Check.{Filled}
 use Rattle.check_source.specs.declared.Checked.{Checked}
 use Rattle.check_source.specs.declared.Checked.the-variants.{Accepted, Refused}
 
@@ -32,6 +32,6 @@ told number tokens statements labels names bytes result =
     record { number = number; tokens = tokens; statements = statements; labels = labels; names = names; bytes = bytes; result = result }
 
 -- what a check leaves, its answer written over the front of the lent result
-unfoldable pub toldOf : Left → List ℕ → Told
+unfoldable pub toldOf : Filled → List ℕ → Told
 toldOf x result =
     told (answerNumber (x .answer)) (x .tokens) (x .statements) (x .labels) (x .names) (x .bytes) (overlay (resultWords (x .answer)) result)

@@ -1,91 +1,62 @@
 -- One law for each way through a function of this crate.
 -- Assumes nothing.
-use mathlib.Core.Path.{_≡_, refl, sym, _∙_, ap, ap₂, subst}
+use mathlib.Core.Path.{_≡_, sym, _∙_, ap}
 use mathlib.Core.Bool.{Bool, true, false}
 use mathlib.Core.List.{List}
-use Prim.Native.Nat.{ℕ, _+_, _*_, _-_, _%_, _/_, _<_, _≤_, min}
+use Prim.Native.Nat.{ℕ, _*_, _<_, _≤_}
 use native.Mathlib.Decide.{decLt}
 use native.Mathlib.Omega.{arith}
-use lib.ListN.{length, length-replicate}
-use Rattle.base_prelude.specs.Choice.{ifLt, ifTrue}
-use Rattle.base_prelude.specs.Fault.{none}
-use Rattle.base_prelude.specs.Lists.{zeros, clearedFrom}
-use Rattle.base_prelude.proofs.Choice.{ifLt-yes, ifLt-no, true-false}
+use Rattle.base_prelude.proofs.Choice.{ifLt-yes, ifLt-no, ifTrue-yes, ifTrue-no, true-false}
 use Rattle.base_limits.specs.declared.Width.{Width}
-use Rattle.parse_lines.specs.Tokens.{placeAt}
-use Rattle.parse_outline.specs.Outline.{Outlined, parsed, outlineOf}
-use Rattle.parse_outline.specs.declared.Parsed.{Parsed}
-use Rattle.parse_outline.specs.declared.Parsed.the-variants as parse
-use Rattle.prog_tables.specs.Statement.{rowAt}
-use Rattle.res_skeleton.specs.Skeleton.{skeletonOf}
-use Rattle.res_frame_words.specs.Framing.{wordsOf}
-use Rattle.res_names.specs.Naming.{Naming, naming, namesOf}
-use Rattle.res_exports.specs.Exports.{Exported, exported, exportsOf}
-use Rattle.res_data.specs.Sizes.{measureOf, lengthOf}
-use Rattle.res_data.specs.Image.{imageOf}
-use Rattle.res_data.specs.declared.Measured.{Measured}
-use Rattle.res_data.specs.declared.Measured.the-variants.{Length, Big}
-use Rattle.res_labels.specs.Labelling.{labelTable, nameTable}
-use Rattle.res_rows.specs.Rows.{statementTable}
-use Rattle.res_tokens.specs.TokenTable as begins
-use Rattle.check_source.specs.Check.{Lent, lent, Left, left, refuse, holds, Known, known, labelsIn, accept, roomStage, sizeStage, dataStage, judgeWith, judgeOf, nameStage, rowStage, outlineStage, tokenStage}
-use Rattle.check_source.specs.Fits.{Room}
-use Rattle.check_source.specs.declared.Checked.{Checked}
+use Rattle.res_scope.specs.Names.{sameNumber}
+use Rattle.check_judge.specs.Judge.{Judged, fine, judgeOf}
+use Rattle.check_judge.specs.Judged.{knownBy, judged}
+use Rattle.check_judge.specs.declared.Counts.{Counts}
+use Rattle.check_judge.specs.declared.Judgement.{Judgement}
+use Rattle.check_judge.specs.declared.Judgement.the-variants as judge
+use Rattle.check_judge.proofs.Fine.{fine-few, fine-same}
+use Rattle.check_fill.specs.Fill.{Lent, lent, buffers, zeroed, fillOf}
+use Rattle.check_fill.specs.Fits.{Room}
+use Rattle.check_source.specs.Check.{Filled, filled, filledBy, refuse, accept, hasRoom, answerTo, checkOf}
 use Rattle.check_source.specs.declared.Checked.the-variants.{Accepted, Refused}
 
-pub cleared-is : (x y : List ℕ) → y ≡ clearedFrom x 0 → y ≡ zeros (length x)
-unfolding clearedFrom
-cleared-is x y e = let z : length x - 0 ≡ length x = omega arith in e ∙ ap zeros z
-
-abbrev pub Cleared : List ℕ → List ℕ → List ℕ → List ℕ → List ℕ → List ℕ → List ℕ → List ℕ → List ℕ → List ℕ → Type 0
-Cleared a b c d e a′ b′ c′ d′ e′ =
-    (a′ ≡ zeros (length a)) × (b′ ≡ zeros (length b)) × (c′ ≡ zeros (length c)) × (d′ ≡ zeros (length d)) × (e′ ≡ zeros (length e))
-
-pub all-cleared : (a b c d e a′ b′ c′ d′ e′ : List ℕ) → a′ ≡ zeros (length a) → b′ ≡ zeros (length b) → c′ ≡ zeros (length c) → d′ ≡ zeros (length d) → e′ ≡ zeros (length e)
-    → Cleared a b c d e a′ b′ c′ d′ e′
-all-cleared a b c d e a′ b′ c′ d′ e′ p q r s t = (p, q, r, s, t)
-
-pub left-same : (x : Checked) (a b c d e a′ b′ c′ d′ e′ : List ℕ) → a ≡ a′ → b ≡ b′ → c ≡ c′ → d ≡ d′ → e ≡ e′ → left x a b c d e ≡ left x a′ b′ c′ d′ e′
-left-same x a b c d e a′ b′ c′ d′ e′ p q r s t = rw (p, q, r, s, t)
-
-pub refuse-is : (number place : ℕ) (a b c d e a′ b′ c′ d′ e′ : List ℕ) → Cleared a b c d e a′ b′ c′ d′ e′
-    → left (Refused number place) a′ b′ c′ d′ e′ ≡ refuse number place (lent (length a) (length b) (length c) (length d) (length e))
+pub refuse-is : (number place : ℕ) (b : Lent) (x y z u v : List ℕ) → buffers x y z u v ≡ zeroed b → filled (Refused number place) x y z u v ≡ refuse number place b
 unfolding refuse
-refuse-is number place a b c d e a′ b′ c′ d′ e′ h = left-same _ a′ b′ c′ d′ e′ _ _ _ _ _ (h .0) (h .1) (h .2) (h .3) (h .4)
+refuse-is number place b x y z u v h = ap (filledBy (Refused number place)) h
 
 -- ---- 16
 
 module _ (a b c d e n m l size : ℕ) where
-  pub short-tokens : a < n * 8 → false ≡ holds (lent a b c d e) n m l size
-  unfolding holds
+  pub short-tokens : a < n * 8 → false ≡ hasRoom (lent a b c d e) n m l size
+  unfolding hasRoom
   short-tokens h = sym (ifLt-yes _ _ h)
 
   module _ (p : n * 8 ≤ a) where
-    pub short-statements : b < m * 27 → false ≡ holds (lent a b c d e) n m l size
-    unfolding holds
+    pub short-statements : b < m * 27 → false ≡ hasRoom (lent a b c d e) n m l size
+    unfolding hasRoom
     short-statements h = sym (ifLt-no _ _ p ∙ ifLt-yes _ _ h)
 
     module _ (q : m * 27 ≤ b) where
-      pub short-labels : c < l * 4 → false ≡ holds (lent a b c d e) n m l size
-      unfolding holds
+      pub short-labels : c < l * 4 → false ≡ hasRoom (lent a b c d e) n m l size
+      unfolding hasRoom
       short-labels h = sym (ifLt-no _ _ p ∙ ifLt-no _ _ q ∙ ifLt-yes _ _ h)
 
       module _ (r : l * 4 ≤ c) where
-        pub short-names : d < l * 64 → false ≡ holds (lent a b c d e) n m l size
-        unfolding holds
+        pub short-names : d < l * 64 → false ≡ hasRoom (lent a b c d e) n m l size
+        unfolding hasRoom
         short-names h = sym (ifLt-no _ _ p ∙ ifLt-no _ _ q ∙ ifLt-no _ _ r ∙ ifLt-yes _ _ h)
 
         module _ (s : l * 64 ≤ d) where
-          pub short-bytes : e < size → false ≡ holds (lent a b c d e) n m l size
-          unfolding holds
+          pub short-bytes : e < size → false ≡ hasRoom (lent a b c d e) n m l size
+          unfolding hasRoom
           short-bytes h = sym (ifLt-no _ _ p ∙ ifLt-no _ _ q ∙ ifLt-no _ _ r ∙ ifLt-no _ _ s ∙ ifLt-yes _ _ h)
 
-          pub long-enough : size ≤ e → true ≡ holds (lent a b c d e) n m l size
-          unfolding holds
+          pub long-enough : size ≤ e → true ≡ hasRoom (lent a b c d e) n m l size
+          unfolding hasRoom
           long-enough h = sym (ifLt-no _ _ p ∙ ifLt-no _ _ q ∙ ifLt-no _ _ r ∙ ifLt-no _ _ s ∙ ifLt-no _ _ h)
 
   -- what it says
-  module _ (h : holds (lent a b c d e) n m l size ≡ true) where
+  module _ (h : hasRoom (lent a b c d e) n m l size ≡ true) where
     pub room-tokens : n * 8 ≤ a
     room-tokens = elim (decLt a (n * 8)) [ yes g ↦ true-false (sym h ∙ sym (short-tokens g)) | no g ↦ omega arith ]
 
@@ -101,146 +72,55 @@ module _ (a b c d e n m l size : ℕ) where
     room-names =
         elim (decLt d (l * 64)) [ yes g ↦ true-false (sym h ∙ sym (short-names room-tokens room-statements room-labels g)) | no g ↦ omega arith ]
 
-pub ruleset holding = (short-tokens, short-statements, short-labels, short-names, short-bytes, long-enough)
+    pub room-bytes : size ≤ e
+    room-bytes =
+        elim (decLt e size) [ yes g ↦ true-false (sym h ∙ sym (short-bytes room-tokens room-statements room-labels room-names g)) | no g ↦ omega arith ]
 
--- ---- the buffers of an accepted source
+pub ruleset room-ways = (short-tokens, short-statements, short-labels, short-names, short-bytes, long-enough)
 
-module _ (a b d e n c l : ℕ) (h : Room a b d e n c l) where
-  pub fits-tokens : (n ≤ 4096) × (n * 8 ≤ a)
-  fits-tokens = (h .few-tokens, h .for-tokens)
+-- ---- `check`
 
-  pub fits-names : (l * 4 ≤ d) × (l * 64 ≤ e)
-  fits-names = (h .for-labels, h .for-names)
+module _ (w : Width) (s t k y flags : List ℕ) (r : Judgement) (h : judged r t k y flags ≡ judgeOf w s) where
+  module _ (p : Counts) (e : r ≡ judge.Fine p) where
+    is-fine : judgeOf w s ≡ fine (knownBy p t k y flags) (p .size)
+    is-fine = sym h ∙ ap (λ (j : Judgement). judged j t k y flags) e
 
-  pub fits-rows : (c ≤ 1024) × (c * 27 ≤ b)
-  fits-rows = (h .few-statements, h .for-statements)
+    answer-is : (b : Lent) → checkOf w s b ≡ answerTo w s (fine (knownBy p t k y flags) (p .size)) b
+    unfolding checkOf
+    answer-is b = ap (λ (j : Judged). answerTo w s j b) is-fine
 
-cleared-long : (x x′ : List ℕ) → x′ ≡ zeros (length x) → length x′ ≡ length x
-cleared-long x x′ q = ap length q ∙ length-replicate {A = ℕ} (length x) 0
+    module _ (b : Lent) (v : Bool) (q : v ≡ hasRoom b (p .tokens) (p .statements) (p .labels) (p .size)) where
+      pub check-accepts : (x y′ z u f : List ℕ) → v ≡ true → buffers x y′ z u f ≡ fillOf w s (sameNumber t) (knownBy p t k y flags) b
+          → filled (Accepted (p .tokens) (p .statements) (p .labels) (p .size)) x y′ z u f ≡ checkOf w s b
+      unfolding answerTo accept
+      check-accepts x y′ z u f g d =
+          ap (filledBy (Accepted (p .tokens) (p .statements) (p .labels) (p .size)))
+          (d ∙ ap (λ (same : ℕ → ℕ → Bool). fillOf w s same (knownBy p t k y flags) b) (fine-same w s (knownBy p t k y flags) (p .size) is-fine))
+          ∙ sym (answer-is b ∙ ifTrue-yes _ _ (sym q ∙ g))
 
-pub names-room : (t d e d′ e′ : List ℕ) (l : ℕ) → length t ≡ 32768 → d′ ≡ zeros (length d) → e′ ≡ zeros (length e) → (l * 4 ≤ length d) × (l * 64 ≤ length e)
-    → (length t ≡ 32768) × (l * 4 ≤ length d′) × (l * 64 ≤ length e′)
-names-room t d e d′ e′ l h p q r = (h, omega (arith, cleared-long d d′ p), omega (arith, cleared-long e e′ q))
+      pub check-short : (x : Filled) → v ≡ false → x ≡ refuse 16 0 b → x ≡ checkOf w s b
+      unfolding answerTo
+      check-short x g d = d ∙ sym (answer-is b ∙ ifTrue-no _ _ (sym q ∙ g))
 
-pub rows-room : (b b′ : List ℕ) (c : ℕ) → b′ ≡ zeros (length b) → (c ≤ 1024) × (c * 27 ≤ length b) → (c ≤ 1024) × (c * 27 ≤ length b′)
-rows-room b b′ c p r = (r .0, omega (arith, cleared-long b b′ p))
+  pub check-refuses : (number place : ℕ) (b : Lent) (x : Filled) → r ≡ judge.Refused number place → x ≡ refuse number place b → x ≡ checkOf w s b
+  unfolding checkOf answerTo
+  check-refuses number place b x e d =
+      d ∙ ap (λ (j : Judged). answerTo w s j b) (ap (λ (j : Judgement). judged j t k y flags) (sym e) ∙ h)
 
-pub tokens-room : (t a a′ : List ℕ) (n : ℕ) → length t ≡ 32768 → a′ ≡ zeros (length a) → (n ≤ 4096) × (n * 8 ≤ length a)
-    → (n * 8 ≤ length a′) × (n ≤ 4096) × (length t ≡ 32768)
-tokens-room t a a′ n h p r = (omega (arith, cleared-long a a′ p), r .0, h)
-
-pub labels-filled : (w : Width) (t y flags : List ℕ) (l : ℕ) (d d′ d″ : List ℕ) → d′ ≡ zeros (length d) → d″ ≡ labelTable w t y flags l d′
-    → d″ ≡ labelTable w t y flags l (zeros (length d))
-labels-filled w t y flags l d d′ d″ p r = r ∙ ap (λ (i : List ℕ). labelTable w t y flags l i) p
-
-pub names-filled : (s t y : List ℕ) (l : ℕ) (e e′ e″ : List ℕ) → e′ ≡ zeros (length e) → e″ ≡ nameTable s t y l e′ → e″ ≡ nameTable s t y l (zeros (length e))
-names-filled s t y l e e′ e″ p r = r ∙ ap (λ (i : List ℕ). nameTable s t y l i) p
-
-pub rows-filled : (same : ℕ → ℕ → Bool) (t k y : List ℕ) (l : ℕ) (z : List ℕ) (c : ℕ) (b b′ b″ words : List ℕ) → words ≡ wordsOf (rowAt k) c → b′ ≡ zeros (length b)
-    → b″ ≡ statementTable same t k y l words z c b′ → b″ ≡ statementTable same t k y l (wordsOf (rowAt k) c) z c (zeros (length b))
-rows-filled same t k y l z c b b′ b″ words p q r =
-    r ∙ ap₂ (λ (i j : List ℕ). statementTable same t k y l i z c j) p q
-
-pub tokens-filled : (t k : List ℕ) (c n : ℕ) (a a′ a″ : List ℕ) → a′ ≡ zeros (length a) → a″ ≡ begins.tokenTable t k c n a′ → a″ ≡ begins.tokenTable t k c n (zeros (length a))
-tokens-filled t k c n a a′ a″ p q = q ∙ ap (λ (i : List ℕ). begins.tokenTable t k c n i) p
-
-pub bytes-filled : (w : Width) (s t f f′ f″ : List ℕ) → f′ ≡ zeros (length f) → f″ ≡ imageOf w s t f′ → f″ ≡ imageOf w s t (zeros (length f))
-bytes-filled w s t f f′ f″ p q = q ∙ ap (λ (i : List ℕ). imageOf w s t i) p
-
-pub accept-is : (w : Width) (s : List ℕ) (same : ℕ → ℕ → Bool) (t k y flags : List ℕ) (n c l size : ℕ) (a b d e f a″ b″ d″ e″ f″ : List ℕ)
-    → a″ ≡ begins.tokenTable t k c n (zeros (length a))
-    → (d″ ≡ labelTable w t y flags l (zeros (length d))) × (e″ ≡ nameTable s t y l (zeros (length e)))
-    → b″ ≡ statementTable same t k y l (wordsOf (rowAt k) c) d″ c (zeros (length b))
-    → f″ ≡ imageOf w s t (zeros (length f))
-    → left (Accepted n c l size) a″ b″ d″ e″ f″ ≡ accept w s same (known n t c k l y flags) size (lent (length a) (length b) (length d) (length e) (length f))
-unfolding accept labelsIn
-accept-is w s same t k y flags n c l size a b d e f a″ b″ d″ e″ f″ p q r u =
-    left-same _ a″ b″ d″ e″ f″ _ _ _ _ _
-    p
-    (r ∙ ap (λ (i : List ℕ). statementTable same t k y l (wordsOf (rowAt k) c) i c (zeros (length b))) (q .0))
-    (q .0)
-    (q .1)
-    u
-
--- ---- stages
-
-pub room-is : (a b d e f n c l size : ℕ) (v : Bool) → (n ≤ 4096) × (c ≤ 1024) → v ≡ holds (lent a b d e f) n c l size → v ≡ true → Room a b d e n c l
-room-is a b d e f n c l size v z q h =
-    let g : holds (lent a b d e f) n c l size ≡ true = sym q ∙ h in
+-- what filling asks
+pub check-room : (p : Counts) (a b c d f : ℕ) (r : Judgement) (v : Bool) (w : Width) (s t k y flags : List ℕ) → r ≡ judge.Fine p
+    → v ≡ hasRoom (lent a b c d f) (p .tokens) (p .statements) (p .labels) (p .size) → v ≡ true → judged r t k y flags ≡ judgeOf w s
+    → Room a b c d (p .tokens) (p .statements) (p .labels)
+check-room p a b c d f r v w s t k y flags e q g h =
+    let o : hasRoom (lent a b c d f) (p .tokens) (p .statements) (p .labels) (p .size) ≡ true = sym q ∙ g in
+    let few = fine-few w s (knownBy p t k y flags) (p .size) (is-fine w s t k y flags r h p e) in
     record {
-      few-tokens = z .0;
-      few-statements = z .1;
-      for-tokens = room-tokens a b d e f n c l size g;
-      for-statements = room-statements a b d e f n c l size g;
-      for-labels = room-labels a b d e f n c l size g;
-      for-names = room-names a b d e f n c l size g;
+      few-tokens = few .0;
+      few-statements = few .1;
+      for-tokens = room-tokens a b c d f _ _ _ _ o;
+      for-statements = room-statements a b c d f _ _ _ _ o;
+      for-labels = room-labels a b c d f _ _ _ _ o;
+      for-names = room-names a b c d f _ _ _ _ o;
     }
 
-module _ (w : Width) (s : List ℕ) (same : ℕ → ℕ → Bool) (p : Known) (size : ℕ) (b : Lent) (v : Bool) (x : Left) (d : v ≡ holds b (p .n) (p .c) (p .l) size) where
-  pub room-yes : v ≡ true → x ≡ accept w s same p size b → x ≡ roomStage w s same p size b
-  unfolding roomStage ifTrue
-  room-yes h q = q ∙ rw (← d, h)
-
-  pub room-no : v ≡ false → x ≡ refuse 16 0 b → x ≡ roomStage w s same p size b
-  unfolding roomStage ifTrue
-  room-no h q = q ∙ rw (← d, h)
-
-pub ruleset rooms = (room-yes, room-no)
-
-module _ (w : Width) (s : List ℕ) (same : ℕ → ℕ → Bool) (p : Known) (b : Lent) (m : Measured) (x : Left) (d : m ≡ measureOf w (p .t) 4098) where
-  data-is : dataStage w s same p b ≡ sizeStage w s same p m b
-  unfolding dataStage
-  data-is = ap (λ (z : Measured). sizeStage w s same p z b) (sym d)
-
-  pub data-length : (size : ℕ) → m ≡ Length size → x ≡ roomStage w s same p size b → x ≡ dataStage w s same p b
-  unfolding sizeStage
-  data-length size e q = q ∙ sym (data-is ∙ ap (λ (z : Measured). sizeStage w s same p z b) e)
-
-  pub data-big : (i place bound : ℕ) → m ≡ Big i → bound ≡ length s → place ≡ placeAt (p .t) bound i → x ≡ refuse 15 place b → x ≡ dataStage w s same p b
-  unfolding sizeStage
-  data-big i place bound e g f q =
-      q ∙ ap (λ (z : ℕ). refuse 15 z b) (f ∙ ap (λ (z : ℕ). placeAt (p .t) z i) g) ∙ sym (data-is ∙ ap (λ (z : Measured). sizeStage w s same p z b) e)
-
-pub ruleset sizes = (data-length, data-big)
-
-pub judge-is : (same : ℕ → ℕ → Bool) (t : List ℕ) (n : ℕ) (k y : List ℕ) (l c a e fault : ℕ) (u f : List ℕ) → naming a u ≡ namesOf same t n k y l c → exported e f ≡ exportsOf same t n y l u → fault ≡ min a e
-    → exported fault f ≡ judgeOf same t n k y l c
-unfolding judgeOf judgeWith
-judge-is same t n k y l c a e fault u f p q r =
-    ap (λ (z : ℕ). exported z f) r ∙ ap (λ (z : Exported). exported (min a (z .fault)) (z .flags)) q ∙ ap (λ (z : Naming). judgeWith same t n y l z) p
-
-module _ (w : Width) (s : List ℕ) (same : ℕ → ℕ → Bool) (n : ℕ) (t : List ℕ) (c : ℕ) (k : List ℕ) (l : ℕ) (y : List ℕ) (b : Lent) (bound fault : ℕ) (f : List ℕ)
-    (hb : bound ≡ length s) (he : exported fault f ≡ judgeOf same t bound k y l c) where
-  row-is : rowStage w s same n t c k l y b ≡ nameStage w s same n t c k l y (exported fault f) b
-  unfolding rowStage
-  row-is = rw (← hb) (ap (λ (z : Exported). nameStage w s same n t c k l y z b) (sym he))
-
-  pub row-refused : (x : Left) → fault < none → x ≡ refuse (fault % 64) (fault / 64) b → x ≡ rowStage w s same n t c k l y b
-  unfolding nameStage
-  row-refused x h q = q ∙ sym (row-is ∙ ifLt-yes _ _ h)
-
-  pub row-fine : (x : Left) → none ≤ fault → x ≡ dataStage w s same (known n t c k l y f) b → x ≡ rowStage w s same n t c k l y b
-  unfolding nameStage
-  row-fine x h q = q ∙ sym (row-is ∙ ifLt-no _ _ h)
-
-pub ruleset naming-stage = (row-refused, row-fine)
-
-module _ (w : Width) (s : List ℕ) (same : ℕ → ℕ → Bool) (n : ℕ) (t : List ℕ) (b : Lent) (bound : ℕ) (r : Parsed) (x y : List ℕ) (z : Left) (hb : bound ≡ length s)
-    (h : parsed r x y ≡ outlineOf w t bound) where
-  token-is : tokenStage w s same n t b ≡ outlineStage w s same n t r x y b
-  unfolding tokenStage
-  token-is = rw (← hb, ← h)
-
-  pub token-accepted : (c l : ℕ) → r ≡ parse.Accepted c l → z ≡ rowStage w s same n t c (skeletonOf x c) l y b → z ≡ tokenStage w s same n t b
-  unfolding outlineStage
-  token-accepted c l e q = q ∙ sym (token-is ∙ ap (λ (i : Parsed). outlineStage w s same n t i x y b) e)
-
-  pub token-refused : (number place : ℕ) → r ≡ parse.Refused number place → z ≡ refuse number place b → z ≡ tokenStage w s same n t b
-  unfolding outlineStage
-  token-refused number place e q = q ∙ sym (token-is ∙ ap (λ (i : Parsed). outlineStage w s same n t i x y b) e)
-
-pub ruleset parsing-stage = (token-accepted, token-refused)
-
-pub skeleton-in : (w : Width) (s : List ℕ) (same : ℕ → ℕ → Bool) (n : ℕ) (t : List ℕ) (c : ℕ) (x k : List ℕ) (l : ℕ) (y : List ℕ) (b : Lent) (z : Left) → k ≡ skeletonOf x c
-    → z ≡ rowStage w s same n t c k l y b → z ≡ rowStage w s same n t c (skeletonOf x c) l y b
-skeleton-in w s same n t c x k l y b z e q = q ∙ ap (λ (i : List ℕ). rowStage w s same n t c i l y b) e
+pub ruleset check-ways = (check-accepts, check-short, check-refuses)

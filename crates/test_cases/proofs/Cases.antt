@@ -8,9 +8,7 @@ use lib.ListN.{take}
 use Rattle.base_prelude.specs.Lists.{sameList}
 use Rattle.base_limits.specs.declared.Width.the-variants.{Bits32}
 use Rattle.vm_definitions.specs.Access.{storeFrom}
-use Rattle.vm_definitions.specs.Lent.{left}
-use Rattle.check_source.specs.Check.{Left, lent, checkOf}
-use Rattle.check_source.specs.Check as check
+use Rattle.check_source.specs.Check.{Filled, filled, lent, checkOf}
 use Rattle.check_source.specs.declared.Checked.{Checked}
 use Rattle.check_source.specs.declared.Checked.the-variants.{Accepted, Refused}
 use Rattle.test_lines.specs.Lines.{startsWith}
@@ -45,12 +43,12 @@ unfolding fullTables
 lent-is l m n o p hl hm hn ho hp = rw (hl, hm, hn, ho, hp)
 
 pub check-source-is : (s t b : List ℕ) (x : Checked) (tokens rows labels names bytes t1 t2 b1 b2 : List ℕ) (l m n o p : ℕ) → l ≡ 32768 → m ≡ 27648 → n ≡ 1024 → o ≡ 16384 → p ≡ 32768
-    → check.left x tokens rows labels names bytes ≡ checkOf Bits32 s (lent l m n o p) → t1 ≡ storeFrom t 0 rows → t2 ≡ storeFrom t1 27648 labels → b1 ≡ storeFrom b 0 names → b2 ≡ storeFrom b1 16384 bytes
+    → filled x tokens rows labels names bytes ≡ checkOf Bits32 s (lent l m n o p) → t1 ≡ storeFrom t 0 rows → t2 ≡ storeFrom t1 27648 labels → b1 ≡ storeFrom b 0 names → b2 ≡ storeFrom b1 16384 bytes
     → kept x t2 b2 ≡ checkSource s t b
 unfolding checkSource
 check-source-is s t b x tokens rows labels names bytes t1 t2 b1 b2 l m n o p hl hm hn ho hp e f1 f2 g1 g2 =
-    let k : check.left x tokens rows labels names bytes ≡ checkOf Bits32 s fullTables = e ∙ ap (checkOf Bits32 s) (lent-is l m n o p hl hm hn ho hp) in
-    rw (f2, f1, g2, g1) (ap (λ (y : Left). keptIn y t b) k)
+    let k : filled x tokens rows labels names bytes ≡ checkOf Bits32 s fullTables = e ∙ ap (checkOf Bits32 s) (lent-is l m n o p hl hm hn ho hp) in
+    rw (f2, f1, g2, g1) (ap (λ (y : Filled). keptIn y t b) k)
 
 -- `check_once`
 module _ (q : Progress) (text : List ℕ) (got : List ℕ) (t : List ℕ) (b : List ℕ) where

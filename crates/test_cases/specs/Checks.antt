@@ -6,7 +6,7 @@ use lib.ListN.{take}
 use Rattle.base_prelude.specs.Choice.{ifTrue}
 use Rattle.base_limits.specs.declared.Width.the-variants.{Bits32}
 use Rattle.vm_definitions.specs.Access.{storeFrom}
-use Rattle.check_source.specs.Check.{Left, Lent, lent, checkOf}
+use Rattle.check_source.specs.Check.{Filled, Lent, lent, checkOf}
 use Rattle.check_source.specs.declared.Checked.{Checked}
 use Rattle.check_source.specs.declared.Checked.the-variants.{Accepted, Refused}
 use Rattle.test_lines.specs.Sources.{source}
@@ -32,7 +32,7 @@ Kept = record { answer : Checked; rows : List ℕ; bytes : List ℕ }
 abbrev pub kept : Checked → List ℕ → List ℕ → Kept
 kept answer rows bytes = record { answer = answer; rows = rows; bytes = bytes }
 
-abbrev pub keptIn : Left → List ℕ → List ℕ → Kept
+abbrev pub keptIn : Filled → List ℕ → List ℕ → Kept
 keptIn x t b =
     kept (x .answer) (storeFrom (storeFrom t 0 (x .statements)) 27648 (x .labels)) (storeFrom (storeFrom b 0 (x .names)) 16384 (x .bytes))
 

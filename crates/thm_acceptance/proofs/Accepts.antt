@@ -22,7 +22,7 @@ use Rattle.parse_units.specs.Parse.{Result, parseOf}
 use Rattle.parse_units.specs.declared.Verdict.{Verdict}
 use Rattle.parse_units.specs.declared.Verdict.the-variants as verdict
 use Rattle.parse_outline.specs.Labels.{labelRows}
-use Rattle.parse_outline.specs.Outline.{Outlined, answerOf, outlineOf}
+use Rattle.parse_outline.specs.Outline.{Outlined, outlineOf}
 use Rattle.parse_outline.specs.Outline as outline
 use Rattle.parse_outline.specs.declared.Parsed.{Parsed}
 use Rattle.parse_outline.specs.declared.Parsed.the-variants as parsed
@@ -38,7 +38,8 @@ use Rattle.parse_verdict.specs.Lexing.{lexFaults, lexKey}
 use Rattle.parse_verdict.proofs.Decided.{least-none, all-none, none-all, decided, RealV, parse-real}
 use Rattle.parse_verdict.proofs.Lexed.{lexed-rising, lexed-long}
 use Rattle.parse_verdict.proofs.Lexing.{lexed-fine, fine-lexed, long-refused, lex-least, lex-real}
-use Rattle.check_source.specs.Check.{Lent, Left, refuse, holds, Known, known, accept, roomStage, sizeStage, dataStage, judgeWith, judgeOf, nameStage, rowStage, outlineStage, tokenStage, lexStage, checkOf}
+use Rattle.check_judge.specs.Judge.{Known, known, Judged, refusal, fine, sizeGroup, namesWith, namesJudged, faultGroup, nameGroup, outlineGroup, lineGroup, tokenGroup, judgeOf}
+use Rattle.check_source.specs.Check.{Lent, Filled, refuse, hasRoom, accept, answerTo, checkOf}
 use Rattle.check_source.specs.declared.Checked.{Checked}
 use Rattle.check_source.specs.declared.Checked.the-variants.{Accepted, Refused}
 use Rattle.thm_acceptance.specs.Faults.{allNameFaults, exportFaults}
@@ -74,71 +75,81 @@ one-fault k p m gs a e hp hm =
 one-clean : (k : ℕ) (gs : List (List ℕ)) (a : Checked) → k ≡ none → judge ((k ∷ []) ∷ gs) a ≡ judge gs a
 one-clean k gs a e = judge-clean (k ∷ []) gs a (omega (arith, one-least k (omega arith)))
 
-module _ (w : Width) (s : List ℕ) (b : Lent) (same : ℕ → ℕ → Bool) where
+-- what the check answers to a judgement
+abbrev said : Width → List ℕ → Lent → Judged → Checked
+said w s b j = answerTo w s j b .answer
+
+module _ (w : Width) (s : List ℕ) (b : Lent) where
   -- 16
-  room-is : (p : Known) (size : ℕ)
-      → roomStage w s same p size b .answer ≡ judge ((roomRule b (p .n) (p .c) (p .l) size ∷ []) ∷ []) (Accepted (p .n) (p .c) (p .l) size)
-  unfolding roomStage accept refuse roomRule
-  room-is p size = by (holds b (p .n) (p .c) (p .l) size) refl
+  room-is : (p : Known) (size : ℕ) → said w s b (fine p size) ≡ judge ((roomRule b (p .n) (p .c) (p .l) size ∷ []) ∷ []) (Accepted (p .n) (p .c) (p .l) size)
+  unfolding answerTo accept refuse roomRule
+  room-is p size = by (hasRoom b (p .n) (p .c) (p .l) size) refl
     where
-      by : (h : Bool) → holds b (p .n) (p .c) (p .l) size ≡ h
-          → ifTrue (holds b (p .n) (p .c) (p .l) size) (accept w s same p size b) (refuse 16 0 b) .answer
-          ≡ judge ((ifTrue (holds b (p .n) (p .c) (p .l) size) none (key 0 16) ∷ []) ∷ []) (Accepted (p .n) (p .c) (p .l) size)
+      by : (h : Bool) → hasRoom b (p .n) (p .c) (p .l) size ≡ h
+          → ifTrue (hasRoom b (p .n) (p .c) (p .l) size) (accept w s p size b) (refuse 16 0 b) .answer
+          ≡ judge ((ifTrue (hasRoom b (p .n) (p .c) (p .l) size) none (key 0 16) ∷ []) ∷ []) (Accepted (p .n) (p .c) (p .l) size)
       by true e =
-          ap (λ (x : Left). x .answer) (ifTrue-yes (accept w s same p size b) (refuse 16 0 b) e)
+          ap (λ (x : Filled). x .answer) (ifTrue-yes (accept w s p size b) (refuse 16 0 b) e)
           ∙ sym (one-clean _ [] (Accepted (p .n) (p .c) (p .l) size) (ifTrue-yes none (key 0 16) e) ∙ judge-end (Accepted (p .n) (p .c) (p .l) size))
       by false e =
-          ap (λ (x : Left). x .answer) (ifTrue-no (accept w s same p size b) (refuse 16 0 b) e)
+          ap (λ (x : Filled). x .answer) (ifTrue-no (accept w s p size b) (refuse 16 0 b) e)
           ∙ sym (one-fault _ 0 16 [] (Accepted (p .n) (p .c) (p .l) size) (ifTrue-no none (key 0 16) e) (omega arith) (omega arith))
+
+  refusal-is : (number place : ℕ) → said w s b (refusal number place) ≡ Refused number place
+  unfolding answerTo refuse
+  refusal-is number place = refl
 
   -- 15
   size-is : (p : Known) (m : Measured) → ((i : ℕ) → placeAt (p .t) (length s) i < 4294967296)
-      → sizeStage w s same p m b .answer
+      → said w s b (sizeGroup (length s) p m)
       ≡ judge ((bigIn (p .t) (length s) m ∷ []) ∷ (roomRule b (p .n) (p .c) (p .l) (lengthIn m) ∷ []) ∷ []) (Accepted (p .n) (p .c) (p .l) (lengthIn m))
-  unfolding sizeStage bigIn lengthIn refuse keyAt
+  unfolding sizeGroup bigIn lengthIn keyAt
   size-is p (Length size) low = room-is p size ∙ sym (one-clean none _ (Accepted (p .n) (p .c) (p .l) size) refl)
-  size-is p (Big i) low = sym (one-fault (key (placeAt (p .t) (length s) i) 15) (placeAt (p .t) (length s) i) 15 _ _ refl (low i) (omega arith))
+  size-is p (Big i) low =
+      refusal-is 15 (placeAt (p .t) (length s) i)
+      ∙ sym (one-fault (key (placeAt (p .t) (length s) i) 15) (placeAt (p .t) (length s) i) 15 _ _ refl (low i) (omega arith))
 
-  module _ (n : ℕ) (t : List ℕ) (r : Rising t (length s)) where
+  module _ (same : ℕ → ℕ → Bool) (n : ℕ) (t : List ℕ) (r : Rising t (length s)) where
     abbrev lastGroups : ℕ → ℕ → List (List ℕ)
     lastGroups c l = (bigRule w t (length s) ∷ []) ∷ (roomRule b n c l (lengthIn (lengthOf w t)) ∷ []) ∷ []
 
     data-is : (c : ℕ) (k : List ℕ) (l : ℕ) (y flags : List ℕ)
-        → dataStage w s same (known n t c k l y flags) b .answer ≡ judge (lastGroups c l) (Accepted n c l (lengthIn (lengthOf w t)))
-    unfolding dataStage bigRule
+        → said w s b (sizeGroup (length s) (known n t c k l y flags) (lengthOf w t)) ≡ judge (lastGroups c l) (Accepted n c l (lengthIn (lengthOf w t)))
+    unfolding bigRule
     data-is c k l y flags = size-is (known n t c k l y flags) (lengthOf w t) (r .low)
 
     -- 10 to 13 and 17
     row-is : (c : ℕ) (k : List ℕ) (l : ℕ) (y : List ℕ)
-        → rowStage w s same n t c k l y b .answer ≡ judge (namesIn same t (length s) k y l c ∷ lastGroups c l) (Accepted n c l (lengthIn (lengthOf w t)))
-    unfolding rowStage nameStage judgeOf judgeWith namesIn refuse
+        → said w s b (nameGroup w same (length s) n t c k l y)
+        ≡ judge (namesIn same t (length s) k y l c ∷ lastGroups c l) (Accepted n c l (lengthIn (lengthOf w t)))
+    unfolding nameGroup faultGroup namesJudged namesWith namesIn
     row-is c k l y =
         let a = namesOf same t (length s) k y l c in
-        let e = judgeOf same t (length s) k y l c in
+        let e = namesJudged same t (length s) k y l c in
         let g : leastOf (allNameFaults same t (length s) k y l c ++ exportFaults same t (length s) y l (a .uses)) ≡ e .fault =
         append-least (allNameFaults same t (length s) k y l c) (exportFaults same t (length s) y l (a .uses))
         ∙ ap (λ (v : ℕ). min v (leastOf (exportFaults same t (length s) y l (a .uses)))) (sym (names-least same t (length s) y l k c))
         ∙ ap (min (a .fault)) (sym (exports-least same t (length s) y l (a .uses))) in
         elim (decLt (e .fault) none) [
-          | yes h ↦ ap (λ (x : Left). x .answer) (ifLt-yes _ _ h) ∙ sym (judge-fault _ (lastGroups c l) _ (e .fault) g h)
-          | no h ↦ ap (λ (x : Left). x .answer) (ifLt-no _ _ (let z : none ≤ e .fault = omega arith in z)) ∙ data-is c k l y (e .flags)
+          | yes h ↦ ap (said w s b) (ifLt-yes _ _ h) ∙ refusal-is _ _ ∙ sym (judge-fault _ (lastGroups c l) _ (e .fault) g h)
+          | no h ↦ ap (said w s b) (ifLt-no _ _ (let z : none ≤ e .fault = omega arith in z)) ∙ data-is c k l y (e .flags)
               ∙ sym (judge-clean _ (lastGroups c l) _ (omega (arith, g)))
         ]
 
 -- 7, 8, 9 and other 14
 module _ (w : Width) (s : List ℕ) (b : Lent) (n : ℕ) (t : List ℕ) (long : length t ≡ 32768) (r : Rising t (length s)) where
   outline-is : (v : Verdict) (x y : List ℕ) → keyOf v ≡ leastOf (allFaults w t (length s)) → RealV v
-      → outlineStage w s (sameText s t) n t (answerOf v) x y b .answer
-      ≡ judge (laterGroups w s b n t (outline.parsed (answerOf v) x y)) (countsIn w n t (answerOf v))
-  unfolding outlineStage answerOf laterGroups nameFaults countsIn statementsIn labelsIn refuse
+      → said w s b (outlineGroup w (sameText s t) (length s) n t (outline.answerOf v) x y)
+      ≡ judge (laterGroups w s b n t (outline.parsed (outline.answerOf v) x y)) (countsIn w n t (outline.answerOf v))
+  unfolding outlineGroup outline.answerOf laterGroups nameFaults countsIn statementsIn labelsIn
   outline-is (verdict.Accepted count labels) x y e h =
       row-is w s b (sameText s t) n t r (count - 1) (skeletonOf x (count - 1)) labels y ∙ sym (judge-clean (allFaults w t (length s)) _ _ (omega arith))
-  outline-is (verdict.Refused k) x y e h = sym (judge-fault (allFaults w t (length s)) _ _ k (sym e) h)
+  outline-is (verdict.Refused k) x y e h = refusal-is w s b _ _ ∙ sym (judge-fault (allFaults w t (length s)) _ _ k (sym e) h)
 
-  token-is : tokenStage w s (sameText s t) n t b .answer
+  line-is : said w s b (lineGroup w (sameText s t) (length s) n t)
       ≡ judge (laterGroups w s b n t (outlineOf w t (length s))) (countsIn w n t (outlineOf w t (length s) .answer))
-  unfolding tokenStage outlineOf verdictOf
-  token-is = outline-is (parseOf w t (length s) .verdict) (parseOf w t (length s) .outline) (labelRows t) (decided t (length s) r w) (parse-real w t (length s) long)
+  unfolding lineGroup outlineOf verdictOf
+  line-is = outline-is (parseOf w t (length s) .verdict) (parseOf w t (length s) .outline) (labelRows t) (decided t (length s) r w) (parse-real w t (length s) long)
 
 -- 1; 2 to 6 with 14 for tokens
 module _ (w : Width) (s : List ℕ) (b : Lent) where
@@ -152,25 +163,28 @@ module _ (w : Width) (s : List ℕ) (b : Lent) where
   unfolding longRule
   long-clean h gs a = one-clean _ gs a (ifLt-no (key 16384 1) none h)
 
-  long-is : 16384 < length s → lexStage w s (lexOf w s) b .answer ≡ judge ((longRule s ∷ []) ∷ lexFaults w s ∷ laterOf (tokensIn (lexOf w s))) (countsFor (tokensIn (lexOf w s)))
-  unfolding lexStage refuse longRule
+  long-is : 16384 < length s
+      → said w s b (tokenGroup w s (lexOf w s)) ≡ judge ((longRule s ∷ []) ∷ lexFaults w s ∷ laterOf (tokensIn (lexOf w s))) (countsFor (tokensIn (lexOf w s)))
+  unfolding tokenGroup longRule
   long-is h =
-      ap (λ (o : Outcome). lexStage w s o b .answer) (long-refused w s h)
+      ap (λ (o : Outcome). said w s b (tokenGroup w s o)) (long-refused w s h)
+      ∙ refusal-is w s b _ _
       ∙ ap (λ (v : ℕ). Refused v (keyPlace (key 16384 1))) (key-number 16384 1 (omega arith) (omega arith))
       ∙ ap (λ (v : ℕ). Refused 1 v) (key-place 16384 1 (omega arith) (omega arith))
       ∙ sym (one-fault _ 16384 1 _ (countsFor (tokensIn (lexOf w s))) (ifLt-yes (key 16384 1) none h) (omega arith) (omega arith))
 
-  lex-is : length s ≤ 16384 → (o : Outcome) → lexOf w s ≡ o → lexStage w s o b .answer ≡ judge (lexFaults w s ∷ laterOf (tokensIn o)) (countsFor (tokensIn o))
-  unfolding lexStage tokensIn refuse
+  lex-is : length s ≤ 16384 → (o : Outcome) → lexOf w s ≡ o → said w s b (tokenGroup w s o) ≡ judge (lexFaults w s ∷ laterOf (tokensIn o)) (countsFor (tokensIn o))
+  unfolding tokenGroup tokensIn
   lex-is h (accepted ts) e =
-      token-is w s b (length ts) (tokenTable ts) (lexed-long w s ts e) (lexed-rising w s ts e)
+      line-is w s b (length ts) (tokenTable ts) (lexed-long w s ts e) (lexed-rising w s ts e)
       ∙ sym (judge-clean (lexFaults w s) (laterOf ts) (countsFor ts) (all-none (lexFaults w s) (lexed-fine w s ts e .1)))
   lex-is h (refused k) e =
-      sym (judge-fault (lexFaults w s) (laterOf []) (countsFor []) k (sym (lex-least w s h) ∙ ap lexKey e) (lex-real w s h k e))
+      refusal-is w s b _ _
+      ∙ sym (judge-fault (lexFaults w s) (laterOf []) (countsFor []) k (sym (lex-least w s h) ∙ ap lexKey e) (lex-real w s h k e))
 
   -- the check's answer: the least fault of the first group that has one, or the counts
   pub check-is : checkOf w s b .answer ≡ judge (groupsOf w s b) (countsOf w s)
-  unfolding checkOf groupsOf countsOf tokensOf
+  unfolding checkOf judgeOf groupsOf countsOf tokensOf
   check-is =
       elim (decLt 16384 (length s)) [
         | yes h ↦ long-is h
@@ -207,14 +221,14 @@ short-long : (s : List ℕ) → length s ≤ 16384 → none ≤ longRule s
 unfolding longRule
 short-long s h = subst (λ (k : ℕ). none ≤ k) (sym (ifLt-no (key 16384 1) none h)) (omega arith)
 
-room-holds : (b : Lent) (n c l size : ℕ) → none ≤ roomRule b n c l size → holds b n c l size ≡ true
+room-clean : (b : Lent) (n c l size : ℕ) → none ≤ roomRule b n c l size → hasRoom b n c l size ≡ true
 unfolding roomRule
-room-holds b n c l size =
-    either-true (λ (k : ℕ). none ≤ k → holds b n c l size ≡ true) (holds b n c l size) _ _ (λ e _. e) (λ _ h. let z : ⊥ = omega (arith, key-fault 0 16 (omega arith)) in absurd z)
+room-clean b n c l size =
+    either-true (λ (k : ℕ). none ≤ k → hasRoom b n c l size ≡ true) (hasRoom b n c l size) _ _ (λ e _. e) (λ _ h. let z : ⊥ = omega (arith, key-fault 0 16 (omega arith)) in absurd z)
 
-holds-room : (b : Lent) (n c l size : ℕ) → holds b n c l size ≡ true → none ≤ roomRule b n c l size
+clean-room : (b : Lent) (n c l size : ℕ) → hasRoom b n c l size ≡ true → none ≤ roomRule b n c l size
 unfolding roomRule
-holds-room b n c l size h = subst (λ (k : ℕ). none ≤ k) (sym (ifTrue-yes none (key 0 16) h)) (omega arith)
+clean-room b n c l size h = subst (λ (k : ℕ). none ≤ k) (sym (ifTrue-yes none (key 0 16) h)) (omega arith)
 
 module _ (w : Width) (s : List ℕ) (b : Lent) where
   groups-unbroken : AllClean (groupsOf w s b) → Unbroken w s × Holds w s b
@@ -227,13 +241,13 @@ module _ (w : Width) (s : List ℕ) (b : Lent) where
       names = h .1 .1 .1 .0;
       size = h .1 .1 .1 .1 .0;
     },
-    room-holds b _ _ _ _ (h .1 .1 .1 .1 .1 .0 .0),
+    room-clean b _ _ _ _ (h .1 .1 .1 .1 .1 .0 .0),
   )
 
   unbroken-groups : Unbroken w s → Holds w s b → AllClean (groupsOf w s b)
   unfolding groupsOf laterGroups
   unbroken-groups u h =
-      ((short-long s (u .short), tt), (u .tokens, (u .lines, (u .names, (u .size, ((holds-room b _ _ _ _ h, tt), tt))))))
+      ((short-long s (u .short), tt), (u .tokens, (u .lines, (u .names, (u .size, ((clean-room b _ _ _ _ h, tt), tt))))))
 
   -- "You accept a source exactly when it breaks none of the listed rules and the tables lent can hold it."
   pub accepts-exactly : (isAccepted (checkOf w s b .answer) ≡ true) ↔ (Unbroken w s × Holds w s b)

@@ -22,7 +22,7 @@ use Rattle.res_data.specs.Sizes.{lengthOf, lengthIn, bigRule}
 use Rattle.res_text.specs.Same.{sameText}
 use Rattle.parse_verdict.specs.Verdict.{Clean, allFaults}
 use Rattle.parse_verdict.specs.Lexing.{lexFaults}
-use Rattle.check_source.specs.Check.{Lent, holds}
+use Rattle.check_source.specs.Check.{Lent, hasRoom}
 use Rattle.check_source.specs.declared.Checked.{Checked}
 use Rattle.check_source.specs.declared.Checked.the-variants.{Accepted, Refused}
 use Rattle.thm_acceptance.specs.Faults.{allNameFaults, exportFaults}
@@ -67,7 +67,7 @@ nameFaults s t o =
 
 -- 16, which has no place: n tokens, c statements, l labels, and so many bytes of data
 unfoldable pub roomRule : Lent → ℕ → ℕ → ℕ → ℕ → ℕ
-roomRule b n c l size = ifTrue (holds b n c l size) none (key 0 16)
+roomRule b n c l size = ifTrue (hasRoom b n c l size) none (key 0 16)
 
 -- 7, 8, 9 and other 14; 10 to 13 and 17; 15; 16
 unfoldable pub laterGroups : Width → List ℕ → Lent → ℕ → List ℕ → Outlined → List (List ℕ)
@@ -119,7 +119,7 @@ pub record Unbroken (w : Width) (s : List ℕ) : Type 0 where
 -- "and the tables lent can hold it": 16
 abbrev pub Holds : Width → List ℕ → Lent → Type 0
 Holds w s b =
-    holds b (length (tokensOf w s)) (statementsIn (outlined w s .answer)) (labelsIn (outlined w s .answer)) (lengthIn (lengthOf w (tableOf w s))) ≡ true
+    hasRoom b (length (tokensOf w s)) (statementsIn (outlined w s .answer)) (labelsIn (outlined w s .answer)) (lengthIn (lengthOf w (tableOf w s))) ≡ true
 
 abbrev pub isAccepted : Checked → Bool
 isAccepted (Accepted n c l size) = true

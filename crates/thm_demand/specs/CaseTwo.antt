@@ -8,14 +8,14 @@ use Rattle.base_limits.specs.declared.Width.the-variants.{Bits32}
 use Rattle.base_limits.specs.declared.State.the-variants.{Finished}
 use Rattle.base_limits.specs.Fresh.{freshOf}
 use Rattle.prog_tables.specs.Label.{Tables}
-use Rattle.check_source.specs.Check.{Left, lent, checkOf}
+use Rattle.check_source.specs.Check.{Filled, lent, checkOf}
 use Rattle.app_listing.specs.Cases.{case1}
 use Rattle.vm_definitions.specs.Step.{World, After, runOf}
 use Rattle.vm_definitions.specs.Start.{startOf, startLeaves}
 use Rattle.vm_definitions.specs.declared.Started.the-variants.{Begun, Refused}
 
 -- its check, with buffers that hold 125 tokens, 6 statements, 2 labels and 4 bytes of data
-abbrev pub case1-check : Left
+abbrev pub case1-check : Filled
 case1-check = checkOf Bits32 case1 (lent 1000 162 8 128 4)
 
 -- a world with so many stack words and 4 bytes of memory, whatever they held

@@ -30,7 +30,9 @@ use Rattle.res_data.proofs.Laws.{measure-low}
 use Rattle.res_text.specs.Same.{sameText}
 use Rattle.parse_verdict.proofs.Lexed.{lexed-long}
 use Rattle.thm_acceptance.specs.Accepts.{isAccepted}
-use Rattle.check_source.specs.Check.{Lent, lent, Left, holds, Known, known, labelsIn, accept, judgeOf, checkOf}
+use Rattle.check_judge.specs.Judge.{known, namesJudged}
+use Rattle.check_fill.specs.Fill.{labelsIn, fillOf}
+use Rattle.check_source.specs.Check.{Lent, accept, checkOf}
 use Rattle.check_source.proofs.Cases.{room-statements, room-labels, room-names}
 use Rattle.thm_canonical.proofs.Whole.{outline-canonical}
 use Rattle.thm_soundness.specs.Program.{programBy, programOf}
@@ -59,7 +61,7 @@ module _ (w : Width) (s : List ℕ) (b : Lent) (q : Checks w s b) where
   same = sameText s (tokenTable (q .tokens))
 
   abbrev flags : List ℕ
-  flags = judgeOf same t (length s) (skeletonOf x (q .c)) y (q .l) (q .c) .flags
+  flags = namesJudged same t (length s) (skeletonOf x (q .c)) y (q .l) (q .c) .flags
 
   long : length t ≡ 32768
   long = lexed-long w s (q .tokens) (q .lexes)
@@ -105,8 +107,8 @@ module _ (w : Width) (s : List ℕ) (b : Lent) (q : Checks w s b) where
       outline-canonical w t (length s) (q .c) (q .l) x y long oh same s flags (labelTable w t y flags (q .l) (zeros (b .labels))) (b .statements) (b .labels) (b .names) (q .size) rows-room labels-room names-room
       (size-of w s (q .tokens) (q .lexes) (length s) (q .c) (q .l) x y flags long oh (b .labels) (b .names) (q .size) labels-room names-room (q .sized) _ like)
 
-  accept-is : programOf (accept w s same (known (length (q .tokens)) t (q .c) (skeletonOf x (q .c)) (q .l) y flags) (q .size) b) ≡ program
-  unfolding accept labelsIn programBy
+  accept-is : programOf (accept w s (known (length (q .tokens)) t (q .c) (skeletonOf x (q .c)) (q .l) y flags) (q .size) b) ≡ program
+  unfolding accept fillOf labelsIn programBy
   accept-is = refl
 
   program-is : programOf (checkOf w s b) ≡ program

@@ -6,10 +6,10 @@ use Rattle.check_source.proofs.refuse_all.Statement.{statement}
 use Rattle.check_source.proofs.refuse_all.Tie as tie
 use Rattle.check_source.proofs.refuse_all.Reads as reads
 use Rattle.check_source.proofs.refuse_all.Lts as lts
-use Rattle.check_source.proofs.clear_all.Reads as clear-all-reads
+use Rattle.check_fill.proofs.zero.Reads as zero-reads
 
-clear-all-requires : tie.Need-clear-all-requires
-clear-all-requires c κs = search needs
+zero-requires : tie.Need-zero-requires
+zero-requires c κs = search needs
 
 same-length : tie.Need-same-length
 same-length c = search needs
@@ -34,7 +34,7 @@ pub refuse-all-spec : {M : Type 1} → statement M
 refuse-all-spec =
     tie.close
     (tie.spec
-    clear-all-requires
+    zero-requires
     same-length
     same-length-2
     same-length-3
