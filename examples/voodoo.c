@@ -4,8 +4,9 @@
  *     voodoo check FILE
  *     voodoo run [--steps N] [--stack WORDS] [--memory BYTES] FILE NAME [ARGUMENT..]
  *
- * Exit status 0: accepted, or run to its end; 1: refused; 2: wrong use, or a file that
- * cannot be read; 3: stopped; 4: the steps are used up.
+ * Results go to standard output; refusals, stops and errors to standard error. Exit
+ * status 0: accepted, or run to its end; 1: refused; 2: wrong use, a file that cannot
+ * be read, or a result that cannot be written; 3: stopped; 4: the steps are used up.
  */
 #include "voodoo.h"
 
@@ -78,8 +79,9 @@ static const char usage[] =
     "  --stack WORDS    the stack lent to the run (default and most 16384)\n"
     "  --memory BYTES   the memory lent to the run (default and most 65536)\n"
     "\n"
-    "exit status: 0 accepted or run to its end, 1 refused, 2 wrong use or a file that\n"
-    "cannot be read, 3 stopped, 4 steps used up\n";
+    "Results go to standard output; refusals, stops and errors to standard error.\n"
+    "exit status: 0 accepted or run to its end, 1 refused, 2 wrong use, a file that cannot\n"
+    "be read or a result that cannot be written, 3 stopped, 4 steps used up\n";
 
 /* ---- places in the source */
 
@@ -95,7 +97,7 @@ static void print_line(size_t from, size_t to)
 {
     for (size_t i = from; i < to; i++) {
         uint8_t b = source[i];
-        putchar(b == '\r' ? ' ' : (b < 32 && b != '\t') || b == 127 ? '?' : b);
+        putc(b == '\r' ? ' ' : (b < 32 && b != '\t') || b == 127 ? '?' : b, stderr);
     }
 }
 
@@ -103,8 +105,8 @@ static void print_caret(size_t from, size_t place)
 {
     for (size_t i = from; i < place; i++)
         if (!goes_on(source[i]))
-            putchar(source[i] == '\t' ? '\t' : ' ');
-    printf("^\n");
+            putc(source[i] == '\t' ? '\t' : ' ', stderr);
+    fprintf(stderr, "^\n");
 }
 
 /* The line that holds a place, or what is around it in a long one, and a caret. */
@@ -121,9 +123,9 @@ static void show_line(size_t start, size_t place)
     size_t to = end - from > AROUND ? from + AROUND : end;
     while (to < end && goes_on(source[to]))
         to++;
-    printf("    %s", from > start ? "..." : "");
+    fprintf(stderr, "    %s", from > start ? "..." : "");
     print_line(from, to);
-    printf("%s\n    %s", to < end ? "..." : "", from > start ? "   " : "");
+    fprintf(stderr, "%s\n    %s", to < end ? "..." : "", from > start ? "   " : "");
     print_caret(from, place);
 }
 
@@ -136,7 +138,7 @@ static void show(const char *path, size_t place, const char *what, uint32_t numb
             start = i + 1;
         }
     }
-    printf("%s:%zu:%zu: %s %" PRIu32 ": %s\n", path, line, place - start + 1, what, number, meaning);
+    fprintf(stderr, "%s:%zu:%zu: %s %" PRIu32 ": %s\n", path, line, place - start + 1, what, number, meaning);
     show_line(start, place);
 }
 
@@ -153,7 +155,7 @@ static size_t place_of(uint32_t statement)
 
 /* ---- check */
 
-static void print_name(uint32_t label)
+static void print_name(FILE *out, uint32_t label)
 {
     const uint8_t *name = names + label * VOODOO_NAME_ROW;
     uint32_t length = labels[label * VOODOO_LABEL_ROW + 3];
@@ -161,27 +163,27 @@ static void print_name(uint32_t label)
         uint8_t b = name[i];
         bool plain = (b >= 'a' && b <= 'z') || (b >= 'A' && b <= 'Z') || (b >= '0' && b <= '9') || b == '_' || b == '-';
         if (plain)
-            putchar(b);
+            putc(b, out);
         else
-            printf("\\x%02x", b);
+            fprintf(out, "\\x%02x", b);
     }
 }
 
-static void print_label(uint32_t label)
+static void print_label(FILE *out, uint32_t label)
 {
     uint32_t kind = labels[label * VOODOO_LABEL_ROW];
     uint32_t number = labels[label * VOODOO_LABEL_ROW + 1];
     const char *exported = kind == 2 || kind == 4 ? ", exported" : "";
-    printf("  ");
-    print_name(label);
+    fprintf(out, "  ");
+    print_name(out, label);
     if (kind == 1 || kind == 2) {
-        printf(": data at %" PRIu32 "%s\n", number, exported);
+        fprintf(out, ": data at %" PRIu32 "%s\n", number, exported);
     } else if (kind == 3 || kind == 4) {
         const uint32_t *row = statements + number * VOODOO_STATEMENT_ROW;
-        printf(": function at statement %" PRIu32 "%s; parameters %" PRIu32 ", frame words %" PRIu32 "\n", number, exported,
+        fprintf(out, ": function at statement %" PRIu32 "%s; parameters %" PRIu32 ", frame words %" PRIu32 "\n", number, exported,
                row[5], row[4]);
     } else {
-        printf(": place at statement %" PRIu32 "\n", number);
+        fprintf(out, ": place at statement %" PRIu32 "\n", number);
     }
 }
 
@@ -191,7 +193,7 @@ static void print_accepted(const char *path)
     printf("tokens %" PRIu32 ", statements %" PRIu32 ", labels %" PRIu32 ", bytes of data %" PRIu32 "\n", checked[VOODOO_TOKENS],
            checked[VOODOO_STATEMENTS], checked[VOODOO_LABELS], checked[VOODOO_DATA]);
     for (uint32_t i = 0; i < checked[VOODOO_LABELS]; i++)
-        print_label(i);
+        print_label(stdout, i);
 }
 
 static int read_source(const char *path)
@@ -263,10 +265,10 @@ static uint32_t run(const struct options *options, uint64_t budget)
 
 static int refuse_start(const char *path, const char *name, uint32_t number)
 {
-    printf("%s: refusal %" PRIu32 ": %s: %s\n", path, number, meanings[number], name);
+    fprintf(stderr, "%s: refusal %" PRIu32 ": %s: %s\n", path, number, meanings[number], name);
     for (uint32_t i = 0; i < checked[VOODOO_LABELS]; i++)
         if (labels[i * VOODOO_LABEL_ROW] == 4)
-            print_label(i);
+            print_label(stderr, i);
     return REFUSED;
 }
 
@@ -285,7 +287,7 @@ static int run_on(const char *path, const struct options *options)
         uint32_t number = run(options, left < BUDGET ? left : BUDGET);
         taken += voodoo_count(result);
         if (number == VOODOO_BROKEN) {
-            printf("%s: number 35: %s\n", path, meanings[number]);
+            fprintf(stderr, "%s: number 35: %s\n", path, meanings[number]);
             return STOPPED;
         }
         if (number != 0) {
@@ -294,12 +296,12 @@ static int run_on(const char *path, const struct options *options)
         }
         if (result[VOODOO_FINISHED] == 1) {
             printf("%" PRId64 "\n", signed_word(result[VOODOO_WORD]));
-            fflush(stdout);
+            fflush(stdout); /* before the line on standard error */
             fprintf(stderr, "%" PRIu64 " step%s\n", taken, taken == 1 ? "" : "s");
             return OK;
         }
     }
-    printf("%s: not at its end after %" PRIu64 " steps\n", path, taken);
+    fprintf(stderr, "%s: not at its end after %" PRIu64 " steps\n", path, taken);
     return USED_UP;
 }
 
@@ -361,7 +363,7 @@ static int run_command(int count, char **words)
     return count < 2 ? misuse() : run_file(&options, count, words);
 }
 
-int main(int count, char **words)
+static int command(int count, char **words)
 {
     if (count == 2 && (strcmp(words[1], "--help") == 0 || strcmp(words[1], "-h") == 0)) {
         fputs(usage, stdout);
@@ -376,4 +378,14 @@ int main(int count, char **words)
     if (count >= 2 && strcmp(words[1], "run") == 0)
         return run_command(count - 2, words + 2);
     return misuse();
+}
+
+int main(int count, char **words)
+{
+    int status = command(count, words);
+    if (fflush(stdout) != 0 || ferror(stdout)) {
+        fputs("voodoo: standard output cannot be written\n", stderr);
+        return MISUSED;
+    }
+    return status;
 }

@@ -19,8 +19,9 @@ use Rattle.vm_definitions.specs.Lent as lent
 use Rattle.vm_definitions.specs.declared.Outcome.{Outcome}
 use Rattle.vm_definitions.specs.declared.Opening.{Opening}
 use Rattle.vm_start.specs.Opening.{Opened, opened, openingOf}
+use Rattle.c_words.specs.Words.{recordSize}
 use Rattle.c_words.specs.Record.{recordOf}
-use Rattle.c_words.specs.Reply.{Reply, reply, unfitWords, outcomeReply, openingReply}
+use Rattle.c_words.specs.Reply.{Reply, reply, unfitNumber, unfitWords, outcomeReply, openingReply}
 use Rattle.c_words.specs.declared.Loaded.{Loaded}
 use Rattle.c_words.specs.declared.Loaded.the-variants.{Fit, Unfit}
 use Rattle.c_voodoo.specs.Answer.{answerNumber, resultWords, Told, told, toldOf}
@@ -57,21 +58,22 @@ told-is x a b c d e y number out o p q =
 
 module _ (ws st m out : List ℕ) (n : ℕ) (out′ : List ℕ) where
   -- the answer where there is no record
-  none : (n ≡ 35) × (out′ ≡ overlay unfitWords out) → answered n ws st m out′ ≡ unfit ws st m out
+  none : (number : ℕ) → (n ≡ number) × (out′ ≡ overlay (unfitWords number) out) → answered n ws st m out′ ≡ unfit ws st m out number
   unfolding unfit
-  none q = rw (q .0, q .1)
+  none number q = rw (q .0, q .1)
 
   module _ (x : Loaded) (e : x ≡ recordOf ws) (t : List ℕ) (c : ℕ) (l : List ℕ) (k : ℕ) (names : List ℕ) (d : ℕ) where
     abbrev T : Tables
     T = tablesOf t c l k names d
 
-    pub step-unfit : x ≡ Unfit → (n ≡ 35) × (out′ ≡ overlay unfitWords out) → answered n ws st m out′ ≡ stepCall ws st m out T
+    pub step-unfit : x ≡ Unfit → (n ≡ 35) × (out′ ≡ overlay (unfitWords 35) out) → answered n ws st m out′ ≡ stepCall ws st m out T
     unfolding stepCall stepBy
-    step-unfit h q = none q ∙ ap (stepBy ws st m out T) (sym h ∙ e)
+    step-unfit h q = none 35 q ∙ ap (stepBy ws st m out T) (sym h ∙ e)
 
-    pub run-unfit : (budget : ℕ) → x ≡ Unfit → (n ≡ 35) × (out′ ≡ overlay unfitWords out) → answered n ws st m out′ ≡ runCall ws st m out T budget
+    pub run-unfit : (budget number : ℕ) → x ≡ Unfit → number ≡ unfitNumber budget → (n ≡ number) × (out′ ≡ overlay (unfitWords number) out)
+        → answered n ws st m out′ ≡ runCall ws st m out T budget
     unfolding runCall runBy
-    run-unfit budget h q = none q ∙ ap (runBy ws st m out T budget) (sym h ∙ e)
+    run-unfit budget number h g q = none number q ∙ ap (unfit ws st m out) g ∙ ap (runBy ws st m out T budget) (sym h ∙ e)
 
     module _ (r : Machine) (h : x ≡ Fit r) (o : Outcome) (ws′ st′ m′ : List ℕ) (q : reply n ws′ out′ ≡ outcomeReply o ws out) where
       after : (y : After) → lent.left o st′ m′ ≡ y → answered n ws′ st′ m′ out′ ≡ outcomeAnswer ws st m out y
@@ -87,12 +89,12 @@ module _ (ws st m out : List ℕ) (n : ℕ) (out′ : List ℕ) where
       run-fit budget g = after (runOf Bits32 T budget (world r st m)) g ∙ ap (runBy ws st m out T budget) (sym h ∙ e)
 
   module _ (t : List ℕ) (c : ℕ) (l : List ℕ) (k : ℕ) (names : List ℕ) (d : ℕ) (bytes name args : List ℕ) where
-    pub start-unfit : length ws < 16 → (n ≡ 35) × (out′ ≡ overlay unfitWords out)
+    pub start-unfit : length ws < recordSize → (n ≡ 35) × (out′ ≡ overlay (unfitWords 35) out)
         → answered n ws st m out′ ≡ startCall ws st m out (tablesOf t c l k names d) bytes name args
     unfolding startCall
-    start-unfit h q = none q ∙ sym (ifLt-yes (unfit ws st m out) _ h)
+    start-unfit h q = none 35 q ∙ sym (ifLt-yes (unfit ws st m out 35) _ h)
 
-    pub start-fit : (r : Machine) (o : Opening) (ws′ st′ m′ : List ℕ) → 16 ≤ length ws → r ≡ freshOf 0 0 0
+    pub start-fit : (r : Machine) (o : Opening) (ws′ st′ m′ : List ℕ) → recordSize ≤ length ws → r ≡ freshOf 0 0 0
         → opened o st′ m′ ≡ openingOf Bits32 (tablesOf t c l k names d) bytes name args (world r st m)
         → reply n ws′ out′ ≡ openingReply o ws out
         → answered n ws′ st′ m′ out′ ≡ startCall ws st m out (tablesOf t c l k names d) bytes name args
@@ -100,7 +102,7 @@ module _ (ws st m out : List ℕ) (n : ℕ) (out′ : List ℕ) where
     start-fit r o ws′ st′ m′ h f g q =
         ap (λ (p : Reply). replied p st′ m′) q ∙ ap (openingAnswer ws st m out) g
         ∙ ap (λ (z : Machine). openingAnswer ws st m out (openingOf Bits32 (tablesOf t c l k names d) bytes name args (world z st m))) f
-        ∙ sym (ifLt-no (unfit ws st m out) _ h)
+        ∙ sym (ifLt-no (unfit ws st m out 35) _ h)
 
 pub ruleset steps = (step-unfit, step-fit)
 

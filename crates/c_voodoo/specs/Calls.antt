@@ -13,8 +13,9 @@ use Rattle.vm_definitions.specs.Lent.{world}
 use Rattle.vm_definitions.specs.declared.Outcome.{Outcome}
 use Rattle.vm_definitions.specs.declared.Opening.{Opening}
 use Rattle.vm_start.specs.Opening.{Opened, openingOf}
+use Rattle.c_words.specs.Words.{recordSize}
 use Rattle.c_words.specs.Record.{recordOf}
-use Rattle.c_words.specs.Reply.{Reply, reply, unfitWords, outcomeReply, openingReply}
+use Rattle.c_words.specs.Reply.{Reply, reply, unfitNumber, unfitWords, outcomeReply, openingReply}
 use Rattle.c_words.specs.declared.Loaded.{Loaded}
 use Rattle.c_words.specs.declared.Loaded.the-variants.{Fit, Unfit}
 
@@ -41,9 +42,9 @@ openingWith y = record { machine = y .world .machine; answer = y .answer }
 
 -- the lent buffers: the words of the record, stack, memory, result
 module _ (ws st m out : List ℕ) where
-  -- 35, and nothing else changes
-  unfoldable pub unfit : Answered
-  unfit = replied (reply 35 ws (overlay unfitWords out)) st m
+  -- no record in the lent words: a number, and nothing else changes
+  unfoldable pub unfit : ℕ → Answered
+  unfit number = replied (reply number ws (overlay (unfitWords number) out)) st m
 
   unfoldable pub outcomeAnswer : After → Answered
   outcomeAnswer y = replied (outcomeReply (outcomeOf y) ws out) (y .world .stack) (y .world .memory)
@@ -53,14 +54,15 @@ module _ (ws st m out : List ℕ) where
 
   unfoldable pub stepBy : Tables → Loaded → Answered
   stepBy t (Fit r) = outcomeAnswer (stepOf Bits32 t (world r st m))
-  stepBy t Unfit = unfit
+  stepBy t Unfit = unfit 35
 
   unfoldable pub stepCall : Tables → Answered
   stepCall t = stepBy t (recordOf ws)
 
+  -- a budget of 0 is answered whatever the lent words hold
   unfoldable pub runBy : Tables → ℕ → Loaded → Answered
   runBy t budget (Fit r) = outcomeAnswer (runOf Bits32 t budget (world r st m))
-  runBy t budget Unfit = unfit
+  runBy t budget Unfit = unfit (unfitNumber budget)
 
   unfoldable pub runCall : Tables → ℕ → Answered
   runCall t budget = runBy t budget (recordOf ws)
@@ -68,4 +70,4 @@ module _ (ws st m out : List ℕ) where
   -- a start does not read the record
   unfoldable pub startCall : Tables → List ℕ → List ℕ → List ℕ → Answered
   startCall t bytes name args =
-      ifLt (length ws) 16 unfit (openingAnswer (openingOf Bits32 t bytes name args (world (freshOf 0 0 0) st m)))
+      ifLt (length ws) recordSize (unfit 35) (openingAnswer (openingOf Bits32 t bytes name args (world (freshOf 0 0 0) st m)))

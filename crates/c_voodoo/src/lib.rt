@@ -2,6 +2,7 @@
 use base_limits::Machine;
 use base_limits::Width;
 use c_words::Loaded;
+use c_words::RecordWord;
 use check_source::Checked;
 ghost use mathlib.Core.Path.{_≡_};
 ghost use lib.ListN.{length};
@@ -79,8 +80,8 @@ pub extern "C" fn voodoo_start(
 ) -> u32
     ensures { λ r. ⌜ answered r (now («record» .exit)) (now (stack .exit)) (now (memory .exit)) (now (result .exit)) ≡ startCall (now («record» .entry)) (now (stack .entry)) (now (memory .entry)) (now (result .entry)) (tablesOf (now (statements .entry)) count (now (labels .entry)) «label_count» (now (names .entry)) «data_length») (now (bytes .entry)) (now (name .entry)) (now (arguments .entry)) ⌝ }
 {
-    if record.len() < 16 {
-        return c_words::reply_unfit(result);
+    if record.len() < RecordWord::COUNT {
+        return c_words::reply_unfit(35, result);
     }
     let o = vm_start::start(
         statements,
@@ -131,7 +132,7 @@ pub extern "C" fn voodoo_step(
             );
             c_words::reply_outcome(stepped, record, result)
         }
-        Loaded::Unfit => c_words::reply_unfit(result),
+        Loaded::Unfit => c_words::reply_unfit(35, result),
     }
 }
 
@@ -169,6 +170,6 @@ pub extern "C" fn voodoo_run(
             );
             c_words::reply_outcome(ran, record, result)
         }
-        Loaded::Unfit => c_words::reply_unfit(result),
+        Loaded::Unfit => c_words::reply_unfit(c_words::unfit_number(budget), result),
     }
 }

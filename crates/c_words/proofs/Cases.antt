@@ -5,7 +5,7 @@ use mathlib.Core.Bool.{Bool, true, false}
 use mathlib.Core.List.{List, [], _∷_}
 use Prim.Native.Nat.{ℕ, zero, suc, _+_, _/_, _%_, _<_, _≤_}
 use native.Mathlib.Omega.{arith}
-use lib.Dec.{eqb}
+use lib.Dec.{eqb, leb}
 use borrow.Author.Tests.{ne-eqb}
 use lib.ListN.{length, getD, set}
 use Rattle.base_prelude.specs.Choice.{pick, ifLt, ifEq, ifTrue}
@@ -22,8 +22,10 @@ use Rattle.vm_definitions.specs.declared.Outcome.{Outcome}
 use Rattle.c_words.specs.declared.Loaded.{Loaded}
 use Rattle.c_words.specs.declared.Loaded.the-variants.{Fit, Unfit}
 use Rattle.c_words.specs.Placed.{placed, threeAt}
-use Rattle.c_words.specs.Record.{isListed, stateOf, machineOf, recordOf, stateNumber, stateValue, statePlace, recordWords}
-use Rattle.c_words.specs.Reply.{Reply, reply, unfitWords, nowhere, brokenNumber, brokenPlace, finishedFlag, finishedWord, outcomeNumber, outcomeWords, changes, recordAfter, outcomeReply, startNumber, startPlace, startWords, recordBegun, openingReply}
+use Rattle.c_words.specs.Words as word
+use Rattle.c_words.specs.Words.{recordSize, nowhere}
+use Rattle.c_words.specs.Record.{isStop, isListed, stateOf, stateIn, machineOf, recordOf, stateNumber, stateValue, statePlace, recordWords}
+use Rattle.c_words.specs.Reply.{Reply, reply, unfitWords, brokenNumber, brokenPlace, finishedFlag, finishedWord, outcomeNumber, outcomeWords, changes, recordAfter, outcomeReply, startNumber, startPlace, startWords, recordBegun, openingReply}
 
 set-past : (out : List ℕ) (i v : ℕ) → length out ≤ i → out ≡ set out i v
 set-past [] i v h = refl
@@ -96,40 +98,55 @@ seven-put a b c d e f g (x ∷ xs) =
 
 -- ---- the record
 
-module _ (s : ℕ) where
-  pub listed-running : s ≡ 1 → true ≡ isListed s
+pub stop-below : (k : ℕ) → k < 30 → false ≡ isStop k
+unfolding isStop
+stop-below k h = sym (ifLt-yes false _ h)
+
+pub stop-from : (k : ℕ) → 30 ≤ k → leb k 34 ≡ isStop k
+unfolding isStop
+stop-from k h = sym (ifLt-no false _ h)
+
+pub ruleset stop-ways = (stop-below, stop-from)
+
+module _ (s k : ℕ) where
+  pub listed-running : s ≡ word.running → true ≡ isListed s k
   unfolding isListed
   listed-running h = sym (ifEq-yes true _ h)
 
-  pub listed-finished : (s ≡ 1 → ⊥) → s ≡ 2 → true ≡ isListed s
+  pub listed-finished : (s ≡ word.running → ⊥) → s ≡ word.finished → true ≡ isListed s k
   unfolding isListed
   listed-finished h q = sym (ifEq-no true _ h ∙ ifEq-yes true _ q)
 
-  pub listed-stopped : (s ≡ 1 → ⊥) → (s ≡ 2 → ⊥) → eqb s 3 ≡ isListed s
-  unfolding isListed ifEq
-  listed-stopped h q = rw (ne-eqb _ _ h, ne-eqb _ _ q) (as-test (eqb s 3))
-    where
-      as-test : (b : Bool) → b ≡ pick b true false
-      as-test true = refl
-      as-test false = refl
+  pub listed-stopped : (b : Bool) → (s ≡ word.running → ⊥) → (s ≡ word.finished → ⊥) → s ≡ word.stopped → b ≡ isStop k → b ≡ isListed s k
+  unfolding isListed
+  listed-stopped b h q r e = e ∙ sym (ifEq-no true _ h ∙ ifEq-no true _ q ∙ ifEq-yes (isStop k) false r)
 
-pub ruleset listed-ways = (listed-running, listed-finished, listed-stopped)
+  pub listed-none : (s ≡ word.running → ⊥) → (s ≡ word.finished → ⊥) → (s ≡ word.stopped → ⊥) → false ≡ isListed s k
+  unfolding isListed
+  listed-none h q r = sym (ifEq-no true _ h ∙ ifEq-no true _ q ∙ ifEq-no (isStop k) false r)
+
+pub ruleset listed-ways = (listed-running, listed-finished, listed-stopped, listed-none)
 
 module _ (ws : List ℕ) where
-  pub load-short : length ws < 16 → Unfit ≡ recordOf ws
+  pub load-short : length ws < recordSize → Unfit ≡ recordOf ws
   unfolding recordOf
   load-short h = sym (ifLt-yes Unfit _ h)
 
-  module _ (b : Bool) (h : 16 ≤ length ws) (e : b ≡ isListed (getD ws 0 0)) where
+  module _ (b : Bool) (h : recordSize ≤ length ws) (e : b ≡ isListed (getD ws word.state 0) (getD ws word.value 0)) where
     pub load-unlisted : b ≡ false → Unfit ≡ recordOf ws
     unfolding recordOf
     load-unlisted q = sym (ifLt-no Unfit _ h ∙ ifTrue-no (Fit (machineOf ws)) Unfit (sym e ∙ q))
 
-    pub load-fit : (s : State) → b ≡ true → s ≡ stateOf (getD ws 0 0) (getD ws 5 0) (getD ws 6 0)
-        → Fit (record { state = s; next = getD ws 1 0; frame = getD ws 2 0; used = getD ws 3 0; top = getD ws 4 0 }) ≡ recordOf ws
+    pub load-fit : (s : State) → b ≡ true → s ≡ stateIn ws
+        → Fit
+        (record { state = s; next = getD ws word.next 0; frame = getD ws word.frame 0; used = getD ws word.used 0; top = getD ws word.top 0 })
+        ≡ recordOf ws
     unfolding recordOf machineOf
     load-fit s q r =
-        ap (λ (z : State). Fit (record { state = z; next = getD ws 1 0; frame = getD ws 2 0; used = getD ws 3 0; top = getD ws 4 0 })) r
+        ap
+        (λ (z : State). Fit
+        (record { state = z; next = getD ws word.next 0; frame = getD ws word.frame 0; used = getD ws word.used 0; top = getD ws word.top 0 }))
+        r
         ∙ sym (ifLt-no Unfit _ h ∙ ifTrue-yes (Fit (machineOf ws)) Unfit (sym e ∙ q))
 
 pub ruleset load-ways = (load-short, load-unlisted, load-fit)
@@ -157,18 +174,18 @@ module _ (s : ℕ) (o : Outcome) where
   unfolding changes
   changed-counted h = sym (ifEq-no _ true h)
 
-  pub changed-before : o .count ≡ 0 → (s ≡ 1 → ⊥) → false ≡ changes s o
+  pub changed-before : o .count ≡ 0 → (s ≡ word.running → ⊥) → false ≡ changes s o
   unfolding changes
   changed-before h q = sym (ifEq-yes _ true h ∙ ifEq-no _ false q)
 
-  pub changed-stopped : (n : ℕ) → o .count ≡ 0 → s ≡ 1 → n ≡ stateNumber (o .machine .state) → eqb n 3 ≡ changes s o
+  pub changed-stopped : (n : ℕ) → o .count ≡ 0 → s ≡ word.running → n ≡ stateNumber (o .machine .state) → eqb n word.stopped ≡ changes s o
   unfolding changes
-  changed-stopped n h q e = ap (λ (k : ℕ). eqb k 3) e ∙ sym (ifEq-yes _ true h ∙ ifEq-yes _ false q)
+  changed-stopped n h q e = ap (λ (k : ℕ). eqb k word.stopped) e ∙ sym (ifEq-yes _ true h ∙ ifEq-yes _ false q)
 
 pub ruleset change-ways = (changed-counted, changed-before, changed-stopped)
 
-module _ (o : Outcome) (ws : List ℕ) (s : ℕ) (b : Bool) (q : s ≡ getD ws 0 0) (e : b ≡ changes s o) where
-  is : b ≡ changes (getD ws 0 0) o
+module _ (o : Outcome) (ws : List ℕ) (s : ℕ) (b : Bool) (q : s ≡ getD ws word.state 0) (e : b ≡ changes s o) where
+  is : b ≡ changes (getD ws word.state 0) o
   is = e ∙ ap (λ (n : ℕ). changes n o) q
 
   pub kept-changed : (ws′ : List ℕ) → b ≡ true → ws′ ≡ overlay (recordWords (o .machine)) ws → ws′ ≡ recordAfter o ws

@@ -1,3 +1,4 @@
 pub mod Placed
+pub mod Words
 pub mod Record
 pub mod Reply

@@ -1,45 +1,55 @@
--- The run record in the 16 words that a host lends: 0 the state, 1 next statement, 2 frame in use, 3 stack words in use, 4 auto top,
--- 5 finished: the word, stopped: the number, 6 stopped: the statement; 7 to 15 are not used.
+-- The run record in the words that a host lends.
 -- Assumes nothing.
 use Prim.Native.Nat.{ℕ}
 use mathlib.Core.Bool.{Bool, true, false}
 use mathlib.Core.List.{List, [], _∷_}
+use lib.Dec.{leb}
 use lib.ListN.{length, getD}
 use Rattle.base_prelude.specs.Choice.{ifLt, ifEq, ifTrue}
 use Rattle.base_limits.specs.declared.State.{State}
 use Rattle.base_limits.specs.declared.State.the-variants.{Running, Finished, Stopped}
 use Rattle.base_limits.specs.declared.Machine.{Machine}
+use Rattle.c_words.specs.Words as word
+use Rattle.c_words.specs.Words.{recordSize}
 use Rattle.c_words.specs.declared.Loaded.{Loaded}
 use Rattle.c_words.specs.declared.Loaded.the-variants.{Fit, Unfit}
 
--- 1 running, 2 finished, 3 stopped; no other number is a state
-unfoldable pub isListed : ℕ → Bool
-isListed s = ifEq s 1 true (ifEq s 2 true (ifEq s 3 true false))
+-- a stop that 01 lists: "30..34"
+unfoldable pub isStop : ℕ → Bool
+isStop k = ifLt k 30 false (leb k 34)
 
--- a listed state s, with words 5 and 6
+-- s is the number of a state; a stopped one has the number k of a stop
+unfoldable pub isListed : ℕ → ℕ → Bool
+isListed s k = ifEq s word.running true (ifEq s word.finished true (ifEq s word.stopped (isStop k) false))
+
+-- a listed state s, with the words of its value and its statement
 unfoldable pub stateOf : ℕ → ℕ → ℕ → State
-stateOf s a b = ifEq s 1 Running (ifEq s 2 (Finished a) (Stopped a b))
+stateOf s a b = ifEq s word.running Running (ifEq s word.finished (Finished a) (Stopped a b))
+
+unfoldable pub stateIn : List ℕ → State
+stateIn ws = stateOf (getD ws word.state 0) (getD ws word.value 0) (getD ws word.at 0)
 
 unfoldable pub machineOf : List ℕ → Machine
 machineOf ws =
     record {
-      state = stateOf (getD ws 0 0) (getD ws 5 0) (getD ws 6 0);
-      next = getD ws 1 0;
-      frame = getD ws 2 0;
-      used = getD ws 3 0;
-      top = getD ws 4 0;
+      state = stateIn ws;
+      next = getD ws word.next 0;
+      frame = getD ws word.frame 0;
+      used = getD ws word.used 0;
+      top = getD ws word.top 0;
     }
 
 -- the record that the words hold; none in fewer than 16 words, or where the state is not listed
 unfoldable pub recordOf : List ℕ → Loaded
-recordOf ws = ifLt (length ws) 16 Unfit (ifTrue (isListed (getD ws 0 0)) (Fit (machineOf ws)) Unfit)
+recordOf ws =
+    ifLt (length ws) recordSize Unfit (ifTrue (isListed (getD ws word.state 0) (getD ws word.value 0)) (Fit (machineOf ws)) Unfit)
 
 -- ---- the words of a record
 
 unfoldable pub stateNumber : State → ℕ
-stateNumber Running = 1
-stateNumber (Finished v) = 2
-stateNumber (Stopped k i) = 3
+stateNumber Running = word.running
+stateNumber (Finished v) = word.finished
+stateNumber (Stopped k i) = word.stopped
 
 unfoldable pub stateValue : State → ℕ
 stateValue Running = 0

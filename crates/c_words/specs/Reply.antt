@@ -16,6 +16,8 @@ use Rattle.vm_definitions.specs.declared.Started.{Started}
 use Rattle.vm_definitions.specs.declared.Started.the-variants.{Begun, Refused, Unsound}
 use Rattle.vm_definitions.specs.declared.Opening.{Opening}
 use Rattle.vm_definitions.specs.declared.Outcome.{Outcome}
+use Rattle.c_words.specs.Words as word
+use Rattle.c_words.specs.Words.{nowhere}
 use Rattle.c_words.specs.Record.{stateNumber, recordWords}
 
 -- the number given back, the record's words and the result's
@@ -27,13 +29,13 @@ pub record Reply : Type 0 where
 abbrev pub reply : ℕ → List ℕ → List ℕ → Reply
 reply n ws out = record { number = n; words = ws; result = out }
 
--- no place
-abbrev pub nowhere : ℕ
-nowhere = 4294967295
+-- a run where no record is in the lent words: a budget of 0 is answered before anything is looked at
+unfoldable pub unfitNumber : ℕ → ℕ
+unfitNumber budget = ifEq budget 0 0 35
 
--- no record in the lent words
-abbrev pub unfitWords : List ℕ
-unfitWords = 35 ∷ nowhere ∷ 0 ∷ 0 ∷ 0 ∷ 0 ∷ []
+-- a number alone
+abbrev pub unfitWords : ℕ → List ℕ
+unfitWords number = number ∷ nowhere ∷ 0 ∷ 0 ∷ 0 ∷ 0 ∷ []
 
 -- ---- a step and a run
 
@@ -78,10 +80,10 @@ outcomeWords o =
 
 -- the call changed the record, whose state's number was s: a step was counted, or a running record has stopped
 unfoldable pub changes : ℕ → Outcome → Bool
-changes s o = ifEq (o .count) 0 (ifEq s 1 (eqb (stateNumber (o .machine .state)) 3) false) true
+changes s o = ifEq (o .count) 0 (ifEq s word.running (eqb (stateNumber (o .machine .state)) word.stopped) false) true
 
 unfoldable pub recordAfter : Outcome → List ℕ → List ℕ
-recordAfter o ws = ifTrue (changes (getD ws 0 0) o) (overlay (recordWords (o .machine)) ws) ws
+recordAfter o ws = ifTrue (changes (getD ws word.state 0) o) (overlay (recordWords (o .machine)) ws) ws
 
 unfoldable pub outcomeReply : Outcome → List ℕ → List ℕ → Reply
 outcomeReply o ws out = reply (outcomeNumber o) (recordAfter o ws) (overlay (outcomeWords o) out)

@@ -10,8 +10,87 @@ ghost use mathlib.Core.List.{[], _∷_};
 ghost use Prim.Native.Nat.{_≤_, _/_, _%_};
 ghost use Rattle.base_prelude.specs.Lists.{overlay};
 ghost use Rattle.c_words.specs.Placed.{placed, threeAt};
-ghost use Rattle.c_words.specs.Record.{isListed, stateOf, recordOf, stateNumber, stateValue, statePlace, recordWords};
-ghost use Rattle.c_words.specs.Reply.{reply, unfitWords, stopNumber, stopPlace, brokenNumber, brokenPlace, finishedFlag, finishedWord, outcomeNumber, outcomeWords, changes, recordAfter, outcomeReply, unsoundPlace, startNumber, startPlace, startWords, recordBegun, openingReply};
+ghost use lib.ListN.{length, getD};
+ghost use Rattle.c_words.specs.Words as word;
+ghost use Rattle.c_words.specs.Words.{numbersOf, recordSize};
+ghost use Rattle.c_words.specs.Record.{isStop, isListed, stateOf, stateIn, recordOf, stateNumber, stateValue, statePlace, recordWords};
+ghost use Rattle.c_words.specs.Reply.{reply, unfitNumber, unfitWords, stopNumber, stopPlace, brokenNumber, brokenPlace, finishedFlag, finishedWord, outcomeNumber, outcomeWords, changes, recordAfter, outcomeReply, unsoundPlace, startNumber, startPlace, startWords, recordBegun, openingReply};
+
+// The words of the lent record that are used.
+pub struct RecordWord {}
+
+impl RecordWord {
+    pub const STATE: usize = 0;
+
+    pub const NEXT: usize = 1;
+
+    pub const FRAME: usize = 2;
+
+    pub const USED: usize = 3;
+
+    pub const TOP: usize = 4;
+
+    pub const VALUE: usize = 5;
+
+    pub const AT: usize = 6;
+
+    // Words of the whole record.
+    pub const COUNT: usize = 16;
+}
+
+// The numbers of the states.
+pub struct StateNumber {}
+
+impl StateNumber {
+    pub const RUNNING: u32 = 1;
+
+    pub const FINISHED: u32 = 2;
+
+    pub const STOPPED: u32 = 3;
+}
+
+// No place.
+pub struct Place {}
+
+impl Place {
+    pub const NONE: u32 = 4294967295;
+}
+
+// The numbers of this crate.
+pub struct Numbers {
+    pub state: usize,
+    pub next: usize,
+    pub frame: usize,
+    pub used: usize,
+    pub top: usize,
+    pub value: usize,
+    pub at: usize,
+    pub words: usize,
+    pub running: u32,
+    pub finished: u32,
+    pub stopped: u32,
+    pub nowhere: u32,
+}
+
+// The constants are the numbers of specs/Words.
+pub fn all_numbers() -> Numbers
+    ensures { λ r. ⌜ r ≡ numbersOf ⌝ }
+{
+    Numbers {
+        state: RecordWord::STATE,
+        next: RecordWord::NEXT,
+        frame: RecordWord::FRAME,
+        used: RecordWord::USED,
+        top: RecordWord::TOP,
+        value: RecordWord::VALUE,
+        at: RecordWord::AT,
+        words: RecordWord::COUNT,
+        running: StateNumber::RUNNING,
+        finished: StateNumber::FINISHED,
+        stopped: StateNumber::STOPPED,
+        nowhere: Place::NONE,
+    }
+}
 
 // The record of some lent words, or none.
 pub enum Loaded {
@@ -47,27 +126,40 @@ pub fn put_six(out: &mut [u32], a: u32, b: u32, c: u32, d: u32, e: u32, f: u32) 
     a
 }
 
-// Whether a number is one of a state.
-fn is_listed(s: u32) -> bool
-    ensures { λ r. ⌜ r ≡ isListed s ⌝ }
+// Whether a number is that of a stop.
+fn is_stop(k: u32) -> bool
+    ensures { λ r. ⌜ r ≡ isStop k ⌝ }
 {
-    if s == 1 {
+    if k < 30 {
+        return false;
+    }
+    k <= 34
+}
+
+// Whether s is the number of a state, a stopped one having the number k of a stop.
+fn is_listed(s: u32, k: u32) -> bool
+    ensures { λ r. ⌜ r ≡ isListed s k ⌝ }
+{
+    if s == StateNumber::RUNNING {
         return true;
     }
-    if s == 2 {
+    if s == StateNumber::FINISHED {
         return true;
     }
-    s == 3
+    if s == StateNumber::STOPPED {
+        return is_stop(k);
+    }
+    false
 }
 
 // A listed state, with the words that it may hold.
 fn make_state(s: u32, a: u32, b: u32) -> State
     ensures { λ r. ⌜ r ≡ stateOf s a b ⌝ }
 {
-    if s == 1 {
+    if s == StateNumber::RUNNING {
         return State::Running;
     }
-    if s == 2 {
+    if s == StateNumber::FINISHED {
         return State::Finished(a);
     }
     State::Stopped {
@@ -76,22 +168,41 @@ fn make_state(s: u32, a: u32, b: u32) -> State
     }
 }
 
+// The state that the words hold, where it is listed.
+fn read_state(record: &[u32]) -> State
+    requires { ⌜ recordSize ≤ length (now «record») ⌝ }
+    ensures { λ r. ⌜ r ≡ stateIn (now («record» .entry)) ⌝ }
+{
+    make_state(
+        record[RecordWord::STATE],
+        record[RecordWord::VALUE],
+        record[RecordWord::AT],
+    )
+}
+
+// Whether the words hold a listed state.
+fn has_state(record: &[u32]) -> bool
+    requires { ⌜ recordSize ≤ length (now «record») ⌝ }
+    ensures { λ r. ⌜ r ≡ isListed (getD (now («record» .entry)) word.state 0) (getD (now («record» .entry)) word.value 0) ⌝ }
+{
+    is_listed(record[RecordWord::STATE], record[RecordWord::VALUE])
+}
+
 // The record that the words hold.
 pub fn load_record(record: &[u32]) -> Loaded
     ensures { λ r. ⌜ r ≡ recordOf (now («record» .entry)) ⌝ }
 {
-    if record.len() < 16 {
+    if record.len() < RecordWord::COUNT {
         return Loaded::Unfit;
     }
-    let s = record[0];
-    if is_listed(s) {
-        let state = make_state(s, record[5], record[6]);
+    if has_state(record) {
+        let state = read_state(record);
         return Loaded::Fit(Machine {
             state: state,
-            next: record[1],
-            frame: record[2],
-            used: record[3],
-            top: record[4],
+            next: record[RecordWord::NEXT],
+            frame: record[RecordWord::FRAME],
+            used: record[RecordWord::USED],
+            top: record[RecordWord::TOP],
         });
     }
     Loaded::Unfit
@@ -102,9 +213,9 @@ fn state_number(s: State) -> u32
     ensures { λ r. ⌜ r ≡ stateNumber s ⌝ }
 {
     match s {
-        State::Running => 1,
-        State::Finished(_) => 2,
-        State::Stopped { number, statement } => 3,
+        State::Running => StateNumber::RUNNING,
+        State::Finished(_) => StateNumber::FINISHED,
+        State::Stopped { number, statement } => StateNumber::STOPPED,
     }
 }
 
@@ -137,7 +248,7 @@ pub fn store_record(record: &mut [u32], r: Machine)
     let s = r.state;
     put_three(record, 0, state_number(s), r.next, r.frame);
     put_three(record, 3, r.used, r.top, state_value(s));
-    put_word(record, 6, state_place(s));
+    put_word(record, RecordWord::AT, state_place(s));
 }
 
 // The number of a stop, or 0.
@@ -156,8 +267,8 @@ fn stop_place(s: State) -> u32
     ensures { λ r. ⌜ r ≡ stopPlace s ⌝ }
 {
     match s {
-        State::Running => 4294967295,
-        State::Finished(_) => 4294967295,
+        State::Running => Place::NONE,
+        State::Finished(_) => Place::NONE,
         State::Stopped { number, statement } => statement,
     }
 }
@@ -180,7 +291,7 @@ fn broken_place(b: Broken, s: State) -> u32
     match b {
         Broken::No => stop_place(s),
         Broken::At(i) => i,
-        Broken::Somewhere => 4294967295,
+        Broken::Somewhere => Place::NONE,
     }
 }
 
@@ -247,19 +358,19 @@ fn is_changed(s: u32, o: Outcome) -> bool
     if n != 0 {
         return true;
     }
-    if s != 1 {
+    if s != StateNumber::RUNNING {
         return false;
     }
     let r = o.machine;
     let state = r.state;
-    state_number(state) == 3
+    state_number(state) == StateNumber::STOPPED
 }
 
 // Writes the record, if the call changed it.
 fn keep_record(o: Outcome, record: &mut [u32])
     ensures { λ _. ⌜ now («record» .exit) ≡ recordAfter o (now («record» .entry)) ⌝ }
 {
-    let s = prog_tables::word_at(record, 0);
+    let s = prog_tables::word_at(record, RecordWord::STATE);
     if is_changed(s, o) {
         let r = o.machine;
         store_record(record, r);
@@ -274,11 +385,18 @@ pub fn reply_outcome(o: Outcome, record: &mut [u32], result: &mut [u32]) -> u32
     put_outcome(o, result)
 }
 
-// The answer where the lent words hold no record.
-pub fn reply_unfit(result: &mut [u32]) -> u32
-    ensures { λ r. ⌜ (r ≡ 35) × (now (result .exit) ≡ overlay unfitWords (now (result .entry))) ⌝ }
+// The number of a run where the lent words hold no record.
+pub fn unfit_number(budget: u64) -> u32
+    ensures { λ r. ⌜ r ≡ unfitNumber budget ⌝ }
 {
-    put_six(result, 35, 4294967295, 0, 0, 0, 0)
+    if budget == 0 { 0 } else { 35 }
+}
+
+// The answer with this number where the lent words hold no record.
+pub fn reply_unfit(number: u32, result: &mut [u32]) -> u32
+    ensures { λ r. ⌜ (r ≡ number) × (now (result .exit) ≡ overlay (unfitWords number) (now (result .entry))) ⌝ }
+{
+    put_six(result, number, Place::NONE, 0, 0, 0, 0)
 }
 
 // The statement of a 35 at a start.
@@ -286,9 +404,9 @@ fn unsound_place(b: Broken) -> u32
     ensures { λ r. ⌜ r ≡ unsoundPlace b ⌝ }
 {
     match b {
-        Broken::No => 4294967295,
+        Broken::No => Place::NONE,
         Broken::At(i) => i,
-        Broken::Somewhere => 4294967295,
+        Broken::Somewhere => Place::NONE,
     }
 }
 
@@ -308,8 +426,8 @@ fn start_place(a: Started) -> u32
     ensures { λ r. ⌜ r ≡ startPlace a ⌝ }
 {
     match a {
-        Started::Begun => 4294967295,
-        Started::Refused(_) => 4294967295,
+        Started::Begun => Place::NONE,
+        Started::Refused(_) => Place::NONE,
         Started::Unsound(b) => unsound_place(b),
     }
 }

@@ -1,6 +1,4 @@
 use Rattle.c_voodoo.proofs.Cases.{runs}
-use native.Mathlib.Omega.{arith}
-use mathlib.Core.Path.{_≡_, refl, sym, _∙_, ap, subst}
 use borrow.Author.Needs.{needs}
 use Rattle.c_voodoo.proofs.voodoo_run.Statement.{statement}
 use Rattle.c_voodoo.proofs.voodoo_run.Tie as tie
@@ -9,6 +7,7 @@ use Rattle.c_voodoo.proofs.voodoo_run.Lts as lts
 use Rattle.c_words.proofs.load_record.Reads as load-record-reads
 use Rattle.c_words.proofs.reply_outcome.Reads as reply-outcome-reads
 use Rattle.c_words.proofs.reply_unfit.Reads as reply-unfit-reads
+use Rattle.c_words.proofs.unfit_number.Reads as unfit-number-reads
 use Rattle.vm_run.proofs.run.Reads as run-reads
 
 load-record-requires : tie.Need-load-record-requires
@@ -26,6 +25,9 @@ reply-outcome-requires c κs = search needs
 enum-told : tie.Need-enum-told
 enum-told c = search needs
 
+unfit-number-requires : tie.Need-unfit-number-requires
+unfit-number-requires c κs = search needs
+
 reply-unfit-requires : tie.Need-reply-unfit-requires
 reply-unfit-requires c κs = search needs
 
@@ -42,8 +44,7 @@ same-length-4 : tie.Need-same-length-4
 same-length-4 c = search needs
 
 returns : tie.Need-returns
-returns c =
-    search runs
+returns c = search runs
 
 same-length-5 : tie.Need-same-length-5
 same-length-5 c = search needs
@@ -52,8 +53,7 @@ same-length-6 : tie.Need-same-length-6
 same-length-6 c = search needs
 
 returns-2 : tie.Need-returns-2
-returns-2 c =
-    search runs
+returns-2 c = search runs
 
 pub voodoo-run-spec : {M : Type 1} → statement M
 voodoo-run-spec =
@@ -64,6 +64,7 @@ voodoo-run-spec =
     run-requires
     reply-outcome-requires
     enum-told
+    unfit-number-requires
     reply-unfit-requires
     same-length
     same-length-2

@@ -20,7 +20,7 @@ use Rattle.base_limits.specs.Fresh.{freshOf}
 use Rattle.prog_tables.specs.Label.{Tables, rows}
 use Rattle.vm_definitions.specs.Broken.{stepBroken}
 use Rattle.vm_definitions.specs.Step.{World, Effect, stops, leaves, After, idle, effected, guarded, inState, stopped, counting, effectOf, stepOf, runOf}
-use Rattle.vm_definitions.specs.Start.{startOf, startLeaves}
+use Rattle.vm_definitions.specs.Start.{startOf, startLeaves, startWorld, begunBy}
 use Rattle.vm_definitions.specs.Lent.{world}
 use Rattle.vm_definitions.specs.declared.Broken.{Broken}
 use Rattle.vm_definitions.specs.declared.Broken.the-variants.{No, At, Somewhere}
@@ -31,8 +31,11 @@ use Rattle.c_words.specs.Record.{isListed, stateOf, machineOf, recordOf, stateN
 use Rattle.c_words.specs.Reply.{changes, recordAfter, outcomeReply, recordBegun, openingReply}
 use Rattle.c_words.specs.declared.Loaded.{Loaded}
 use Rattle.c_words.specs.declared.Loaded.the-variants.{Fit, Unfit}
-use Rattle.c_words.proofs.Laws.{record-back, record-long, record-state}
+use Rattle.c_words.specs.Words as word
+use Rattle.c_words.specs.Words.{recordSize}
+use Rattle.c_words.proofs.Laws.{Listed, record-back, record-long, record-state, record-listed}
+use Rattle.thm_calls.proofs.Effects.{Fine, effect-fine}
 use Rattle.c_voodoo.specs.Calls.{Answered, outcomeOf, unfit, outcomeAnswer, openingAnswer, stepBy, stepCall, runBy, runCall, startCall}
 
 -- where nothing is written, the record is as it was
 abbrev Quiet : World → After → Type 0
@@ -87,15 +90,51 @@ quiet-run t (suc b) x = by (eqb (stepOf Bits32 t x .count) 0)
         (runOf Bits32 t b (stepOf Bits32 t x .world) .world .machine) (runOf Bits32 t b (stepOf Bits32 t x .world) .broken))
         ∙ h)
 
+-- ---- the state that a step or a run leaves is one that words can hold
+
+abbrev LeavesListed : After → Type 0
+LeavesListed y = Listed (y .world .machine .state)
+
+effected-listed : (x : World) (e : Effect) → Fine e → LeavesListed (effected x e)
+unfolding effected Fine stopped Listed
+effected-listed x (stops k) h = h
+effected-listed x (leaves y) h = h
+
+guarded-listed : (x : World) (e : Effect) (b : Broken) → Listed (x .machine .state) → Fine e → LeavesListed (guarded x e b)
+unfolding guarded idle
+guarded-listed x e No l h = effected-listed x e h
+guarded-listed x e (At i) l h = l
+guarded-listed x e Somewhere l h = l
+
+in-listed : (x : World) (s : State) (e : Effect) (b : Broken) → Listed (x .machine .state) → Fine e
+    → LeavesListed (inState s (guarded x e b) (idle x No))
+unfolding inState idle
+in-listed x Running e b l h = guarded-listed x e b l h
+in-listed x (Finished v) e b l h = l
+in-listed x (Stopped k i) e b l h = l
+
+pub step-listed : (t : Tables) (x : World) → Listed (x .machine .state) → LeavesListed (stepOf Bits32 t x)
+unfolding stepOf
+step-listed t x l = in-listed x (x .machine .state) _ _ l (effect-fine Bits32 (rows t) (t .count) x l)
+
+pub run-listed : (t : Tables) (budget : ℕ) (x : World) → Listed (x .machine .state) → LeavesListed (runOf Bits32 t budget x)
+unfolding runOf ifEq counting idle
+run-listed t zero x l = l
+run-listed t (suc b) x l = by (eqb (stepOf Bits32 t x .count) 0)
+  where
+    by : (v : Bool) → LeavesListed (pick v (stepOf Bits32 t x) (counting 1 (runOf Bits32 t b (stepOf Bits32 t x .world))))
+    by true = step-listed t x l
+    by false = run-listed t b (stepOf Bits32 t x .world) (step-listed t x l)
+
 -- the record's words behind a step or a run that leaves y
-words-after : (ws : List ℕ) (x : World) (y : After) → recordOf ws ≡ Fit (x .machine) → Quiet x y
+words-after : (ws : List ℕ) (x : World) (y : After) → recordOf ws ≡ Fit (x .machine) → LeavesListed y → Quiet x y
     → recordOf (recordAfter (outcomeOf y) ws) ≡ Fit (y .world .machine)
 unfolding recordAfter ifTrue
-words-after ws x y e q = by (changes (getD ws 0 0) (outcomeOf y)) refl
+words-after ws x y e l q = by (changes (getD ws word.state 0) (outcomeOf y)) refl
   where
-    by : (b : Bool) → changes (getD ws 0 0) (outcomeOf y) ≡ b
+    by : (b : Bool) → changes (getD ws word.state 0) (outcomeOf y) ≡ b
         → recordOf (pick b (overlay (recordWords (y .world .machine)) ws) ws) ≡ Fit (y .world .machine)
-    by true h = record-back (y .world .machine) ws (record-long ws (x .machine) e)
+    by true h = record-back (y .world .machine) ws l (record-long ws (x .machine) e)
     by false h =
         e ∙ ap Fit (sym (q (ap (λ (s : ℕ). changes s (outcomeOf y)) (sym (record-state ws (x .machine) e)) ∙ h)))
 
@@ -105,20 +144,27 @@ module _ (ws st m out : List ℕ) (t : Tables) (r : Machine) (e : recordOf ws �
   unfolding stepCall stepBy outcomeAnswer outcomeReply
   step-words =
       ap (λ (x : Loaded). recordOf (stepBy ws st m out t x .words)) e
-      ∙ words-after ws (world r st m) (stepOf Bits32 t (world r st m)) e (quiet-step t (world r st m))
+      ∙ words-after ws (world r st m) (stepOf Bits32 t (world r st m)) e (step-listed t (world r st m) (record-listed ws r e)) (quiet-step t (world r st m))
 
   pub run-words : (budget : ℕ) → recordOf (runCall ws st m out t budget .words) ≡ Fit (runOf Bits32 t budget (world r st m) .world .machine)
   unfolding runCall runBy outcomeAnswer outcomeReply
   run-words budget =
       ap (λ (x : Loaded). recordOf (runBy ws st m out t budget x .words)) e
-      ∙ words-after ws (world r st m) (runOf Bits32 t budget (world r st m)) e (quiet-run t budget (world r st m))
+      ∙ words-after ws (world r st m) (runOf Bits32 t budget (world r st m)) e (run-listed t budget (world r st m) (record-listed ws r e)) (quiet-run t budget (world r st m))
 
 -- a start that has begun leaves the record of the definition
-pub start-words : (ws st m out : List ℕ) (t : Tables) (bytes name args : List ℕ) → 16 ≤ length ws
-    → startOf Bits32 t bytes name args (world (freshOf 0 0 0) st m) ≡ Begun
-    → recordOf (startCall ws st m out t bytes name args .words) ≡ Fit (startLeaves Bits32 t bytes name args (world (freshOf 0 0 0) st m) .machine)
-unfolding startCall openingAnswer openingReply recordBegun
-start-words ws st m out t bytes name args h e =
-    ap (λ (y : Answered). recordOf (y .words)) (ifLt-no (unfit ws st m out) _ h)
-    ∙ ap (λ (a : Started). recordOf (recordBegun a (recordWords (startLeaves Bits32 t bytes name args (world (freshOf 0 0 0) st m) .machine)) ws)) e
-    ∙ record-back (startLeaves Bits32 t bytes name args (world (freshOf 0 0 0) st m) .machine) ws h
+module _ (ws st m out : List ℕ) (t : Tables) (bytes name args : List ℕ) where
+  abbrev S : Started
+  S = startOf Bits32 t bytes name args (world (freshOf 0 0 0) st m)
+
+  begun-listed : S ≡ Begun → Listed (startLeaves Bits32 t bytes name args (world (freshOf 0 0 0) st m) .machine .state)
+  unfolding startLeaves begunBy startWorld freshOf Listed
+  begun-listed e = subst (λ (a : Started). Listed (begunBy Bits32 t bytes name args (world (freshOf 0 0 0) st m) a .machine .state)) (sym e) tt
+
+  pub start-words : recordSize ≤ length ws → S ≡ Begun
+      → recordOf (startCall ws st m out t bytes name args .words) ≡ Fit (startLeaves Bits32 t bytes name args (world (freshOf 0 0 0) st m) .machine)
+  unfolding startCall openingAnswer openingReply recordBegun
+  start-words h e =
+      ap (λ (y : Answered). recordOf (y .words)) (ifLt-no (unfit ws st m out 35) _ h)
+      ∙ ap (λ (a : Started). recordOf (recordBegun a (recordWords (startLeaves Bits32 t bytes name args (world (freshOf 0 0 0) st m) .machine)) ws)) e
+      ∙ record-back (startLeaves Bits32 t bytes name args (world (freshOf 0 0 0) st m) .machine) ws (begun-listed e) h

@@ -1,0 +1,1 @@
+// No code: lists of C calls are lists of demand 3.
