@@ -60,6 +60,17 @@ broken-not : (b : Broken) (s : State) → Listed s → b ≡ No → Not35 (broke
 unfolding brokenNumber
 broken-not b s l e = subst (λ (z : Broken). Not35 (brokenNumber z s)) (sym e) (stop-not s l)
 
+abbrev P : Started → Type 0
+P a = Not35 (startNumber a)
+
+begun : P Begun
+unfolding startNumber
+begun h = absurd (omega (arith, h))
+
+refused : (k : ℕ) → eqb k 35 ≡ false → P (Refused k)
+unfolding startNumber
+refused k e h = absurd (true-false (sym (eq-eqb k 35 h) ∙ e))
+
 module _ (t : Tables) (bytes : List ℕ) where
   module _ (name args : List ℕ) where
     answer-not : (x : World) → Not35 (startNumber (startAnswer Bits32 t bytes name args x))
@@ -70,15 +81,6 @@ module _ (t : Tables) (bytes : List ℕ) where
         (λ _. either-true P _ _ _ (λ _. refused 22 refl) (λ _. either-true P _ _ _ (λ _. refused 23 refl) (λ _. begun)))
         (λ _. refused 21 refl))
         (λ _. refused 20 refl)
-      where
-        P : Started → Type 0
-        P a = Not35 (startNumber a)
-        begun : P Begun
-        unfolding startNumber
-        begun h = absurd (omega (arith, h))
-        refused : (k : ℕ) → eqb k 35 ≡ false → P (Refused k)
-        unfolding startNumber
-        refused k e h = absurd (true-false (sym (eq-eqb k 35 h) ∙ e))
 
     start-not : (x : World) (b : Broken) → startBroke (startBy Bits32 t bytes name args x b) ≡ No → Not35 (startNumber (startBy Bits32 t bytes name args x b))
     unfolding startBy startBroke
@@ -245,10 +247,11 @@ module _ (t : Tables) (bytes : List ℕ) where
   pub host-demand : Demand Bits32 t bytes → HostDemand t bytes
   unfolding Demand HostDemand heldAfter numbersAfter answerOf answerTo worldAfter invokedOn calledOn startedBy refusalsAfter NoneBroken Without35
   host-demand d h name args out cs long e all =
-      let s = d (worldOf h) name args (invocations cs) e all in
-      (after _ _ cs (first-holds h name args out long e),
-      s .0,
-      (first-number h name args out long e, numbers _ _ cs (first-holds h name args out long e) (s .1 .1)))
+      let s = d (worldOf h) name args (invocations cs) e all in (
+        after _ _ cs (first-holds h name args out long e),
+        s .0,
+        (first-number h name args out long e, numbers _ _ cs (first-holds h name args out long e) (s .1 .1)),
+      )
 
 -- demand 3 of an accepted source, said of the calls from C
 pub host-demand-three : (s : List ℕ) (b : Lent) → isAccepted (checkOf Bits32 s b .answer) ≡ true

@@ -36,7 +36,7 @@ valued : (v top : ℕ) → Numbered (Value v top)
 unfolding Numbered
 valued v top = tt
 
-pub on-read : {X : Type 0} (P : X → Type 0) (r : Read) (x : X) (g : ℕ → X) → P x → ((v : ℕ) → P (g v)) → P (onRead r x g)
+on-read : {X : Type 0} (P : X → Type 0) (r : Read) (x : X) (g : ℕ → X) → P x → ((v : ℕ) → P (g v)) → P (onRead r x g)
 unfolding onRead
 on-read P (Got v) x g p q = q v
 on-read P Bad x g p q = p
@@ -80,7 +80,7 @@ module _ (w : Width) (m : List ℕ) (top e x y : ℕ) where
   next : (k : ℕ) (a b : Worked) → Numbered a → Numbered b → Numbered (ifEq e k a b)
   next k a b p q = either-eq Numbered e k a b (λ h. p) (λ h. q)
 
-  pub apply-numbered : Numbered (applied w m top e x y)
+  apply-numbered : Numbered (applied w m top e x y)
   unfolding applied
   apply-numbered =
       next _ _ _ (valued _ _)

@@ -10,7 +10,7 @@ use lib.ListN.{length, getD}
 use borrow.Author.Tests.{ltb-false}
 use Rattle.base_prelude.specs.Choice.{pick, ifLt, ifEq, ifTrue}
 use Rattle.base_prelude.specs.Lists.{overlay}
-use Rattle.base_prelude.proofs.Choice.{true-false, ifLt-no, ifEq-no}
+use Rattle.base_prelude.proofs.Choice.{true-false, ifLt-no, ifEq-no, either-eq}
 use Rattle.base_limits.specs.declared.Width.{Width}
 use Rattle.base_limits.specs.declared.Width.the-variants.{Bits32}
 use Rattle.base_limits.specs.declared.State.{State}
@@ -118,13 +118,11 @@ unfolding stepOf
 step-listed t x l = in-listed x (x .machine .state) _ _ l (effect-fine Bits32 (rows t) (t .count) x l)
 
 pub run-listed : (t : Tables) (budget : ℕ) (x : World) → Listed (x .machine .state) → LeavesListed (runOf Bits32 t budget x)
-unfolding runOf ifEq counting idle
+unfolding runOf counting idle
 run-listed t zero x l = l
-run-listed t (suc b) x l = by (eqb (stepOf Bits32 t x .count) 0)
-  where
-    by : (v : Bool) → LeavesListed (pick v (stepOf Bits32 t x) (counting 1 (runOf Bits32 t b (stepOf Bits32 t x .world))))
-    by true = step-listed t x l
-    by false = run-listed t b (stepOf Bits32 t x .world) (step-listed t x l)
+run-listed t (suc b) x l =
+    either-eq LeavesListed (stepOf Bits32 t x .count) 0 (stepOf Bits32 t x) (counting 1 (runOf Bits32 t b (stepOf Bits32 t x .world)))
+    (λ _. step-listed t x l) (λ _. run-listed t b (stepOf Bits32 t x .world) (step-listed t x l))
 
 -- the record's words behind a step or a run that leaves y
 words-after : (ws : List ℕ) (x : World) (y : After) → recordOf ws ≡ Fit (x .machine) → LeavesListed y → Quiet x y
