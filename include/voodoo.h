@@ -8,7 +8,8 @@
  *     voodoo_run     takes steps of a run, at most as many as a budget says.
  *     voodoo_step    takes one step.
  *
- * A run in slices of 1,000 steps, behind an accepted check whose result is `check`:
+ * A run of at most 100 slices of 1,000 steps, behind an accepted check whose result
+ * is `check`:
  *
  *     uint32_t record[VOODOO_RECORD_WORDS], stack[VOODOO_STACK_WORDS];
  *     uint8_t memory[VOODOO_MEMORY_BYTES] = {0};
@@ -22,7 +23,7 @@
  *         record, VOODOO_RECORD_WORDS, stack, VOODOO_STACK_WORDS,
  *         memory, VOODOO_MEMORY_BYTES, result, VOODOO_RESULT_WORDS);
  *     uint64_t steps = 0;
- *     while (number == 0 && !result[VOODOO_FINISHED]) {
+ *     for (int i = 0; i < 100 && number == 0 && !result[VOODOO_FINISHED]; i++) {
  *         number = voodoo_run(
  *             statements, VOODOO_STATEMENT_WORDS, check[VOODOO_STATEMENTS],
  *             labels, VOODOO_LABEL_WORDS, check[VOODOO_LABELS],
@@ -31,10 +32,12 @@
  *             memory, VOODOO_MEMORY_BYTES, result, VOODOO_RESULT_WORDS);
  *         steps += voodoo_count(result);
  *     }
- *     if (number == 0)
- *         printf("%u after %llu steps\n", (unsigned)result[VOODOO_WORD], (unsigned long long)steps);
+ *     if (number != 0)
+ *         printf("number %" PRIu32 "\n", number);
+ *     else if (result[VOODOO_FINISHED])
+ *         printf("%" PRId32 " after %" PRIu64 " steps\n", (int32_t)result[VOODOO_WORD], steps);
  *     else
- *         printf("number %u\n", (unsigned)number);
+ *         printf("not at its end after %" PRIu64 " steps\n", steps);
  *
  * Everything is proved: for all inputs and all buffers the answer and every word
  * of every buffer are those of one definition (voodoo_check: crates/c_voodoo/specs
@@ -93,19 +96,22 @@ enum {
     VOODOO_SOURCE_TOO_LONG = 1,  /* more than 16,384 bytes [16,384]              */
     VOODOO_NO_TOKEN        = 2,  /* no token can be read here [the byte]         */
     VOODOO_BAD_ESCAPE      = 3,  /* [its backslash]                              */
-    VOODOO_OPEN_STRING     = 4,  /* open at the end of its line [its start]      */
+    VOODOO_OPEN_STRING     = 4,  /* open at the end of its line or of the source
+                                    [its start]                                  */
     VOODOO_BIG_INTEGER     = 5,  /* integer out of range [its start]             */
     VOODOO_LONG_NAME       = 6,  /* more than 64 bytes [its start]               */
-    VOODOO_BAD_SHAPE       = 7,  /* unknown word, or wrong operands [the word]   */
+    VOODOO_BAD_SHAPE       = 7,  /* unknown word, or wrong operands [the magic
+                                    word, or an unknown substitute]              */
     VOODOO_NOT_HERE        = 8,  /* not allowed here [the word, label or name;
-                                    the source's end if something is open]       */
+                                    the source's length if something is open]    */
     VOODOO_LEFT_OUT        = 9,  /* a word of Voodoo that is not taken [it]      */
     VOODOO_UNKNOWN_NAME    = 10, /* [the name]                                   */
     VOODOO_WRONG_KIND      = 11, /* a name of another kind is needed [the name]  */
     VOODOO_SECOND_NAME     = 12, /* a second name in one scope [the name]        */
     VOODOO_ARGUMENT_COUNT  = 13, /* another count of parameters [the name]       */
     VOODOO_LIMIT           = 14, /* a limit passed [what passes it]              */
-    VOODOO_BIG_DATA        = 15, /* more than 32,768 bytes [the definition]      */
+    VOODOO_BIG_DATA        = 15, /* more than 32,768 bytes [the definition or
+                                    `align`]                                     */
     VOODOO_SHORT_BUFFER    = 16, /* a buffer is shorter than needed [0]          */
     VOODOO_LATE_EXPORT     = 17  /* an export after a use [the export's name]    */
 };
@@ -120,8 +126,9 @@ enum {
  *              left as they are. Words that an answer has no value for are 0.
  *
  * Each buffer is a pointer and its length: words for uint32_t, bytes for uint8_t.
- * A pointer is valid and aligned also where the length is 0. No two of the seven
- * buffers may overlap. What they held before does not matter.
+ * Where the length is 0 the pointer may be NULL; else it is valid for the length and
+ * aligned. No two of the seven buffers may overlap. What they held before does not
+ * matter.
  *
  * It uses at most 286 KB of stack (measured, bench/run); have 512 KB free.
  */
@@ -157,7 +164,7 @@ enum {
     VOODOO_AT     /* stopped: the statement; else 0                            */
 };
 
-/* The states. Any other number is number 35. */
+/* The states. Any other number, and a stopped record whose number is not 30 to 34, is number 35. */
 enum {
     VOODOO_STATE_RUNNING  = 1,
     VOODOO_STATE_FINISHED = 2,
@@ -220,11 +227,12 @@ static inline uint64_t voodoo_count(const uint32_t *result)
  *
  * In all three: `result` gets its first six words, or as many as it has; others are
  * left as they are. The function returns result[VOODOO_NUMBER]. A record of fewer
- * than 16 words is number 35 with no place, and but for `result` nothing changes.
+ * than 16 words is number 35 with no place (but see budget 0 of voodoo_run), and but
+ * for `result` nothing changes.
  *
  * Each buffer is a pointer and its length: words for uint32_t, bytes for uint8_t.
- * A pointer is valid and aligned also where the length is 0. No two buffers of a
- * call may overlap.
+ * Where the length is 0 the pointer may be NULL; else it is valid for the length and
+ * aligned. No two buffers of a call may overlap.
  *
  * Each uses less than 3 KB of stack (counted in the compiled code); have 4 KB free.
  */
@@ -263,9 +271,9 @@ uint32_t voodoo_start(
  *                      written: the state is stopped, for good. `stack` and `memory`
  *                      are left as they are. A record that had stopped before says
  *                      the same again, and is not written.
- *   35, count 0        the tables or the record are broken, or its state is none of
- *                      the three: `record`, `stack` and `memory` are left as they
- *                      are. The same call on good tables goes on.
+ *   35, count 0        the tables or the record are broken, or it holds no listed
+ *                      state: `record`, `stack` and `memory` are left as they are.
+ *                      The same call on good tables goes on.
  */
 uint32_t voodoo_step(
     const uint32_t *statements, size_t statement_words, uint32_t statement_count,
@@ -289,6 +297,9 @@ uint32_t voodoo_step(
  *              stopped in this call; `stack` and `memory` are left as they are. So
  *              with a budget of 0, and on a record that had finished or stopped
  *              before, nothing but `result` changes.
+ *   budget 0   is answered before anything is looked at: 0, or the number of a record
+ *              that had stopped before; never 35, also with a record that is short
+ *              or holds no listed state.
  */
 uint32_t voodoo_run(
     const uint32_t *statements, size_t statement_words, uint32_t statement_count,
