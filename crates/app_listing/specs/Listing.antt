@@ -25,3 +25,7 @@ pageOf s x = pageBy s (x .answer) (x .labels) (x .names) (x .statements)
 -- the page of a source
 unfoldable pub listOf : List ℕ → List ℕ
 listOf s = pageOf s (checkOf Bits32 s fullTables)
+
+-- room for every page: a line of counts, and 256 lines of labels with names of 64 bytes
+abbrev pub pageRoom : ℕ
+pageRoom = 98304

@@ -7,6 +7,9 @@ use prog_tables::Table;
 ghost use mathlib.Core.Path.{_≡_};
 ghost use Rattle.app_page.specs.Page.{shown, shownOn};
 ghost use Rattle.app_listing.specs.Listing.{pageBy, listOf};
+ghost use Rattle.base_prelude.specs.Lists.{overlay};
+ghost use Prim.Native.Nat.{_≤_};
+ghost use lib.ListN.{length};
 
 fn page_of(x: Checked, s: &[u8], table: &[u32], names: &[u8], rows: &[u32], out: &mut [u8]) -> Page
     ensures { λ r. ⌜ shown r (now (out .exit)) ≡ shownOn (pageBy (now (s .entry)) x (now (table .entry)) (now (names .entry)) (now (rows .entry))) (now (out .entry)) ⌝ }
@@ -43,4 +46,22 @@ pub fn list(s: &[u8], out: &mut [u8]) -> Page
         &mut data,
     );
     page_of(x, s, &table, &names, &rows, out)
+}
+
+// Room for every page.
+pub struct Room {}
+
+impl Room {
+    pub const PAGE: usize = 98304;
+}
+
+// Writes the page of a source over the front of a buffer that has room for every page, and gives its bytes.
+pub fn list_whole(s: &[u8], out: &mut [u8; Room::PAGE]) -> usize
+    ensures { λ r. ⌜ (r ≡ length (listOf (now (s .entry)))) × (now (out .exit) ≡ overlay (listOf (now (s .entry))) (now (out .entry))) ⌝ }
+    ensures { λ r. ⌜ r ≤ length (now (out .exit)) ⌝ }
+{
+    match list(s, out) {
+        Page::Written(size) => size,
+        Page::Short => 0,
+    }
 }
