@@ -1,7 +1,7 @@
 -- The limits of 01, "Limits", each under one name; and the sizes of the tables that follow from them.
 -- Assumes nothing.
 use mathlib.Core.Path.{_≡_, refl}
-use Prim.Native.Nat.{ℕ, _*_}
+use Prim.Native.Nat.{ℕ, _-_, _*_, _^_}
 use Rattle.base_limits.specs.declared.Limits.{Limits}
 
 -- "A word has 32 bits"
@@ -81,4 +81,5 @@ limitsOf =
       «stack_words» = stackWords;
       «token_row» = tokenRow;
       «token_words» = tokenWords;
+      mark = 2 ^ wordBits - 1;
     }

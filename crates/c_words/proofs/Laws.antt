@@ -14,6 +14,7 @@ use Rattle.base_prelude.proofs.Choice.{true-false, ifLt-no}
 use Rattle.base_limits.specs.declared.State.{State}
 use Rattle.base_limits.specs.declared.State.the-variants.{Running, Finished, Stopped}
 use Rattle.base_limits.specs.declared.Machine.{Machine}
+use Rattle.base_limits.specs.Record.{ofParts}
 use Rattle.c_words.specs.declared.Loaded.{Loaded}
 use Rattle.c_words.specs.declared.Loaded.the-variants.{Fit, Unfit}
 use Rattle.c_words.specs.Record.{isListed, stateOf, machineOf, recordOf, stateNumber, stateValue, statePlace, recordWords}
@@ -28,7 +29,7 @@ seven-over a b c d e f g x0 x1 x2 x3 x4 x5 x6 ws =
 -- the words of a record with others behind them
 read-back : (s : State) (next frame used top : ℕ) (ws : List ℕ) → 9 ≤ length ws
     → recordOf (stateNumber s ∷ next ∷ frame ∷ used ∷ top ∷ stateValue s ∷ statePlace s ∷ ws)
-    ≡ Fit (record { state = s; next = next; frame = frame; used = used; top = top })
+    ≡ Fit (ofParts s next frame used top)
 unfolding recordOf machineOf isListed stateOf stateNumber stateValue statePlace ifEq ifTrue
 read-back Running next frame used top ws h = ifLt-no Unfit _ (omega arith)
 read-back (Finished v) next frame used top ws h = ifLt-no Unfit _ (omega arith)

@@ -9,6 +9,7 @@ use Rattle.base_prelude.specs.Choice.{ifLt, ifEq, ifTrue}
 use Rattle.base_limits.specs.declared.State.{State}
 use Rattle.base_limits.specs.declared.State.the-variants.{Running, Finished, Stopped}
 use Rattle.base_limits.specs.declared.Machine.{Machine}
+use Rattle.base_limits.specs.Record.{ofParts}
 use Rattle.c_words.specs.declared.Loaded.{Loaded}
 use Rattle.c_words.specs.declared.Loaded.the-variants.{Fit, Unfit}
 
@@ -21,14 +22,7 @@ unfoldable pub stateOf : ℕ → ℕ → ℕ → State
 stateOf s a b = ifEq s 1 Running (ifEq s 2 (Finished a) (Stopped a b))
 
 unfoldable pub machineOf : List ℕ → Machine
-machineOf ws =
-    record {
-      state = stateOf (getD ws 0 0) (getD ws 5 0) (getD ws 6 0);
-      next = getD ws 1 0;
-      frame = getD ws 2 0;
-      used = getD ws 3 0;
-      top = getD ws 4 0;
-    }
+machineOf ws = ofParts (stateOf (getD ws 0 0) (getD ws 5 0) (getD ws 6 0)) (getD ws 1 0) (getD ws 2 0) (getD ws 3 0) (getD ws 4 0)
 
 -- the record that the words hold; none in fewer than 16 words, or where the state is not listed
 unfoldable pub recordOf : List ℕ → Loaded

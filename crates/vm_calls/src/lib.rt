@@ -15,11 +15,12 @@ ghost use mathlib.Core.Bool.{true};
 ghost use Prim.Native.Nat.{suc, _+_, _*_, _≤_, _<_, min};
 ghost use lib.ListN.{length, take};
 ghost use Rattle.base_limits.specs.declared.Width.the-variants.{Bits32};
+ghost use Rattle.base_limits.specs.Record.{goingOn, movedTo, ended};
 ghost use Rattle.prog_tables.specs.Statement.{rowAt, slots, operandAt};
 ghost use Rattle.vm_definitions.specs.Operands.{readAll};
 ghost use Rattle.vm_definitions.specs.Access.{storeFrom};
 ghost use Rattle.vm_definitions.specs.Frames.{returnsTo, callerFrame, topAtEntry, frameWords, leavesGood};
-ghost use Rattle.vm_definitions.specs.Step.{goingOn, movedTo, ended, workedOf};
+ghost use Rattle.vm_definitions.specs.Step.{workedOf};
 ghost use Rattle.vm_definitions.specs.Lent.{world, left};
 ghost use Rattle.prog_tables.specs.StatementRow as row;
 ghost use Rattle.prog_tables.specs.Layout.{statementRow};
@@ -40,41 +41,14 @@ fn count_one(q: Machine) -> Outcome
 pub fn go_on(r: Machine, n: u32, top: u32) -> Outcome
     ensures { λ o. ⌜ o ≡ oneStep (goingOn r n top) ⌝ }
 {
-    let state = r.state;
-    count_one(Machine {
-        state: state,
-        next: n,
-        frame: r.frame,
-        used: r.used,
-        top: top,
-    })
-}
-
-// The record in another frame.
-fn move_to(r: Machine, n: u32, frame: u32, used: u32, top: u32) -> Machine
-    ensures { λ q. ⌜ q ≡ movedTo r n frame used top ⌝ }
-{
-    let state = r.state;
-    Machine {
-        state: state,
-        next: n,
-        frame: frame,
-        used: used,
-        top: top,
-    }
+    count_one(Machine::going_on(r, n, top))
 }
 
 // The run has finished with a word.
 fn finish(v: u32, top: u32) -> Outcome
     ensures { λ o. ⌜ o ≡ oneStep (ended Bits32 v top) ⌝ }
 {
-    count_one(Machine {
-        state: State::Finished(v),
-        next: 4294967295,
-        frame: 4294967295,
-        used: 0,
-        top: top,
-    })
+    count_one(Machine::ended(v, top))
 }
 
 // The statement stops; nothing is counted.
@@ -82,16 +56,7 @@ pub fn stop(r: Machine, k: u32) -> Outcome
     ensures { λ o. ⌜ o ≡ halted r k ⌝ }
 {
     Outcome {
-        machine: Machine {
-            state: State::Stopped {
-                number: k,
-                statement: r.next,
-            },
-            next: r.next,
-            frame: r.frame,
-            used: r.used,
-            top: r.top,
-        },
+        machine: Machine::stopped(r, k),
         count: 0,
         broken: Broken::No,
     }
@@ -190,7 +155,7 @@ fn enter(
 {
     let to = k as usize;
     vm_memory::build_frame(st, at, back, below, top, &words[0..to], size);
-    count_one(move_to(r, g + 1, at, at + size, top))
+    count_one(Machine::moved(r, g + 1, at, at + size, top))
 }
 
 // A new frame for k arguments behind the frame in use, or stop 33.
@@ -349,7 +314,7 @@ pub fn hand_back(t: &[u32], c: u32, r: Machine, v: u32, st: &mut [u32], m: &mut 
             used,
             top,
         } => {
-            let q = move_to(r, call + 1, frame, used, top);
+            let q = Machine::moved(r, call + 1, frame, used, top);
             hand_to(t, c, r, v, call, frame, q, st, m)
         }
     }

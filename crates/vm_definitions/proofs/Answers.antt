@@ -11,11 +11,11 @@ use Rattle.vm_definitions.specs.declared.Broken.the-variants.{No, At, So
 use Rattle.vm_definitions.specs.declared.Broken.{Broken}
 use Rattle.vm_definitions.specs.declared.Started.{Started}
 use Rattle.base_limits.specs.declared.State.{State}
+use Rattle.base_limits.specs.Record.{freshOf}
 use Rattle.vm_definitions.specs.declared.Started.the-variants.{Begun, Refused, Unsound}
 use Rattle.base_prelude.specs.Choice as m1
 use Rattle.prog_tables.specs.Statement as m10
 use Rattle.vm_definitions.specs.Frames as m15
-use Rattle.base_limits.specs.Fresh.{freshOf}
 use Rattle.vm_definitions.specs.Step.{World, After, runOf}
 use Rattle.vm_definitions.specs.Start.{startOf, startLeaves}
 use Rattle.vm_definitions.specs.Ledger.{started, counted, fromReturn, popped, countedIn, fed, ledgerOf}

@@ -10,6 +10,7 @@ use Rattle.base_prelude.specs.Choice.{ifLt, ifEq, ifTrue}
 use Rattle.base_prelude.proofs.Choice.{either, either-eq, either-true}
 use Rattle.base_limits.specs.Width.{bitsOf, bytesOf}
 use Rattle.base_limits.specs.declared.Width.{Width}
+use Rattle.base_limits.specs.Record.{goingOn, movedTo, ended}
 use Rattle.lang_words.specs.Words.{leastOperands}
 use Rattle.base_word.specs.Bytes.{wordBytes}
 use Rattle.base_word.specs.Word.{divOf, modOf, shlOf, shrOf, bsrOf, asrOf, rolOf, rorOf}
@@ -22,7 +23,7 @@ use Rattle.vm_definitions.specs.Access.{byteAddress, wordAddress, byteGo
 use Rattle.vm_definitions.specs.Operands.{Words, words, bad, numberIn, fetchOf, readOf, onRead}
 use Rattle.vm_definitions.specs.Expressions.{roundUp, reserved, answered, fetched, byteOf, applied, evalOf, operandNo, testHolds}
 use Rattle.vm_definitions.specs.Frames.{isReturn, isCalling, resumptionOf}
-use Rattle.vm_definitions.specs.Step.{World, Effect, stops, leaves, goingOn, movedTo, ended, goesTo, keeps, stores, blockOf, endBlockOf, testOf, workedOf, assigned, assignedAt, addressOf, setAtOf, setByteBy, setWordBy, argumentsOf, callBy, callOf, tailCallBy, handedTo, handedBy, returned, returnOf, rowOf, effectOf}
+use Rattle.vm_definitions.specs.Step.{World, Effect, stops, leaves, goesTo, keeps, stores, blockOf, endBlockOf, testOf, workedOf, assigned, assignedAt, addressOf, setAtOf, setByteBy, setWordBy, argumentsOf, callBy, callOf, tailCallBy, handedTo, handedBy, returned, returnOf, rowOf, effectOf}
 use Rattle.vm_definitions.specs.declared.Read.{Read}
 use Rattle.vm_definitions.specs.declared.Read.the-variants.{Got, Bad}
 use Rattle.vm_definitions.specs.declared.Worked.{Worked}

@@ -12,6 +12,7 @@ use Rattle.base_prelude.specs.Choice.{ifLt, ifEq, ifTrue}
 use Rattle.base_prelude.proofs.Choice.{true-false, either, either-eq, either-true, ifTrue-yes}
 use Rattle.base_limits.specs.Width.{bitsOf, bytesOf}
 use Rattle.base_limits.specs.declared.Width.{Width}
+use Rattle.base_limits.specs.Record.{goingOn}
 use Rattle.lang_words.specs.Words.{leastOperands}
 use Rattle.base_word.specs.Bytes.{wordBytes}
 use Rattle.base_word.specs.Word.{addOf, subOf, mulOf, divOf, modOf, andOf, orOf, xorOf, notOf, shlOf, shrOf, bsrOf, asrOf, rolOf, rorOf}
@@ -31,7 +32,7 @@ use Rattle.prog_laws.proofs.Words.{around-self, frame-shallow, block-low, block
 use Rattle.vm_definitions.specs.Access.{byteAddress, wordAddress, byteGood, wordGood, storeFrom}
 use Rattle.vm_definitions.specs.Operands.{Words, words, bad, numberIn, fetchOf, readOf, readAll, onRead}
 use Rattle.vm_definitions.specs.Expressions.{roundUp, reserved, answered, fetched, byteOf, applied, evalOf, operandNo, testHolds}
-use Rattle.vm_definitions.specs.Step.{World, Effect, stops, leaves, goingOn, goesTo, keeps, stores, blockOf, endBlockOf, testOf, workedOf, assigned, assignedAt, addressOf, setAtOf, setByteBy, setWordBy}
+use Rattle.vm_definitions.specs.Step.{World, Effect, stops, leaves, goesTo, keeps, stores, blockOf, endBlockOf, testOf, workedOf, assigned, assignedAt, addressOf, setAtOf, setByteBy, setWordBy}
 use Rattle.vm_definitions.specs.Ledger.{Entry, Ledger}
 use Rattle.vm_definitions.specs.declared.Read.{Read}
 use Rattle.vm_definitions.specs.declared.Read.the-variants.{Got, Bad}

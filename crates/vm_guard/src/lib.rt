@@ -87,8 +87,8 @@ fn is_first(st: &[u32], s: u32) -> bool
 {
     if s == 0 {
         let p = place_at(st, s);
-        if p == 4294967295 {
-            return caller_at(st, s) == 4294967295;
+        if p == Machine::MARK {
+            return caller_at(st, s) == Machine::MARK;
         }
         return false;
     }

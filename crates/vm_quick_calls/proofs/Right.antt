@@ -12,6 +12,7 @@ use Rattle.base_prelude.specs.Choice.{ifLt, ifEq, ifTrue}
 use Rattle.base_prelude.proofs.Choice.{true-false, either, either-eq, either-true}
 use Rattle.base_limits.specs.declared.Width.the-variants.{Bits32}
 use Rattle.base_limits.specs.declared.Machine.{Machine}
+use Rattle.base_limits.specs.Record.{mark, movedTo}
 use Rattle.prog_tables.specs.Tests.{both, oneOf, given, someOf}
 use Rattle.prog_tables.specs.Statement.{Row, hasExpression, isTest, isOperator, isCall, expressionUses, usedBy, operandAt, slots, rowFrom, rowAt}
 use Rattle.prog_tables.specs.Nesting.{isListed, hasTarget}
@@ -21,8 +22,8 @@ use Rattle.vm_definitions.specs.Access.{storeFrom}
 use Rattle.vm_definitions.specs.Operands as machine
 use Rattle.vm_definitions.specs.Operands.{Words, bad, withWord, readAll, onRead}
 use Rattle.vm_definitions.specs.Expressions.{evalOf}
-use Rattle.vm_definitions.specs.Frames.{mark, frameWords, isFirst, isReturnCall, isReturn, isCalling, calledFrom, headGood, passesOn, leavesGood, rowsLeft, resumptionOf}
-use Rattle.vm_definitions.specs.Step.{Effect, leaves, movedTo, argumentsOf, callBy, callOf, tailCallBy, handedTo, handedBy, returned, returnOf, workedOf, effectOf}
+use Rattle.vm_definitions.specs.Frames.{frameWords, isFirst, isReturnCall, isReturn, isCalling, calledFrom, headGood, passesOn, leavesGood, rowsLeft, resumptionOf}
+use Rattle.vm_definitions.specs.Step.{Effect, leaves, argumentsOf, callBy, callOf, tailCallBy, handedTo, handedBy, returned, returnOf, workedOf, effectOf}
 use Rattle.vm_definitions.specs.Lent.{world}
 use Rattle.vm_definitions.specs.declared.Resumption.the-variants.{Caller}
 use Rattle.vm_definitions.specs.declared.Broken.the-variants.{No}

@@ -8,8 +8,9 @@ ghost use mathlib.Core.Path.{_≡_};
 ghost use Prim.Native.Nat.{_+_, _*_, _≤_, _<_};
 ghost use lib.ListN.{length};
 ghost use Rattle.base_limits.specs.declared.Width.the-variants.{Bits32};
+ghost use Rattle.base_limits.specs.Record.{movedTo};
 ghost use Rattle.prog_tables.specs.Statement.{rowAt};
-ghost use Rattle.vm_definitions.specs.Step.{movedTo, stepOf, runOf};
+ghost use Rattle.vm_definitions.specs.Step.{stepOf, runOf};
 ghost use Rattle.vm_definitions.specs.Lent.{tablesOf, world, left};
 ghost use Rattle.prog_tables.specs.Layout.{statementRow};
 ghost use Rattle.vm_run.specs.Within.{givenBack, isRunning, takenStep, withinStep, withinRun};
@@ -71,20 +72,6 @@ fn usable_size(t: &[u32], c: u32, m: usize, q: Machine, st: &[u32]) -> u32
     0
 }
 
-// The record at another statement of its frame, and in another frame.
-fn moved(r: Machine, next: u32, frame: u32, used: u32, top: u32) -> Machine
-    ensures { λ q. ⌜ q ≡ movedTo r next frame used top ⌝ }
-{
-    let state = r.state;
-    Machine {
-        state: state,
-        next: next,
-        frame: frame,
-        used: used,
-        top: top,
-    }
-}
-
 // The statement that a plain run of so many steps ends at: a call or a return, or else the exact step where there was none before it.
 fn end_plain(
     t: &[u32],
@@ -108,7 +95,7 @@ fn end_plain(
             used,
             top,
         } => Outcome {
-            machine: moved(r, next, frame, used, top),
+            machine: Machine::moved(r, next, frame, used, top),
             count: count + 1,
             broken: Broken::No,
         },
@@ -142,7 +129,7 @@ fn advance_in_frame(
     let g = prog_tables::func_at(t, r.next);
     let x = vm_quick_statements::run_plain(t, c, g, d, size, budget, st, r.frame, m, r.next, r.top);
     let count = x.count;
-    let q = moved(r, x.next, r.frame, r.used, x.top);
+    let q = Machine::moved(r, x.next, r.frame, r.used, x.top);
     if count < budget {
         return end_plain(t, c, g, d, size, q, count, st, m);
     }

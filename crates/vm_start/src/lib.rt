@@ -204,7 +204,7 @@ fn open(
     requires { ⌜ d ≤ length (now bytes) ⌝ }
     ensures { λ r. ⌜ world r (now (st .exit)) (now (m .exit)) ≡ begunAt Bits32 g size d (now (bytes .entry)) (now (args .entry)) (now (st .entry)) (now (m .entry)) ⌝ }
 {
-    vm_memory::build_frame(st, 0, 4294967295, 4294967295, d, args, size);
+    vm_memory::build_frame(st, 0, Machine::MARK, Machine::MARK, d, args, size);
     vm_memory::put_bytes(m, bytes, d);
     Machine::fresh(g + 1, size, d)
 }

@@ -1,5 +1,4 @@
-use Rattle.vm_definitions.specs.Step.{ended}
-use Rattle.vm_definitions.specs.Frames.{mark}
+use Rattle.base_limits.specs.Record.{ended, mark}
 use native.Mathlib.Omega.{arith}
 use mathlib.Core.Path.{_≡_, refl, sym, _∙_, ap, subst}
 use borrow.Author.Needs.{needs}

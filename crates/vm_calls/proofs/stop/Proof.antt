@@ -1,5 +1,5 @@
 use borrow.Author.Needs.{needs}
-use Rattle.vm_definitions.specs.Step.{stopped}
+use Rattle.base_limits.specs.Record.{stopped}
 use native.Mathlib.Omega.{arith}
 use mathlib.Core.Path.{_≡_, refl, sym, _∙_, ap, subst}
 use Rattle.vm_calls.proofs.stop.Statement.{statement}
