@@ -21,7 +21,8 @@ use Rattle.vm_definitions.specs.Start.{startOf, startLeaves}
 use Rattle.vm_definitions.specs.Ledger.{started, counted, fromReturn, popped, countedIn, fed, ledgerOf}
 use Rattle.prog_tables.proofs.Samples.{program}
 use Rattle.vm_definitions.proofs.Opened.{opened}
-use Rattle.vm_definitions.specs.Causes.{causeOf, firstOf, operatorMeets, withFrame}
+use Rattle.vm_definitions.specs.Causes.{causeOf, firstOf, withFrame}
+use Rattle.vm_definitions.specs.Operators.{operators, lineIn, operatorOf, operatorMeets}
 
 -- a state with the steps counted and the stack words in use, or a refused start
 data Came : Type 0 where
@@ -664,5 +665,5 @@ tail-sum = refl
 
 -- `mod` of the least number by -1 is no cause
 mod-least : firstOf Bits32 8 8 (operatorMeets Bits32 0 42 2147483648 4294967295) ≡ 0
-unfolding firstOf operatorMeets causeOf m1.ifEq m1.ifTrue
+unfolding firstOf operatorMeets operatorOf lineIn operators causeOf m1.ifEq m1.ifTrue
 mod-least = refl

@@ -27,11 +27,12 @@ use Rattle.vm_definitions.specs.Operands.{Words, words, bad, isAt, numbe
 use Rattle.vm_definitions.specs.Expressions.{evalOf, operandNo, testHolds}
 use Rattle.vm_definitions.specs.Frames.{isReturn, isCalling, resumptionOf}
 use Rattle.vm_definitions.specs.Step.{World, Effect, stops, leaves, effectStop, goesTo, keeps, stores, blockOf, endBlockOf, testOf, workedOf, assigned, assignedAt, setAtOf, setByteBy, setWordBy, argumentsOf, callBy, callOf, tailCallBy, handedBy, returned, returnOf, effectOf}
-use Rattle.vm_definitions.specs.Causes.{Meeting, wordAt, byteAt, stacksTo, causeOf, firstOf, touched, wordOf, operatorMeets, withFrame, behindOperands, readsOf, meetingsOf, firstCause}
+use Rattle.vm_definitions.specs.Causes.{causeOf, firstOf, touched, wordOf, withFrame, behindOperands, readsOf, meetingsOf, firstCause}
 use Rattle.vm_definitions.specs.declared.Resumption.{Resumption}
 use Rattle.vm_definitions.specs.declared.Worked.{Worked}
 use Rattle.vm_definitions.specs.declared.Worked.the-variants.{Value, Stop}
 use Rattle.vm_definitions.proofs.Operators.{stopIn, next, first-here, first-later, first-one, word-good, word-bad, read-cause, all-cause, eval-cause}
+use Rattle.vm_definitions.specs.Operators.{Meeting, wordAt, byteAt, stacksTo, operatorMeets}
 
 -- a statement's effect by its kind and expression kind, those of its parts being given
 unfoldable dispatch : ℕ → ℕ → Effect → Effect → Effect → Effect → Effect → Effect → Effect → Effect → Effect → Effect → Effect → Effect → Effect

@@ -15,7 +15,8 @@ ghost use Rattle.vm_definitions.specs.declared.Worked.the-variants.{Value};
 ghost use Rattle.vm_definitions.specs.Access.{byteAddress, wordAddress, byteGood, wordGood, loadOf};
 ghost use Rattle.vm_definitions.specs.Operands.{numberIn, fetchOf, readOf};
 ghost use Rattle.lang_words.specs.Words.{leastOperands};
-ghost use Rattle.vm_definitions.specs.Expressions.{reserved, answered, fetched, byteOf, applied, evalOf, testHolds};
+ghost use Rattle.vm_definitions.specs.Expressions.{evalOf, testHolds};
+ghost use Rattle.vm_definitions.specs.Operators.{reserved, answered, fetched, byteOf, applied};
 
 // The address of a byte: base and offset.
 pub fn byte_address(b: u32, o: u32) -> u32
@@ -182,7 +183,8 @@ pub fn apply(e: u32, x: u32, y: u32, m: &[u8], top: u32) -> Worked
         Operator::SHL => from_answer(top, base_word::shl(x, y)),
         Operator::SHR => from_answer(top, base_word::bsr(x, y)),
         Operator::SUB => with_top(base_word::sub(x, y), top),
-        _ => with_top(base_word::xor(x, y), top),
+        Operator::XOR => with_top(base_word::xor(x, y), top),
+        _ => with_top(0, top),
     }
 }
 

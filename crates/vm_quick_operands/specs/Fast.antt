@@ -13,11 +13,11 @@ use Rattle.prog_tables.specs.Statement.{Row, expressionUses, operandAt}
 use Rattle.prog_tables.specs.Faults.{operandFault}
 use Rattle.prog_tables.specs.declared.Operand.{Operand}
 use Rattle.vm_definitions.specs.Operands.{Words, words, bad, withWord, readOf, onRead}
-use Rattle.vm_definitions.specs.Expressions.{applied}
 use Rattle.vm_definitions.specs.declared.Read.{Read}
 use Rattle.vm_definitions.specs.declared.Read.the-variants.{Bad}
 use Rattle.vm_definitions.specs.declared.Worked.{Worked}
 use Rattle.vm_definitions.specs.declared.Worked.the-variants.{Value, Stop}
+use Rattle.vm_definitions.specs.Operators.{applied}
 
 -- an operand's word in the frame at s, where the operand is good: the frame has this size, the data d bytes
 unfoldable pub goodRead : ℕ → ℕ → List ℕ → ℕ → List ℕ → Operand → Read
