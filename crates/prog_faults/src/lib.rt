@@ -1,4 +1,5 @@
 // Broken rows: refusal 35 for a statement row.
+use base_limits::Machine;
 use lang_kinds::Kind;
 use prog_tables::ExpressionKind;
 use prog_tables::Operand;
@@ -14,7 +15,7 @@ ghost use Rattle.prog_tables.specs.Nesting.{isListed, hasTarget};
 ghost use Rattle.prog_tables.specs.Faults.{expressionListed, inFunction, sizeAt, operandFault, addressListed, kindFault, targetFault, calleeFault, sizeFault, ownWord, hasWord, wordFault, operandsFault, addressFault, rowFault};
 ghost use Rattle.lang_kinds.specs.Kinds as kind;
 ghost use Rattle.prog_tables.specs.StatementRow as row;
-ghost use Rattle.prog_tables.specs.Layout.{statementRow};
+ghost use Rattle.prog_tables.specs.Layout.{statementRow, operandSlots};
 
 // Whether a kind is listed.
 pub fn is_listed(k: u32) -> bool
@@ -171,7 +172,7 @@ fn callee_fault(t: &[u32], c: u32, n: u32) -> bool
                 let p = prog_tables::parameters_at(t, g);
                 let m = prog_tables::count_at(t, n);
                 if p == m {
-                    if m <= 8 {
+                    if m <= Machine::PARAMETERS {
                         return false;
                     }
                     return true;
@@ -259,7 +260,7 @@ fn operands_at(t: &[u32], n: u32) -> u32
 
 // Whether the operand in slot i of a row is broken.
 fn slot_fault(t: &[u32], size: u32, d: u32, n: u32, i: u32) -> bool
-    requires { ⌜ i < 8 ⌝ }
+    requires { ⌜ i < operandSlots ⌝ }
     ensures { λ r. ⌜ r ≡ operandFault size d (operandAt (now (t .entry)) (n * statementRow + row.operands + i * 2)) ⌝ }
 {
     let o = prog_tables::operand_at(

@@ -1,4 +1,5 @@
 // What a program is: rows of statements and labels, operands.
+use base_limits::Machine;
 use lang_kinds::Kind;
 use lang_words::Word;
 ghost use mathlib.Core.Path.{_≡_};
@@ -24,18 +25,21 @@ pub struct Table {}
 impl Table {
     pub const STATEMENT_ROW: usize = 27;
 
-    pub const STATEMENT_WORDS: usize = 27648;
+    pub const STATEMENT_WORDS: usize = Machine::STATEMENTS * Table::STATEMENT_ROW;
 
     pub const OPERAND_SLOTS: usize = 8;
 
     pub const LABEL_ROW: usize = 4;
 
-    pub const LABEL_WORDS: usize = 1024;
+    pub const LABEL_WORDS: usize = Machine::LABELS * Table::LABEL_ROW;
 
-    pub const NAME_TABLE: usize = 16384;
+    pub const NAME_TABLE: usize = Machine::LABELS * Machine::NAME_BYTES;
 
     // Frame words before the parameters.
     pub const FRAME_HEAD: u32 = 3;
+
+    // Frames one in the other: a function's and those of its blocks.
+    pub const FRAME_DEPTH: u32 = Machine::BLOCK_DEPTH + 1;
 }
 
 // Every constant of the type.

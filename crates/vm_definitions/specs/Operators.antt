@@ -6,7 +6,7 @@ use lib.ListN.{getD, length}
 use Rattle.base_prelude.specs.Choice.{ifLt, ifEq, ifTrue}
 use Rattle.base_limits.specs.Width.{bitsOf, bytesOf}
 use Rattle.base_limits.specs.declared.Width.{Width}
-use Rattle.base_word.specs.Word.{addOf, subOf, mulOf, divOf, modOf, andOf, orOf, xorOf, notOf, shlOf, shrOf, bsrOf, asrOf, rolOf, rorOf}
+use Rattle.base_word.specs.Word.{stopOf, addOf, subOf, mulOf, divOf, modOf, andOf, orOf, xorOf, notOf, shlOf, shrOf, bsrOf, asrOf, rolOf, rorOf}
 use Rattle.base_word.specs.declared.Answer.{Answer}
 use Rattle.base_word.specs.declared.Answer.the-variants.{Word, Division, Shift}
 use Rattle.lang_words.specs.Numbers as op
@@ -31,8 +31,8 @@ reserved w m top n = ifLt m (roundUp w top + n) (Stop 34) (Value (roundUp w top)
 -- an operator's answer, the auto top staying
 unfoldable pub answered : ℕ → Answer → Worked
 answered top (Word v) = Value v top
-answered top Division = Stop 30
-answered top Shift = Stop 31
+answered top Division = Stop (stopOf Division)
+answered top Shift = Stop (stopOf Shift)
 
 -- a word read, the auto top staying
 unfoldable pub fetched : ℕ → Read → Worked

@@ -137,6 +137,12 @@ module _ (m : List ℕ) (top a : ℕ) (b : Bool) (d : b ≡ byteGood (length m) 
 
 pub ruleset byte-ways = (byte-got, byte-bad)
 
+-- ---- addresses
+
+pub word-address : (b o v r : ℕ) → v ≡ mulOf 32 4 o → r ≡ addOf 32 b v → r ≡ wordAddress Bits32 b o
+unfolding wordAddress mulOf addOf
+word-address b o v r d e = omega (arith, d, e)
+
 -- ---- operators
 
 module _ (m : List ℕ) (top e x y : ℕ) where

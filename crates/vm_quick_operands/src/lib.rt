@@ -9,6 +9,7 @@ use vm_definitions::Worked;
 ghost use mathlib.Core.Path.{_≡_};
 ghost use Prim.Native.Nat.{_+_, _*_, _≤_, _<_};
 ghost use lib.ListN.{length, getD};
+ghost use Rattle.base_limits.specs.Limits.{memoryBytes};
 ghost use Rattle.prog_tables.specs.Statement.{operandAt, rowAt};
 ghost use Rattle.prog_tables.specs.Layout.{statementRow};
 ghost use Rattle.vm_quick_operands.specs.Fast.{goodRead, oneRead, twoRead, goodWork, sizeOf};
@@ -79,7 +80,7 @@ fn work_one(
     m: &[u8],
     top: u32,
 ) -> Worked
-    requires { ⌜ (at + 27 ≤ length (now t)) × (s + size ≤ length (now st)) × (length (now m) ≤ 65536) ⌝ }
+    requires { ⌜ (at + statementRow ≤ length (now t)) × (s + size ≤ length (now st)) × (length (now m) ≤ memoryBytes) ⌝ }
     ensures { λ r. ⌜ r ≡ oneRead (now (t .entry)) at size d (now (st .entry)) s (now (m .entry)) top e ⌝ }
 {
     let f = read(t, at + StatementRow::OPERANDS, d, size, st, s, m);
@@ -104,7 +105,7 @@ fn work_two(
     m: &[u8],
     top: u32,
 ) -> Worked
-    requires { ⌜ (at + 27 ≤ length (now t)) × (s + size ≤ length (now st)) × (length (now m) ≤ 65536) ⌝ }
+    requires { ⌜ (at + statementRow ≤ length (now t)) × (s + size ≤ length (now st)) × (length (now m) ≤ memoryBytes) ⌝ }
     ensures { λ r. ⌜ r ≡ twoRead (now (t .entry)) at size d (now (st .entry)) s (now (m .entry)) top e ⌝ }
 {
     let f = read(t, at + StatementRow::OPERANDS, d, size, st, s, m);
@@ -129,7 +130,7 @@ pub fn work(
     m: &[u8],
     top: u32,
 ) -> Worked
-    requires { ⌜ (at + 27 ≤ length (now t)) × (s + size ≤ length (now st)) × (length (now m) ≤ 65536) ⌝ }
+    requires { ⌜ (at + statementRow ≤ length (now t)) × (s + size ≤ length (now st)) × (length (now m) ≤ memoryBytes) ⌝ }
     ensures { λ r. ⌜ r ≡ goodWork (now (t .entry)) at size d (now (st .entry)) s (now (m .entry)) top ⌝ }
 {
     let e = peek(t, at + StatementRow::EXPR);

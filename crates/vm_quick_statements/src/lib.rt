@@ -9,6 +9,7 @@ ghost use mathlib.Core.Path.{_≡_};
 ghost use mathlib.Core.List.{_∷_};
 ghost use Prim.Native.Nat.{suc, _+_, _*_, _≤_, _<_};
 ghost use lib.ListN.{length, replicate};
+ghost use Rattle.base_limits.specs.Limits.{wordValues, greatestWord, memoryBytes};
 ghost use Rattle.base_prelude.specs.Choice.{ifTrue};
 ghost use Rattle.base_limits.specs.declared.Width.the-variants.{Bits32};
 ghost use Rattle.vm_definitions.specs.Access.{storeFrom};
@@ -32,7 +33,7 @@ pub struct PlainRun {
 
 // `let` and `set` of a local, without a call; the head of the frame is not written.
 fn assign(t: &[u32], d: u32, size: u32, st: &mut [u32], s: u32, m: &[u8], n: u32, top: u32) -> Move
-    requires { ⌜ (n < 4294967295) × (n * statementRow + statementRow ≤ length (now t)) × (s + size ≤ length (now st)) × (length (now m) ≤ 65536) ⌝ }
+    requires { ⌜ (n < greatestWord) × (n * statementRow + statementRow ≤ length (now t)) × (s + size ≤ length (now st)) × (length (now m) ≤ memoryBytes) ⌝ }
     ensures { λ r. ⌜ taken r (now (st .exit)) (now (m .entry)) ≡ quickAssign (now (t .entry)) d size (now (st .entry)) s (now (m .entry)) n top ⌝ }
 {
     let at = n as usize * Table::STATEMENT_ROW;
@@ -70,7 +71,7 @@ fn is_aimed(t: &[u32], c: u32, g: u32, a: u32) -> bool
 
 // Where a test of kind k at row n goes with two words; a is its target.
 fn branch(n: u32, top: u32, k: u32, a: u32, x: u32, y: u32) -> Move
-    requires { ⌜ n < 4294967295 ⌝ }
+    requires { ⌜ n < greatestWord ⌝ }
     ensures { λ r. ⌜ r ≡ To (ifTrue (testHolds Bits32 k x y) (suc n) a) top ⌝ }
 {
     if vm_operands::test(k, x, y) {
@@ -96,7 +97,7 @@ fn test(
     top: u32,
     k: u32,
 ) -> Move
-    requires { ⌜ (n < 4294967295) × (n * statementRow + statementRow ≤ length (now t)) × (s + size ≤ length (now st)) × (c * statementRow ≤ length (now t)) ⌝ }
+    requires { ⌜ (n < greatestWord) × (n * statementRow + statementRow ≤ length (now t)) × (s + size ≤ length (now st)) × (c * statementRow ≤ length (now t)) ⌝ }
     ensures { λ r. ⌜ taken r (now (st .entry)) (now (m .entry)) ≡ quickTest (now (t .entry)) c g d size (now (st .entry)) s (now (m .entry)) n top k ⌝ }
 {
     let at = n as usize * Table::STATEMENT_ROW;
@@ -138,7 +139,7 @@ fn open_block(st: &mut [u32], at: usize, top: u32, lets: u32)
 
 // `block`.
 fn enter_block(t: &[u32], size: u32, st: &mut [u32], s: u32, m: &[u8], n: u32, top: u32) -> Move
-    requires { ⌜ (n < 4294967295) × (n * statementRow + statementRow ≤ length (now t)) ⌝ }
+    requires { ⌜ (n < greatestWord) × (n * statementRow + statementRow ≤ length (now t)) ⌝ }
     ensures { λ r. ⌜ taken r (now (st .exit)) (now (m .entry)) ≡ quickBlock (now (t .entry)) size (now (st .entry)) s (now (m .entry)) n top ⌝ }
 {
     let at = n as usize * Table::STATEMENT_ROW;
@@ -159,7 +160,7 @@ fn enter_block(t: &[u32], size: u32, st: &mut [u32], s: u32, m: &[u8], n: u32, t
 
 // `end block`.
 fn leave_block(t: &[u32], size: u32, st: &[u32], s: u32, m: usize, n: u32) -> Move
-    requires { ⌜ (n < 4294967295) × (n * statementRow + statementRow ≤ length (now t)) × (s + size ≤ length (now st)) ⌝ }
+    requires { ⌜ (n < greatestWord) × (n * statementRow + statementRow ≤ length (now t)) × (s + size ≤ length (now st)) ⌝ }
     ensures { λ r. ⌜ r ≡ quickEnd (now (t .entry)) size (now (st .entry)) s m n ⌝ }
 {
     let a = vm_quick_operands::peek(t, n as usize * Table::STATEMENT_ROW + StatementRow::A);
@@ -184,7 +185,7 @@ pub enum Three {
 
 // The first three operands of the row at a place, left to right.
 fn read_three(t: &[u32], at: usize, d: u32, size: u32, st: &[u32], s: u32, m: &[u8]) -> Three
-    requires { ⌜ (at + 27 ≤ length (now t)) × (s + size ≤ length (now st)) ⌝ }
+    requires { ⌜ (at + statementRow ≤ length (now t)) × (s + size ≤ length (now st)) ⌝ }
     ensures { λ r. ⌜ r ≡ threeRead (now (t .entry)) at d size (now (st .entry)) s (now (m .entry)) ⌝ }
 {
     let f = vm_quick_operands::read(t, at + StatementRow::OPERANDS, d, size, st, s, m);
@@ -217,7 +218,7 @@ fn set_byte(
     n: u32,
     top: u32,
 ) -> Move
-    requires { ⌜ (n < 4294967295) × (n * statementRow + statementRow ≤ length (now t)) × (s + size ≤ length (now st)) ⌝ }
+    requires { ⌜ (n < greatestWord) × (n * statementRow + statementRow ≤ length (now t)) × (s + size ≤ length (now st)) ⌝ }
     ensures { λ r. ⌜ taken r (now (st .entry)) (now (m .exit)) ≡ quickByte (now (t .entry)) d size (now (st .entry)) s (now (m .entry)) n top ⌝ }
 {
     let x = read_three(t, n as usize * Table::STATEMENT_ROW, d, size, st, s, m);
@@ -251,7 +252,7 @@ fn set_word(
     n: u32,
     top: u32,
 ) -> Move
-    requires { ⌜ (n < 4294967295) × (n * statementRow + statementRow ≤ length (now t)) × (s + size ≤ length (now st)) ⌝ }
+    requires { ⌜ (n < greatestWord) × (n * statementRow + statementRow ≤ length (now t)) × (s + size ≤ length (now st)) ⌝ }
     ensures { λ r. ⌜ taken r (now (st .entry)) (now (m .exit)) ≡ quickWord (now (t .entry)) d size (now (st .entry)) s (now (m .entry)) n top ⌝ }
 {
     let x = read_three(t, n as usize * Table::STATEMENT_ROW, d, size, st, s, m);
@@ -286,7 +287,7 @@ fn store_at(
     top: u32,
     a: u32,
 ) -> Move
-    requires { ⌜ (n < 4294967295) × (n * statementRow + statementRow ≤ length (now t)) × (s + size ≤ length (now st)) × (length (now m) ≤ 65536) × (a + 4 ≤ length (now m)) ⌝ }
+    requires { ⌜ (n < greatestWord) × (n * statementRow + statementRow ≤ length (now t)) × (s + size ≤ length (now st)) × (length (now m) ≤ memoryBytes) × (a + 4 ≤ length (now m)) ⌝ }
     ensures { λ r. ⌜ taken r (now (st .entry)) (now (m .exit)) ≡ storedAt (now (t .entry)) d size (now (st .entry)) s (now (m .entry)) n top a ⌝ }
 {
     let x = vm_quick_operands::work(t, n as usize * Table::STATEMENT_ROW, d, size, st, s, m, top);
@@ -304,7 +305,7 @@ fn store_at(
 
 // `set @` without a call.
 fn set_at(t: &[u32], d: u32, size: u32, st: &[u32], s: u32, m: &mut [u8], n: u32, top: u32) -> Move
-    requires { ⌜ (n < 4294967295) × (n * statementRow + statementRow ≤ length (now t)) × (s + size ≤ length (now st)) × (length (now m) ≤ 65536) ⌝ }
+    requires { ⌜ (n < greatestWord) × (n * statementRow + statementRow ≤ length (now t)) × (s + size ≤ length (now st)) × (length (now m) ≤ memoryBytes) ⌝ }
     ensures { λ r. ⌜ taken r (now (st .entry)) (now (m .exit)) ≡ quickAt (now (t .entry)) d size (now (st .entry)) s (now (m .entry)) n top ⌝ }
 {
     let at = n as usize * Table::STATEMENT_ROW;
@@ -335,7 +336,7 @@ fn take_form(
     n: u32,
     top: u32,
 ) -> Move
-    requires { ⌜ (n < c) × (c < 4294967296) × (c * statementRow ≤ length (now t)) × (s + size ≤ length (now st)) × (length (now m) ≤ 65536) ⌝ }
+    requires { ⌜ (n < c) × (c < wordValues) × (c * statementRow ≤ length (now t)) × (s + size ≤ length (now st)) × (length (now m) ≤ memoryBytes) ⌝ }
     ensures { λ r. ⌜ taken r (now (st .exit)) (now (m .exit)) ≡ quickForm (now (t .entry)) c g d size (now (st .entry)) s (now (m .entry)) n top ⌝ }
 {
     let k = vm_quick_operands::peek(t, n as usize * Table::STATEMENT_ROW);
@@ -374,7 +375,7 @@ fn take(
     n: u32,
     top: u32,
 ) -> Move
-    requires { ⌜ (c < 4294967296) × (c * statementRow ≤ length (now t)) × (s + size ≤ length (now st)) × (length (now m) ≤ 65536) ⌝ }
+    requires { ⌜ (c < wordValues) × (c * statementRow ≤ length (now t)) × (s + size ≤ length (now st)) × (length (now m) ≤ memoryBytes) ⌝ }
     ensures { λ r. ⌜ taken r (now (st .exit)) (now (m .exit)) ≡ quickStep (now (t .entry)) c g d size (now (st .entry)) s (now (m .entry)) n top ⌝ }
 {
     if c <= n {
@@ -401,7 +402,7 @@ pub fn run_plain(
     n: u32,
     top: u32,
 ) -> PlainRun
-    requires { ⌜ (c * statementRow ≤ length (now t)) × (s + size ≤ length (now st)) × (length (now m) ≤ 65536) ⌝ }
+    requires { ⌜ (c * statementRow ≤ length (now t)) × (s + size ≤ length (now st)) × (length (now m) ≤ memoryBytes) ⌝ }
     ensures { λ r. ⌜ endedWith r (now (st .exit)) (now (m .exit)) ≡ plainRunOf (now (t .entry)) c g d size s budget (now (st .entry)) (now (m .entry)) n top ⌝ }
 {
     let mut next = n;

@@ -7,6 +7,7 @@ use vm_quick_calls::Transfer;
 ghost use mathlib.Core.Path.{_≡_};
 ghost use Prim.Native.Nat.{_+_, _*_, _≤_, _<_};
 ghost use lib.ListN.{length};
+ghost use Rattle.base_limits.specs.Limits.{memoryBytes, stackWords};
 ghost use Rattle.base_limits.specs.declared.Width.the-variants.{Bits32};
 ghost use Rattle.base_limits.specs.Record.{movedTo};
 ghost use Rattle.prog_tables.specs.Statement.{rowAt};
@@ -84,7 +85,7 @@ fn end_plain(
     st: &mut [u32],
     m: &mut [u8],
 ) -> Outcome
-    requires { ⌜ (c * statementRow ≤ length (now t)) × (r .frame + size ≤ length (now st)) × (length (now st) ≤ 16384) × (length (now m) ≤ 65536) × (count < 18446744073709551615) ⌝ }
+    requires { ⌜ (c * statementRow ≤ length (now t)) × (r .frame + size ≤ length (now st)) × (length (now st) ≤ stackWords) × (length (now m) ≤ memoryBytes) × (count < 18446744073709551615) ⌝ }
     ensures { λ o. ⌜ left o (now (st .exit)) (now (m .exit)) ≡ plainRunEnd (now (t .entry)) c d g size count (world r (now (st .entry)) (now (m .entry))) ⌝ }
 {
     let y = vm_quick_calls::take_transfer(t, c, g, d, size, st, r.frame, r.used, m, r.next, r.top);
@@ -123,7 +124,7 @@ fn advance_in_frame(
     st: &mut [u32],
     m: &mut [u8],
 ) -> Outcome
-    requires { ⌜ (c * statementRow ≤ length (now t)) × (r .frame + size ≤ length (now st)) × (length (now st) ≤ 16384) × (length (now m) ≤ 65536) ⌝ }
+    requires { ⌜ (c * statementRow ≤ length (now t)) × (r .frame + size ≤ length (now st)) × (length (now st) ≤ stackWords) × (length (now m) ≤ memoryBytes) ⌝ }
     ensures { λ o. ⌜ left o (now (st .exit)) (now (m .exit)) ≡ stepsInFrame (now (t .entry)) c d size budget (world r (now (st .entry)) (now (m .entry))) ⌝ }
 {
     let g = prog_tables::func_at(t, r.next);
