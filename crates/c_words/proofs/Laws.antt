@@ -73,13 +73,13 @@ module _ (ws : List ℕ) (r : Machine) (e : recordOf ws ≡ Fit r) where
   record-long = ltb-false (length ws) 16 (ways .0)
 
   pub record-state : getD ws 0 0 ≡ stateNumber (r .state)
-  unfolding machineOf
+  unfolding machineOf ofParts
   record-state =
       sym (listed-number (getD ws 0 0) (getD ws 5 0) (getD ws 6 0) (ways .1)) ∙ ap (λ (q : Machine). stateNumber (q .state)) (ways .2)
 
 -- a record that was written is read back
 pub record-back : (r : Machine) (ws : List ℕ) → 16 ≤ length ws → recordOf (overlay (recordWords r) ws) ≡ Fit r
-unfolding recordWords
+unfolding recordWords ofParts
 record-back r (x0 ∷ x1 ∷ x2 ∷ x3 ∷ x4 ∷ x5 ∷ x6 ∷ ws) h =
     ap recordOf (sym (seven-over _ _ _ _ _ _ _ x0 x1 x2 x3 x4 x5 x6 ws))
     ∙ read-back (r .state) (r .next) (r .frame) (r .used) (r .top) ws (omega arith)

@@ -32,7 +32,7 @@ use Rattle.vm_definitions.specs.declared.Resumption.{Resumption}
 use Rattle.vm_definitions.specs.declared.Worked.{Worked}
 use Rattle.vm_definitions.specs.declared.Worked.the-variants.{Value, Stop}
 use Rattle.vm_definitions.proofs.Operators.{stopIn, next, first-here, first-later, first-one, word-good, word-bad, read-cause, all-cause, eval-cause}
-use Rattle.vm_definitions.specs.Operators.{Meeting, wordAt, byteAt, stacksTo, operatorMeets}
+use Rattle.vm_definitions.specs.Operators.{Meeting, wordAt, byteAt, stacksTo, operators, lineIn, operatorOf, operatorMeets}
 
 -- a statement's effect by its kind and expression kind, those of its parts being given
 unfoldable dispatch : ℕ → ℕ → Effect → Effect → Effect → Effect → Effect → Effect → Effect → Effect → Effect → Effect → Effect → Effect → Effect
@@ -433,7 +433,7 @@ module _ (w : Width) (f : ℕ → Row) (c : ℕ) (x : World) (sum last : ℕ) wh
               ∙ ifEq-no {a = r .kind} {b = 2} (returned w f c x (Value 0 0)) (ifEq (r .expr) 0 (returned w f c x (Value 0 0)) (returned w f c x (workedOf w f c x))) (λ q. omega (arith, q, h))
 
           bare-13 : r .expr ≡ 0 → Caused
-          unfolding Caused doneBy dispatch hasExpression isTest ifTrue ifEq ifLt metBy behindBy isCall usedBy touched firstOf effectStop returned expressionUses isOperator operatorMeets
+          unfolding Caused doneBy dispatch hasExpression isTest ifTrue ifEq ifLt metBy behindBy isCall usedBy touched firstOf effectStop returned expressionUses isOperator operatorMeets operatorOf lineIn operators
           bare-13 q =
               ap effectStop (return-effect ∙ ifEq-yes (returned w f c x (Value 0 0)) (returned w f c x (workedOf w f c x)) q)
               ∙ home 0 it-returns

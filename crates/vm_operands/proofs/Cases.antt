@@ -23,11 +23,12 @@ use Rattle.prog_tables.proofs.Each.{both-right}
 use Rattle.vm_definitions.specs.Access.{byteAddress, wordAddress, byteGood, wordGood, wordFrom, loadOf}
 use Rattle.vm_definitions.specs.Operands.{isAt, numberIn, fetchOf, readOf, onRead}
 use Rattle.vm_definitions.specs.Expressions.{evalOf, testHolds}
+use Rattle.vm_definitions.proofs.OperatorTable.{Every, operator-none}
 use Rattle.vm_definitions.specs.declared.Read.{Read}
 use Rattle.vm_definitions.specs.declared.Read.the-variants.{Got, Bad}
 use Rattle.vm_definitions.specs.declared.Worked.{Worked}
 use Rattle.vm_definitions.specs.declared.Worked.the-variants.{Value, Stop}
-use Rattle.vm_definitions.specs.Operators.{operators, lineIn, operatorOf, roundUp, reserved, answered, fetched, byteOf, applied}
+use Rattle.vm_definitions.specs.Operators.{Operator, operators, lineIn, operatorOf, roundUp, reserved, answered, fetched, byteOf, applied}
 
 -- ---- words of memory
 
@@ -228,29 +229,13 @@ module _ (m : List ℕ) (top e x y : ℕ) where
       → (e ≡ op.mul → ⊥) → (e ≡ op.not → ⊥) → (e ≡ op.or → ⊥) → (e ≡ op.rol → ⊥) → (e ≡ op.ror → ⊥)
       → (e ≡ op.shl → ⊥) → (e ≡ op.shr → ⊥) → (e ≡ op.sub → ⊥) → (e ≡ op.xor → ⊥)
       → r ≡ Value 0 top → r ≡ applied Bits32 m top e x y
-  unfolding applied operatorOf lineIn operators ifEq
+  unfolding applied operators Every
   apply-other r p33 p34 p35 p36 p37 p38 p39 p40 p41 p42 p43 p44 p45 p46 p47 p48 p49 p50 p51 q =
-      rw (
-        ne-eqb e op.add p33,
-        ne-eqb e op.and p34,
-        ne-eqb e op.asr p35,
-        ne-eqb e op.autoBytes p36,
-        ne-eqb e op.autoWords p37,
-        ne-eqb e op.bsr p38,
-        ne-eqb e op.div p39,
-        ne-eqb e op.getByte p40,
-        ne-eqb e op.getWord p41,
-        ne-eqb e op.modulo p42,
-        ne-eqb e op.mul p43,
-        ne-eqb e op.not p44,
-        ne-eqb e op.or p45,
-        ne-eqb e op.rol p46,
-        ne-eqb e op.ror p47,
-        ne-eqb e op.shl p48,
-        ne-eqb e op.shr p49,
-        ne-eqb e op.sub p50,
-        ne-eqb e op.xor p51,
-      ) q
+      q
+      ∙ ap (λ (o : Operator). o .result Bits32 m top x y)
+      (sym
+      (operator-none e
+      (p33, (p34, (p35, (p36, (p37, (p38, (p39, (p40, (p41, (p42, (p43, (p44, (p45, (p46, (p47, (p48, (p49, (p50, (p51, tt)))))))))))))))))))))
 
 pub ruleset apply-ways = (apply-add, apply-and, apply-asr, apply-auto-bytes, apply-auto-words, apply-bsr, apply-div, apply-get-byte, apply-get-word, apply-modulo, apply-mul, apply-not, apply-or, apply-rol, apply-ror, apply-shl, apply-shr, apply-sub, apply-xor, apply-other)
 

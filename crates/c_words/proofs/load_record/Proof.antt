@@ -4,10 +4,6 @@ use mathlib.Core.Path.{_≡_, refl, sym, _∙_, ap, subst}
 use borrow.Author.Needs.{needs}
 use Rattle.c_words.proofs.load_record.Statement.{statement}
 use Rattle.c_words.proofs.load_record.Tie as tie
-use Rattle.c_words.proofs.load_record.Reads as reads
-use Rattle.c_words.proofs.load_record.Lts as lts
-use Rattle.c_words.proofs.is_listed.Reads as is-listed-reads
-use Rattle.c_words.proofs.make_state.Reads as make-state-reads
 
 returns : tie.Need-returns
 returns c =
@@ -28,17 +24,20 @@ shared-slice-read-make-state-2 c = search needs
 make-state-requires : tie.Need-make-state-requires
 make-state-requires c κs = search needs
 
-shared-slice-read-t10 : tie.Need-shared-slice-read-t10
-shared-slice-read-t10 c = search needs
+shared-slice-read-of-parts : tie.Need-shared-slice-read-of-parts
+shared-slice-read-of-parts c = search needs
 
-shared-slice-read-t12 : tie.Need-shared-slice-read-t12
-shared-slice-read-t12 c = search needs
+shared-slice-read-of-parts-2 : tie.Need-shared-slice-read-of-parts-2
+shared-slice-read-of-parts-2 c = search needs
 
-shared-slice-read-t16 : tie.Need-shared-slice-read-t16
-shared-slice-read-t16 c = search needs
+shared-slice-read-of-parts-3 : tie.Need-shared-slice-read-of-parts-3
+shared-slice-read-of-parts-3 c = search needs
 
-shared-slice-read-t18 : tie.Need-shared-slice-read-t18
-shared-slice-read-t18 c = search needs
+shared-slice-read-of-parts-4 : tie.Need-shared-slice-read-of-parts-4
+shared-slice-read-of-parts-4 c = search needs
+
+of-parts-requires : tie.Need-of-parts-requires
+of-parts-requires c κs = search needs
 
 returns-2 : tie.Need-returns-2
 returns-2 c =
@@ -58,9 +57,10 @@ load-record-spec =
     shared-slice-read-make-state
     shared-slice-read-make-state-2
     make-state-requires
-    shared-slice-read-t10
-    shared-slice-read-t12
-    shared-slice-read-t16
-    shared-slice-read-t18
+    shared-slice-read-of-parts
+    shared-slice-read-of-parts-2
+    shared-slice-read-of-parts-3
+    shared-slice-read-of-parts-4
+    of-parts-requires
     returns-2
     returns-3)
