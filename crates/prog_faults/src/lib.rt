@@ -12,7 +12,7 @@ ghost use lib.Dec.{eqb};
 ghost use Rattle.prog_tables.specs.Tests.{oneOf, some};
 ghost use Rattle.prog_tables.specs.Statement.{usedBy, operandAt, rowAt};
 ghost use Rattle.prog_tables.specs.Nesting.{isListed, hasTarget};
-ghost use Rattle.prog_tables.specs.Faults.{expressionListed, inFunction, sizeAt, operandFault, addressListed, kindFault, targetFault, calleeFault, sizeFault, ownWord, hasWord, wordFault, operandsFault, addressFault, rowFault};
+ghost use Rattle.prog_tables.specs.Faults.{expressionListed, isCallRow, expressionFault, inFunction, sizeAt, operandFault, addressListed, kindFault, targetFault, calleeFault, sizeFault, ownWord, hasWord, wordFault, operandsFault, addressFault, rowFault};
 ghost use Rattle.lang_kinds.specs.Kinds as kind;
 ghost use Rattle.prog_tables.specs.StatementRow as row;
 ghost use Rattle.prog_tables.specs.Layout.{statementRow, operandSlots};
@@ -40,7 +40,17 @@ pub fn has_target(k: u32) -> bool
     k == Kind::ELSE_IF
 }
 
-// Whether a row of this kind may have an expression of kind e.
+// `call` and `tail-call`.
+fn is_call_row(k: u32) -> bool
+    ensures { λ r. ⌜ r ≡ isCallRow k ⌝ }
+{
+    if k == Kind::CALL {
+        return true;
+    }
+    k == Kind::TAIL_CALL
+}
+
+// Whether a row of this kind with an expression may have one of kind e.
 pub fn is_expression(k: u32, e: u32) -> bool
     ensures { λ r. ⌜ r ≡ expressionListed k e ⌝ }
 {
@@ -54,6 +64,25 @@ pub fn is_expression(k: u32, e: u32) -> bool
         return true;
     }
     prog_tables::is_operator(e)
+}
+
+// An unlisted expression kind of a row of this kind.
+fn is_unlisted(k: u32, e: u32) -> bool
+    ensures { λ r. ⌜ r ≡ expressionFault k e ⌝ }
+{
+    if is_call_row(k) {
+        if e == ExpressionKind::CALL {
+            return false;
+        }
+        return true;
+    }
+    if prog_tables::has_expression(k) {
+        if is_expression(k, e) {
+            return false;
+        }
+        return true;
+    }
+    false
 }
 
 // Whether a row is in a function.
@@ -113,14 +142,8 @@ fn kind_fault(t: &[u32], n: u32) -> bool
 {
     let k = prog_tables::kind_at(t, n);
     if is_listed(k) {
-        if prog_tables::has_expression(k) {
-            let e = prog_tables::expression_at(t, n);
-            if is_expression(k, e) {
-                return false;
-            }
-            return true;
-        }
-        return false;
+        let e = prog_tables::expression_at(t, n);
+        return is_unlisted(k, e);
     }
     true
 }
@@ -311,7 +334,7 @@ fn test_fault(t: &[u32], c: u32, d: u32, n: u32) -> bool
     operands_fault(t, c, d, n)
 }
 
-// A broken call: its callee, its arguments.
+// A broken call in any form: its callee, its arguments.
 fn call_fault(t: &[u32], c: u32, d: u32, n: u32) -> bool
     ensures { λ r. ⌜ r ≡ some (calleeFault (rowAt (now (t .entry))) c n ∷ operandsFault (rowAt (now (t .entry))) c d n ∷ []) ⌝ }
 {
@@ -321,8 +344,8 @@ fn call_fault(t: &[u32], c: u32, d: u32, n: u32) -> bool
     operands_fault(t, c, d, n)
 }
 
-// A broken `return`: its expression.
-fn return_fault(t: &[u32], c: u32, d: u32, n: u32) -> bool
+// A broken `call`, `tail-call` or `return`: its expression.
+fn expression_fault(t: &[u32], c: u32, d: u32, n: u32) -> bool
     ensures { λ r. ⌜ r ≡ some (kindFault (rowAt (now (t .entry))) n ∷ calleeFault (rowAt (now (t .entry))) c n ∷ operandsFault (rowAt (now (t .entry))) c d n ∷ []) ⌝ }
 {
     if kind_fault(t, n) {
@@ -382,9 +405,9 @@ pub fn row_fault(t: &[u32], c: u32, d: u32, n: u32) -> bool
         Kind::SET_BYTE => operands_fault(t, c, d, n),
         Kind::SET_WORD => operands_fault(t, c, d, n),
         Kind::GOTO => target_fault(t, c, n),
-        Kind::CALL => call_fault(t, c, d, n),
-        Kind::TAIL_CALL => call_fault(t, c, d, n),
-        Kind::RETURN => return_fault(t, c, d, n),
+        Kind::CALL => expression_fault(t, c, d, n),
+        Kind::TAIL_CALL => expression_fault(t, c, d, n),
+        Kind::RETURN => expression_fault(t, c, d, n),
         Kind::ELSE => target_fault(t, c, n),
         Kind::ELSE_IF => target_fault(t, c, n),
         Kind::END_IF => false,

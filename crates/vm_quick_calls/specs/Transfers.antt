@@ -45,8 +45,10 @@ calleeSize f c p k = ifEq (f p .b) k (sizeOf f c p) 0
 -- a bare call; `let` and `set` of a local with a call, whose word is in the frame
 unfoldable pub callsLocal : (ℕ → Row) → ℕ → ℕ → Bool
 callsLocal f size n =
-    ifEq (f n .kind) kind.call true
-    (ifEq (f n .expr) callExpression (ifEq (f n .kind) kind.letLocal (ltb (f n .a) size) (ifEq (f n .kind) kind.set (ltb (f n .a) size) false)) false)
+    ifEq (f n .expr) callExpression
+    (ifEq (f n .kind) kind.call true
+    (ifEq (f n .kind) kind.letLocal (ltb (f n .a) size) (ifEq (f n .kind) kind.set (ltb (f n .a) size) false)))
+    false
 
 -- one of these, or `return call`
 unfoldable pub callsAny : (ℕ → Row) → ℕ → ℕ → Bool
@@ -90,8 +92,10 @@ callTransfer t c d size st s m n at call below top =
 -- `tail-call` at row n: the new frame has the head of the frame in use, and its auto top of entry is restored
 unfoldable pub tailTransfer : List ℕ → ℕ → ℕ → ℕ → List ℕ → ℕ → List ℕ → ℕ → Transferred
 tailTransfer t c d size st s m n =
-    ifLt (length m) (topAtEntry st s) (transferred Stays st)
-    (callTransfer t c d size st s m n s (returnsTo st s) (callerFrame st s) (topAtEntry st s))
+    ifEq (rowAt t n .expr) callExpression
+    (ifLt (length m) (topAtEntry st s) (transferred Stays st)
+    (callTransfer t c d size st s m n s (returnsTo st s) (callerFrame st s) (topAtEntry st s)))
+    (transferred Stays st)
 
 -- ---- returns
 

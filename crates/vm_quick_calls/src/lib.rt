@@ -76,14 +76,12 @@ fn callee_size(t: &[u32], c: u32, p: u32, k: u32) -> u32
 fn calls_local(t: &[u32], size: u32, n: u32) -> bool
     ensures { λ r. ⌜ r ≡ callsLocal (rowAt (now (t .entry))) size n ⌝ }
 {
-    let k = prog_tables::kind_at(t, n);
-    if k == Kind::CALL {
-        return true;
-    }
     let e = prog_tables::expression_at(t, n);
     if e == ExpressionKind::CALL {
+        let k = prog_tables::kind_at(t, n);
         let a = prog_tables::a_at(t, n);
         return match k {
+            Kind::CALL => true,
             Kind::LET => a < size,
             Kind::SET => a < size,
             _ => false,
@@ -268,6 +266,10 @@ fn tail_call(
     requires { ⌜ (n < c) × (c * statementRow ≤ length (now t)) × (s + size ≤ length (now st)) × (length (now st) ≤ stackWords) ⌝ }
     ensures { λ r. ⌜ transferred r (now (st .exit)) ≡ tailTransfer (now (t .entry)) c d size (now (st .entry)) s (now (m .entry)) n ⌝ }
 {
+    let e = prog_tables::expression_at(t, n);
+    if e != ExpressionKind::CALL {
+        return Transfer::Stays;
+    }
     let i = s as usize;
     let call = prog_tables::word_at(st, i);
     let below = prog_tables::word_at(st, i + 1);
