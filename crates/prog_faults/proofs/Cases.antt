@@ -63,6 +63,14 @@ pub ruleset sizes = (within-kind, within-not, size-in, size-out)
 
 -- ---- causes
 
+pub row-call : (k : ℕ) → k ≡ 11 → true ≡ isCallRow k
+row-call k h = rw h
+
+pub row-tail : (k : ℕ) → (k ≡ 11 → ⊥) → eqb k 12 ≡ isCallRow k
+row-tail k h = rw (ne-eqb k 11 h)
+
+pub ruleset call-rows = (row-call, row-tail)
+
 module _ (k e : ℕ) (b : Bool) (d : b ≡ isCallRow k) where
   pub call-good : b ≡ true → e ≡ 2 → false ≡ expressionFault k e
   call-good h q = rw (← d, h, call-bare k (sym d ∙ h), eq-eqb e 2 q)

@@ -16,7 +16,7 @@ use Rattle.prog_tables.specs.Tests.{both, oneOf, some, someOf}
 use Rattle.prog_tables.specs.Statement.{Row, hasExpression, isTest, isCall, usedBy, slots, rowFrom, rowAt}
 use Rattle.prog_tables.specs.Nesting.{isListed, hasTarget}
 use Rattle.prog_tables.specs.Faults.{isCallRow, operandFault, kindFault, targetFault, calleeFault, sizeFault, hasWord, wordFault, operandsFault, addressFault, rowFault, sizeAt}
-use Rattle.prog_tables.proofs.Each.{one-false}
+use Rattle.prog_tables.proofs.Each.{one-false, one-no, one-rest}
 use Rattle.prog_tables.proofs.Ranges.{test-least, test-most}
 
 test-bare : (k : ℕ) → 14 ≤ k → hasExpression k ≡ false

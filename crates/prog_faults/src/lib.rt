@@ -3,19 +3,17 @@ use base_limits::Machine;
 use lang_kinds::Kind;
 use prog_tables::ExpressionKind;
 use prog_tables::Operand;
-use prog_tables::StatementRow;
-use prog_tables::Table;
 ghost use mathlib.Core.Path.{_≡_};
 ghost use mathlib.Core.List.{[], _∷_};
 ghost use Prim.Native.Nat.{_+_, _*_, _≤_, _<_, min};
 ghost use lib.Dec.{eqb};
 ghost use Rattle.prog_tables.specs.Tests.{oneOf, some};
-ghost use Rattle.prog_tables.specs.Statement.{usedBy, operandAt, rowAt};
+ghost use Rattle.prog_tables.specs.Statement.{usedBy, rowAt};
 ghost use Rattle.prog_tables.specs.Nesting.{isListed, hasTarget};
 ghost use Rattle.prog_tables.specs.Faults.{expressionListed, isCallRow, expressionFault, inFunction, sizeAt, operandFault, addressListed, kindFault, targetFault, calleeFault, sizeFault, ownWord, hasWord, wordFault, operandsFault, addressFault, rowFault};
 ghost use Rattle.lang_kinds.specs.Kinds as kind;
-ghost use Rattle.prog_tables.specs.StatementRow as row;
-ghost use Rattle.prog_tables.specs.Layout.{statementRow, operandSlots};
+ghost use Rattle.prog_tables.specs.Layout.{operandSlots};
+ghost use Rattle.prog_tables.specs.Places.{slotAt};
 
 // Whether a kind is listed.
 pub fn is_listed(k: u32) -> bool
@@ -284,13 +282,9 @@ fn operands_at(t: &[u32], n: u32) -> u32
 // Whether the operand in slot i of a row is broken.
 fn slot_fault(t: &[u32], size: u32, d: u32, n: u32, i: u32) -> bool
     requires { ⌜ i < operandSlots ⌝ }
-    ensures { λ r. ⌜ r ≡ operandFault size d (operandAt (now (t .entry)) (n * statementRow + row.operands + i * 2)) ⌝ }
+    ensures { λ r. ⌜ r ≡ operandFault size d (slotAt (now (t .entry)) n i) ⌝ }
 {
-    let o = prog_tables::operand_at(
-        t,
-        n as usize * Table::STATEMENT_ROW + StatementRow::OPERANDS + i as usize * 2,
-    );
-    operand_fault(size, d, o)
+    operand_fault(size, d, prog_tables::slot_at(t, n, i))
 }
 
 // A broken operand.

@@ -1,9 +1,6 @@
 // Calls and returns: arguments, new frames, the way a value is handed back; and the answers that statements give.
 use base_limits::Machine;
-use base_limits::State;
 use lang_kinds::Kind;
-use prog_tables::Operand;
-use prog_tables::StatementRow;
 use prog_tables::Table;
 use vm_definitions::Broken;
 use vm_definitions::Outcome;
@@ -12,19 +9,19 @@ use vm_definitions::Resumption;
 use vm_definitions::Worked;
 ghost use mathlib.Core.Path.{_≡_};
 ghost use mathlib.Core.Bool.{true};
-ghost use Prim.Native.Nat.{suc, _+_, _*_, _≤_, _<_, min};
+ghost use Prim.Native.Nat.{suc, _+_, _≤_, _<_, min};
 ghost use lib.ListN.{length, take};
 ghost use Rattle.base_limits.specs.Limits.{greatestWord, memoryBytes, stackWords};
 ghost use Rattle.base_limits.specs.declared.Width.the-variants.{Bits32};
 ghost use Rattle.base_limits.specs.Record.{goingOn, movedTo, ended};
-ghost use Rattle.prog_tables.specs.Statement.{rowAt, slots, operandAt};
+ghost use Rattle.prog_tables.specs.Statement.{rowAt, slots};
 ghost use Rattle.vm_definitions.specs.Operands.{readAll};
 ghost use Rattle.vm_definitions.specs.Access.{storeFrom};
 ghost use Rattle.vm_definitions.specs.Frames.{returnsTo, callerFrame, topAtEntry, frameWords, leavesGood};
 ghost use Rattle.vm_definitions.specs.Step.{workedOf};
 ghost use Rattle.vm_definitions.specs.Lent.{world, left};
-ghost use Rattle.prog_tables.specs.StatementRow as row;
-ghost use Rattle.prog_tables.specs.Layout.{statementRow, operandSlots};
+ghost use Rattle.prog_tables.specs.Layout.{operandSlots};
+ghost use Rattle.prog_tables.specs.Places.{placeOf};
 ghost use Rattle.vm_calls.specs.Outcomes.{oneStep, halted, after, calling, callingWith, atCalling, tailCalling, tailCallingWith, handing, handingTo, slotRead, wordsIn, Expressed, Calls};
 
 // A statement that took effect.
@@ -63,17 +60,6 @@ pub fn stop(r: Machine, k: u32) -> Outcome
     }
 }
 
-// Operand i of row n.
-pub fn slot_at(t: &[u32], n: u32, i: u32) -> Operand
-    requires { ⌜ i < operandSlots ⌝ }
-    ensures { λ r. ⌜ r ≡ operandAt (now (t .entry)) (n * statementRow + row.operands + i * 2) ⌝ }
-{
-    prog_tables::operand_at(
-        t,
-        n as usize * Table::STATEMENT_ROW + StatementRow::OPERANDS + i as usize * 2,
-    )
-}
-
 // The value of the row's expression, which is no call.
 pub fn work(t: &[u32], c: u32, r: Machine, st: &[u32], m: &[u8]) -> Worked
     requires { ⌜ (Expressed (rowAt (now t) (r .next))) × (length (now m) ≤ memoryBytes) ⌝ }
@@ -83,7 +69,7 @@ pub fn work(t: &[u32], c: u32, r: Machine, st: &[u32], m: &[u8]) -> Worked
     let s = r.frame;
     let top = r.top;
     let e = prog_tables::expression_at(t, n);
-    vm_operands::eval(e, slot_at(t, n, 0), slot_at(t, n, 1), st, s, m, top)
+    vm_operands::eval(e, prog_tables::slot_at(t, n, 0), prog_tables::slot_at(t, n, 1), st, s, m, top)
 }
 
 // ---- calls
@@ -99,13 +85,13 @@ fn read_slot(t: &[u32], n: u32, i: u32, st: &[u32], s: u32, m: &[u8]) -> Read
     requires { ⌜ i < operandSlots ⌝ }
     ensures { λ x. ⌜ x ≡ slotRead (now (t .entry)) n (now (st .entry)) s (now (m .entry)) i ⌝ }
 {
-    vm_operands::read_operand(st, s, m, slot_at(t, n, i))
+    vm_operands::read_operand(st, s, m, prog_tables::slot_at(t, n, i))
 }
 
 // The first k arguments of row n, left to right.
 fn read_arguments(t: &[u32], n: u32, k: u32, st: &[u32], s: u32, m: &[u8]) -> Arguments
     requires { ⌜ k ≤ operandSlots ⌝ }
-    ensures { λ a. ⌜ wordsIn (a .good) (a .words) k ≡ readAll Bits32 (now (st .entry)) s (now (m .entry)) (take k (slots (now (t .entry)) (n * statementRow))) ⌝ }
+    ensures { λ a. ⌜ wordsIn (a .good) (a .words) k ≡ readAll Bits32 (now (st .entry)) s (now (m .entry)) (take k (slots (now (t .entry)) (placeOf n))) ⌝ }
 {
     let mut words = [0u32; Table::OPERAND_SLOTS];
     let mut i: u32 = 0;

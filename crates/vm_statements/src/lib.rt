@@ -21,7 +21,7 @@ ghost use Rattle.vm_definitions.specs.Operands.{numberIn, readAll};
 ghost use Rattle.vm_definitions.specs.Expressions.{testHolds};
 ghost use Rattle.vm_definitions.specs.Step.{testOf, setAtOf, effectOf};
 ghost use Rattle.vm_definitions.specs.Lent.{left};
-ghost use Rattle.prog_tables.specs.Layout.{statementRow};
+ghost use Rattle.prog_tables.specs.Places.{placeOf};
 ghost use Rattle.vm_calls.specs.Outcomes.{oneStep, after, assigning, settingByte, settingWord, Expressed};
 ghost use Rattle.vm_statements.specs.Three.{threeWords};
 ghost use Rattle.vm_statements.specs.Ready.{Ready, settingLocal, assigningAt, returning};
@@ -74,11 +74,11 @@ fn run_test(t: &[u32], c: u32, r: Machine, k: u32, st: &[u32], m: &[u8]) -> Outc
 {
     let n = r.next;
     let s = r.frame;
-    let f = vm_operands::read_operand(st, s, m, vm_calls::slot_at(t, n, 0));
+    let f = vm_operands::read_operand(st, s, m, prog_tables::slot_at(t, n, 0));
     let Read::Got(x) = f else {
         return vm_calls::stop(r, 32);
     };
-    let g = vm_operands::read_operand(st, s, m, vm_calls::slot_at(t, n, 1));
+    let g = vm_operands::read_operand(st, s, m, prog_tables::slot_at(t, n, 1));
     let Read::Got(y) = g else {
         return vm_calls::stop(r, 32);
     };
@@ -167,17 +167,17 @@ pub enum Three {
 
 // The three operands of row n, left to right.
 fn read_three(t: &[u32], n: u32, st: &[u32], s: u32, m: &[u8]) -> Three
-    ensures { λ x. ⌜ threeWords x ≡ readAll Bits32 (now (st .entry)) s (now (m .entry)) (take 3 (slots (now (t .entry)) (n * statementRow))) ⌝ }
+    ensures { λ x. ⌜ threeWords x ≡ readAll Bits32 (now (st .entry)) s (now (m .entry)) (take 3 (slots (now (t .entry)) (placeOf n))) ⌝ }
 {
-    let f = vm_operands::read_operand(st, s, m, vm_calls::slot_at(t, n, 0));
+    let f = vm_operands::read_operand(st, s, m, prog_tables::slot_at(t, n, 0));
     let Read::Got(base) = f else {
         return Three::Unread;
     };
-    let g = vm_operands::read_operand(st, s, m, vm_calls::slot_at(t, n, 1));
+    let g = vm_operands::read_operand(st, s, m, prog_tables::slot_at(t, n, 1));
     let Read::Got(offset) = g else {
         return Three::Unread;
     };
-    let h = vm_operands::read_operand(st, s, m, vm_calls::slot_at(t, n, 2));
+    let h = vm_operands::read_operand(st, s, m, prog_tables::slot_at(t, n, 2));
     let Read::Got(value) = h else {
         return Three::Unread;
     };
