@@ -3,7 +3,6 @@ use base_limits::Machine;
 use lang_kinds::Kind;
 use prog_tables::ExpressionKind;
 use prog_tables::OperandKind;
-use prog_tables::StatementRow;
 use prog_tables::Table;
 use vm_definitions::Read;
 use vm_definitions::Worked;
@@ -15,6 +14,7 @@ ghost use Rattle.prog_tables.specs.Statement.{operandAt, rowAt, slots};
 ghost use Rattle.prog_tables.specs.Faults.{operandFault};
 ghost use Rattle.vm_calls.specs.Outcomes.{wordsIn};
 ghost use Rattle.prog_tables.specs.Layout.{statementRow, operandSlots};
+ghost use Rattle.prog_tables.specs.Places.{placeOf, slotAt};
 ghost use Rattle.vm_quick_calls.specs.Transfers.{transferred, goodFrom, calleeSize, callsLocal, callsAny, callGood, goodAll, pushed, entered, callTransfer, tailTransfer, resultOf, resumed, handTo, handTransfer, returnTransfer, transferOf};
 
 // What became of a call or a return: the run goes on in another frame, with its words and an auto top; or nothing happened.
@@ -33,8 +33,8 @@ fn is_bad(t: &[u32], i: usize, d: u32, size: u32) -> bool
     requires { ⌜ i + 1 < length (now t) ⌝ }
     ensures { λ r. ⌜ r ≡ operandFault size d (operandAt (now (t .entry)) i) ⌝ }
 {
-    let k = vm_quick_operands::peek(t, i);
-    let v = vm_quick_operands::peek(t, i + 1);
+    let k = prog_tables::word_in(t, i);
+    let v = prog_tables::word_in(t, i + 1);
     match k {
         OperandKind::CONSTANT => false,
         OperandKind::LOCAL => size <= v,
@@ -46,14 +46,22 @@ fn is_bad(t: &[u32], i: usize, d: u32, size: u32) -> bool
     }
 }
 
-// Whether the first k operands of the row at a place are good.
-fn are_good(t: &[u32], at: usize, d: u32, size: u32, k: u32) -> bool
-    requires { ⌜ (at + statementRow ≤ length (now t)) × (k ≤ operandSlots) ⌝ }
-    ensures { λ r. ⌜ r ≡ goodFrom (now (t .entry)) at size d k 0 ⌝ }
+// Whether operand i of row n is broken.
+fn is_slot_bad(t: &[u32], n: u32, i: u32, d: u32, size: u32) -> bool
+    requires { ⌜ (placeOf n + statementRow ≤ length (now t)) × (i < operandSlots) ⌝ }
+    ensures { λ r. ⌜ r ≡ operandFault size d (slotAt (now (t .entry)) n i) ⌝ }
+{
+    is_bad(t, prog_tables::slot_place(n, i), d, size)
+}
+
+// Whether the first k operands of row n are good.
+fn are_good(t: &[u32], n: u32, d: u32, size: u32, k: u32) -> bool
+    requires { ⌜ (placeOf n + statementRow ≤ length (now t)) × (k ≤ operandSlots) ⌝ }
+    ensures { λ r. ⌜ r ≡ goodFrom (now (t .entry)) (placeOf n) size d k 0 ⌝ }
 {
     let mut i: u32 = 0;
     while i < k {
-        if is_bad(t, at + StatementRow::OPERANDS + i as usize * 2, d, size) {
+        if is_slot_bad(t, n, i, d, size) {
             return false;
         }
         i += 1;
@@ -114,15 +122,15 @@ fn is_call_good(t: &[u32], c: u32, d: u32, size: u32, p: u32) -> bool
         return false;
     }
     if calls_local(t, size, p) {
-        return are_good(t, p as usize * Table::STATEMENT_ROW, d, size, k);
+        return are_good(t, p, d, size, k);
     }
     false
 }
 
-// The first k arguments of the row at a place, left to right, into words; whether all are good and could be read.
+// The first k arguments of row n, left to right, into words; whether all are good and could be read.
 fn read_arguments(
     t: &[u32],
-    at: usize,
+    n: u32,
     k: u32,
     d: u32,
     size: u32,
@@ -131,15 +139,16 @@ fn read_arguments(
     m: &[u8],
     words: &mut [u32],
 ) -> bool
-    requires { ⌜ (at + statementRow ≤ length (now t)) × (k ≤ operandSlots) × (s + size ≤ length (now st)) ⌝ }
-    requires { ⌜ length (now words) ≡ 8 ⌝ }
-    ensures { λ r. ⌜ wordsIn r (now (words .exit)) k ≡ goodAll size d (now (st .entry)) s (now (m .entry)) (take k (slots (now (t .entry)) at)) ⌝ }
+    requires { ⌜ (placeOf n + statementRow ≤ length (now t)) × (k ≤ operandSlots) × (s + size ≤ length (now st)) ⌝ }
+    requires { ⌜ length (now words) ≡ operandSlots ⌝ }
+    ensures { λ r. ⌜ wordsIn r (now (words .exit)) k ≡ goodAll size d (now (st .entry)) s (now (m .entry)) (take k (slots (now (t .entry)) (placeOf n))) ⌝ }
 {
     let mut i: u32 = 0;
     while i < k {
-        let x = vm_quick_operands::read(
+        let x = vm_quick_operands::read_slot(
             t,
-            at + StatementRow::OPERANDS + i as usize * 2,
+            n,
+            i,
             d,
             size,
             st,
@@ -195,7 +204,7 @@ fn enter(
     k: u32,
     z: u32,
 ) -> Transfer
-    requires { ⌜ (n * statementRow + statementRow ≤ length (now t)) × (k ≤ operandSlots) × (s + size ≤ length (now st)) × (length (now st) ≤ stackWords) × (p < greatestWord) ⌝ }
+    requires { ⌜ (placeOf n + statementRow ≤ length (now t)) × (k ≤ operandSlots) × (s + size ≤ length (now st)) × (length (now st) ≤ stackWords) × (p < greatestWord) ⌝ }
     ensures { λ r. ⌜ transferred r (now (st .exit)) ≡ entered (now (t .entry)) d size (now (st .entry)) s (now (m .entry)) n at call below top p k z ⌝ }
 {
     if st.len() < at as usize + z as usize {
@@ -204,7 +213,7 @@ fn enter(
     let mut words = [0u32; Table::OPERAND_SLOTS];
     if read_arguments(
         t,
-        n as usize * Table::STATEMENT_ROW,
+        n,
         k,
         d,
         size,
@@ -284,7 +293,7 @@ fn tail_call(
 
 // The value that row n returns.
 fn result(t: &[u32], d: u32, size: u32, st: &[u32], s: u32, m: &[u8], n: u32, top: u32) -> Worked
-    requires { ⌜ (n * statementRow + statementRow ≤ length (now t)) × (s + size ≤ length (now st)) × (length (now m) ≤ memoryBytes) ⌝ }
+    requires { ⌜ (placeOf n + statementRow ≤ length (now t)) × (s + size ≤ length (now st)) × (length (now m) ≤ memoryBytes) ⌝ }
     ensures { λ r. ⌜ r ≡ resultOf (now (t .entry)) d size (now (st .entry)) s (now (m .entry)) n top ⌝ }
 {
     let k = prog_tables::kind_at(t, n);
@@ -298,7 +307,7 @@ fn result(t: &[u32], d: u32, size: u32, st: &[u32], s: u32, m: &[u8], n: u32, to
         }
         return vm_quick_operands::work(
             t,
-            n as usize * Table::STATEMENT_ROW,
+            n,
             d,
             size,
             st,

@@ -7,8 +7,8 @@ use lib.ListN.{getD}
 use Rattle.base_prelude.specs.Choice.{ifLt, ifEq, ifTrue}
 use Rattle.base_limits.specs.declared.Width.the-variants.{Bits32}
 use Rattle.lang_kinds.specs.Kinds as kind
-use Rattle.prog_tables.specs.StatementRow as row
 use Rattle.prog_tables.specs.Layout.{plain, frameHead}
+use Rattle.prog_tables.specs.Places.{exprFrom, firstPlace, secondPlace}
 use Rattle.prog_tables.specs.Statement.{Row, expressionUses, operandAt}
 use Rattle.prog_tables.specs.Faults.{operandFault}
 use Rattle.prog_tables.specs.declared.Operand.{Operand}
@@ -32,19 +32,19 @@ readEach rd (o ∷ os) = onRead (rd o) bad (λ v. withWord v (readEach rd os))
 module _ (t : List ℕ) (at size d : ℕ) (st : List ℕ) (s : ℕ) (m : List ℕ) (top : ℕ) where
   unfoldable pub oneRead : ℕ → Worked
   oneRead e =
-      onRead (goodRead size d st s m (operandAt t (at + row.operands))) (Stop 32)
+      onRead (goodRead size d st s m (operandAt t (firstPlace at))) (Stop 32)
       (λ x. ifEq e plain (Value x top) (applied Bits32 m top e x 0))
 
   unfoldable pub twoRead : ℕ → Worked
   twoRead e =
-      onRead (goodRead size d st s m (operandAt t (at + row.operands))) (Stop 32)
-      (λ x. onRead (goodRead size d st s m (operandAt t (at + row.second))) (Stop 32) (applied Bits32 m top e x))
+      onRead (goodRead size d st s m (operandAt t (firstPlace at))) (Stop 32)
+      (λ x. onRead (goodRead size d st s m (operandAt t (secondPlace at))) (Stop 32) (applied Bits32 m top e x))
 
   -- by the number of its operands; a call has none here
   unfoldable pub goodWork : Worked
   goodWork =
-      ifEq (expressionUses (getD t (at + row.expr) 0) 0) 1 (oneRead (getD t (at + row.expr) 0))
-      (ifEq (expressionUses (getD t (at + row.expr) 0) 0) 2 (twoRead (getD t (at + row.expr) 0)) (Stop 0))
+      ifEq (expressionUses (exprFrom t at) 0) 1 (oneRead (exprFrom t at))
+      (ifEq (expressionUses (exprFrom t at) 0) 2 (twoRead (exprFrom t at)) (Stop 0))
 
 -- the frame size of the good `function` row g of c rows; 0 where it is none
 unfoldable pub sizeOf : (ℕ → Row) → ℕ → ℕ → ℕ
