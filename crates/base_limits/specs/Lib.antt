@@ -1,3 +1,3 @@
 pub mod Limits
 pub mod Width
-pub mod Fresh
+pub mod Record

@@ -1,7 +1,7 @@
 -- The limits of 01, "Limits", each under one name; and the sizes of the tables that follow from them.
 -- Assumes nothing.
 use mathlib.Core.Path.{_≡_, refl}
-use Prim.Native.Nat.{ℕ, _*_}
+use Prim.Native.Nat.{ℕ, _+_, _*_, _^_}
 use Rattle.base_limits.specs.declared.Limits.{Limits}
 
 -- "A word has 32 bits"
@@ -52,6 +52,19 @@ memoryBytes = 65536
 abbrev pub stackWords : ℕ
 stackWords = 16384
 
+-- how many numbers a word of 32 bits holds, and the greatest of them; words of tables have 32 bits at both widths
+abbrev pub wordValues : ℕ
+wordValues = 4294967296
+
+abbrev pub greatestWord : ℕ
+greatestWord = 4294967295
+
+pub word-values : wordValues ≡ 2 ^ wordBits
+word-values = refl
+
+pub greatest-word : greatestWord + 1 ≡ wordValues
+greatest-word = refl
+
 -- words of one row of the token table
 abbrev pub tokenRow : ℕ
 tokenRow = 8
@@ -81,4 +94,5 @@ limitsOf =
       «stack_words» = stackWords;
       «token_row» = tokenRow;
       «token_words» = tokenWords;
+      mark = greatestWord;
     }

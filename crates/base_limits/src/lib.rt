@@ -2,7 +2,8 @@
 ghost use mathlib.Core.Path.{_≡_};
 ghost use Rattle.base_limits.specs.Limits.{limitsOf};
 ghost use Rattle.base_limits.specs.Width.{bitsOf, bytesOf, dataLimit};
-ghost use Rattle.base_limits.specs.Fresh.{freshOf};
+ghost use Rattle.base_limits.specs.Record.{freshOf, goingOn, movedTo, ended, stopped, withState, ofParts};
+ghost use Rattle.base_limits.specs.declared.Width.the-variants.{Bits32};
 
 // The width of a word.
 pub enum Width {
@@ -55,6 +56,9 @@ impl Machine {
 
     pub const TOKEN_WORDS: usize = 32768;
 
+    // No statement, no frame.
+    pub const MARK: u32 = 4294967295;
+
     // The record at a start: the next statement, the size of the first frame, the auto top.
     pub fn fresh(next: u32, size: u32, top: u32) -> Machine
         ensures { λ r. ⌜ r ≡ freshOf next size top ⌝ }
@@ -64,6 +68,89 @@ impl Machine {
             next: next,
             frame: 0,
             used: size,
+            top: top,
+        }
+    }
+
+    // Going on at statement n with an auto top.
+    pub fn going_on(r: Machine, n: u32, top: u32) -> Machine
+        ensures { λ q. ⌜ q ≡ goingOn r n top ⌝ }
+    {
+        let state = r.state;
+        Machine {
+            state: state,
+            next: n,
+            frame: r.frame,
+            used: r.used,
+            top: top,
+        }
+    }
+
+    // In another frame.
+    pub fn moved(r: Machine, n: u32, frame: u32, used: u32, top: u32) -> Machine
+        ensures { λ q. ⌜ q ≡ movedTo r n frame used top ⌝ }
+    {
+        let state = r.state;
+        Machine {
+            state: state,
+            next: n,
+            frame: frame,
+            used: used,
+            top: top,
+        }
+    }
+
+    // Finished with a word.
+    pub fn ended(v: u32, top: u32) -> Machine
+        ensures { λ q. ⌜ q ≡ ended Bits32 v top ⌝ }
+    {
+        Machine {
+            state: State::Finished(v),
+            next: Machine::MARK,
+            frame: Machine::MARK,
+            used: 0,
+            top: top,
+        }
+    }
+
+    // Stopped at its statement.
+    pub fn stopped(r: Machine, k: u32) -> Machine
+        ensures { λ q. ⌜ q ≡ stopped r k ⌝ }
+    {
+        Machine {
+            state: State::Stopped {
+                number: k,
+                statement: r.next,
+            },
+            next: r.next,
+            frame: r.frame,
+            used: r.used,
+            top: r.top,
+        }
+    }
+
+    // In another state.
+    pub fn with_state(s: State, r: Machine) -> Machine
+        ensures { λ q. ⌜ q ≡ withState s r ⌝ }
+    {
+        Machine {
+            state: s,
+            next: r.next,
+            frame: r.frame,
+            used: r.used,
+            top: r.top,
+        }
+    }
+
+    // Read back from its parts.
+    pub fn of_parts(s: State, next: u32, frame: u32, used: u32, top: u32) -> Machine
+        ensures { λ q. ⌜ q ≡ ofParts s next frame used top ⌝ }
+    {
+        Machine {
+            state: s,
+            next: next,
+            frame: frame,
+            used: used,
             top: top,
         }
     }
@@ -85,6 +172,7 @@ pub struct Limits {
     pub stack_words: usize,
     pub token_row: usize,
     pub token_words: usize,
+    pub mark: u32,
 }
 
 // The constants of the type are the numbers of specs/Limits.
@@ -106,6 +194,7 @@ pub fn all_limits() -> Limits
         stack_words: Machine::STACK_WORDS,
         token_row: Machine::TOKEN_ROW,
         token_words: Machine::TOKEN_WORDS,
+        mark: Machine::MARK,
     }
 }
 

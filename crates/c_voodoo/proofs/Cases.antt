@@ -11,7 +11,7 @@ use Rattle.check_source.specs.declared.Checked.{Checked}
 use Rattle.check_source.specs.declared.Checked.the-variants.{Accepted, Refused}
 use Rattle.base_limits.specs.declared.Width.the-variants.{Bits32}
 use Rattle.base_limits.specs.declared.Machine.{Machine}
-use Rattle.base_limits.specs.Fresh.{freshOf}
+use Rattle.base_limits.specs.Record.{freshOf}
 use Rattle.prog_tables.specs.Label.{Tables}
 use Rattle.vm_definitions.specs.Step.{After, stepOf, runOf}
 use Rattle.vm_definitions.specs.Lent.{tablesOf, world}

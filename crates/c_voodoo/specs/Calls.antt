@@ -6,7 +6,7 @@ use lib.ListN.{length}
 use Rattle.base_prelude.specs.Choice.{ifLt}
 use Rattle.base_prelude.specs.Lists.{overlay}
 use Rattle.base_limits.specs.declared.Width.the-variants.{Bits32}
-use Rattle.base_limits.specs.Fresh.{freshOf}
+use Rattle.base_limits.specs.Record.{freshOf}
 use Rattle.prog_tables.specs.Label.{Tables}
 use Rattle.vm_definitions.specs.Step.{After, stepOf, runOf}
 use Rattle.vm_definitions.specs.Lent.{world}

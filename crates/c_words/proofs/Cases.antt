@@ -14,6 +14,7 @@ use Rattle.base_prelude.proofs.Choice.{ifLt-yes, ifLt-no, ifEq-yes, ifEq-no, if
 use Rattle.base_limits.specs.declared.State.{State}
 use Rattle.base_limits.specs.declared.State.the-variants.{Running, Finished, Stopped}
 use Rattle.base_limits.specs.declared.Machine.{Machine}
+use Rattle.base_limits.specs.Record.{ofParts}
 use Rattle.vm_definitions.specs.declared.Broken.{Broken}
 use Rattle.vm_definitions.specs.declared.Started.{Started}
 use Rattle.vm_definitions.specs.declared.Started.the-variants.{Begun, Refused, Unsound}
@@ -137,16 +138,11 @@ module _ (ws : List ℕ) where
     unfolding recordOf
     load-unlisted q = sym (ifLt-no Unfit _ h ∙ ifTrue-no (Fit (machineOf ws)) Unfit (sym e ∙ q))
 
-    pub load-fit : (s : State) → b ≡ true → s ≡ stateIn ws
-        → Fit
-        (record { state = s; next = getD ws word.next 0; frame = getD ws word.frame 0; used = getD ws word.used 0; top = getD ws word.top 0 })
-        ≡ recordOf ws
+    pub load-fit : (s : State) (r : Machine) → b ≡ true → s ≡ stateIn ws
+        → r ≡ ofParts s (getD ws word.next 0) (getD ws word.frame 0) (getD ws word.used 0) (getD ws word.top 0) → Fit r ≡ recordOf ws
     unfolding recordOf machineOf
-    load-fit s q r =
-        ap
-        (λ (z : State). Fit
-        (record { state = z; next = getD ws word.next 0; frame = getD ws word.frame 0; used = getD ws word.used 0; top = getD ws word.top 0 }))
-        r
+    load-fit s r q p d =
+        ap Fit (d ∙ ap (λ (z : State). ofParts z (getD ws word.next 0) (getD ws word.frame 0) (getD ws word.used 0) (getD ws word.top 0)) p)
         ∙ sym (ifLt-no Unfit _ h ∙ ifTrue-yes (Fit (machineOf ws)) Unfit (sym e ∙ q))
 
 pub ruleset load-ways = (load-short, load-unlisted, load-fit)

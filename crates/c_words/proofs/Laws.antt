@@ -14,6 +14,7 @@ use Rattle.base_prelude.proofs.Choice.{true-false, ifLt-no}
 use Rattle.base_limits.specs.declared.State.{State}
 use Rattle.base_limits.specs.declared.State.the-variants.{Running, Finished, Stopped}
 use Rattle.base_limits.specs.declared.Machine.{Machine}
+use Rattle.base_limits.specs.Record.{ofParts}
 use Rattle.c_words.specs.declared.Loaded.{Loaded}
 use Rattle.c_words.specs.declared.Loaded.the-variants.{Fit, Unfit}
 use Rattle.c_words.specs.Words as word
@@ -36,13 +37,12 @@ Listed (Stopped k i) = isStop k ≡ true
 -- the words of a record with others behind them
 read-back : (s : State) (next frame used top : ℕ) (ws : List ℕ) → Listed s → 9 ≤ length ws
     → recordOf (stateNumber s ∷ next ∷ frame ∷ used ∷ top ∷ stateValue s ∷ statePlace s ∷ ws)
-    ≡ Fit (record { state = s; next = next; frame = frame; used = used; top = top })
+    ≡ Fit (ofParts s next frame used top)
 unfolding Listed recordOf machineOf stateIn isListed stateOf stateNumber stateValue statePlace ifEq ifTrue
 read-back Running next frame used top ws l h = ifLt-no Unfit _ (omega arith)
 read-back (Finished v) next frame used top ws l h = ifLt-no Unfit _ (omega arith)
 read-back (Stopped k i) next frame used top ws l h =
-    ifLt-no Unfit _ (omega arith)
-    ∙ ap (λ (b : Bool). pick b (Fit (record { state = Stopped k i; next = next; frame = frame; used = used; top = top })) Unfit) l
+    ifLt-no Unfit _ (omega arith) ∙ ap (λ (b : Bool). pick b (Fit (ofParts (Stopped k i) next frame used top)) Unfit) l
 
 short : {P : Type 0} (n : ℕ) → n < 7 → recordSize ≤ n → P
 short n h q = absurd (let z : ⊥ = omega arith in z)
@@ -92,20 +92,20 @@ module _ (ws : List ℕ) (r : Machine) (e : recordOf ws ≡ Fit r) where
   record-long = ltb-false (length ws) recordSize (ways .0)
 
   pub record-state : getD ws word.state 0 ≡ stateNumber (r .state)
-  unfolding machineOf stateIn
+  unfolding machineOf stateIn ofParts
   record-state =
       sym (listed-number (getD ws word.state 0) (getD ws word.value 0) (getD ws word.at 0) (ways .1))
       ∙ ap (λ (q : Machine). stateNumber (q .state)) (ways .2)
 
   pub record-listed : Listed (r .state)
-  unfolding machineOf stateIn
+  unfolding machineOf stateIn ofParts
   record-listed =
       subst (λ (q : Machine). Listed (q .state)) (ways .2)
       (listed-state (getD ws word.state 0) (getD ws word.value 0) (getD ws word.at 0) (ways .1))
 
 -- a record that was written is read back
 pub record-back : (r : Machine) (ws : List ℕ) → Listed (r .state) → recordSize ≤ length ws → recordOf (overlay (recordWords r) ws) ≡ Fit r
-unfolding recordWords
+unfolding recordWords ofParts
 record-back r (x0 ∷ x1 ∷ x2 ∷ x3 ∷ x4 ∷ x5 ∷ x6 ∷ ws) l h =
     ap recordOf (sym (seven-over _ _ _ _ _ _ _ x0 x1 x2 x3 x4 x5 x6 ws))
     ∙ read-back (r .state) (r .next) (r .frame) (r .used) (r .top) ws l (omega arith)

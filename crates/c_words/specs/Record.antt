@@ -11,6 +11,7 @@ use Rattle.base_limits.specs.declared.State.the-variants.{Running, Finished, St
 use Rattle.base_limits.specs.declared.Machine.{Machine}
 use Rattle.c_words.specs.Words as word
 use Rattle.c_words.specs.Words.{recordSize}
+use Rattle.base_limits.specs.Record.{ofParts}
 use Rattle.c_words.specs.declared.Loaded.{Loaded}
 use Rattle.c_words.specs.declared.Loaded.the-variants.{Fit, Unfit}
 
@@ -31,13 +32,7 @@ stateIn ws = stateOf (getD ws word.state 0) (getD ws word.value 0) (getD ws word
 
 unfoldable pub machineOf : List ℕ → Machine
 machineOf ws =
-    record {
-      state = stateIn ws;
-      next = getD ws word.next 0;
-      frame = getD ws word.frame 0;
-      used = getD ws word.used 0;
-      top = getD ws word.top 0;
-    }
+    ofParts (stateIn ws) (getD ws word.next 0) (getD ws word.frame 0) (getD ws word.used 0) (getD ws word.top 0)
 
 -- the record that the words hold; none in fewer than 16 words, or where the state is not listed
 unfoldable pub recordOf : List ℕ → Loaded

@@ -197,13 +197,13 @@ pub fn load_record(record: &[u32]) -> Loaded
     }
     if has_state(record) {
         let state = read_state(record);
-        return Loaded::Fit(Machine {
-            state: state,
-            next: record[RecordWord::NEXT],
-            frame: record[RecordWord::FRAME],
-            used: record[RecordWord::USED],
-            top: record[RecordWord::TOP],
-        });
+        return Loaded::Fit(Machine::of_parts(
+            state,
+            record[RecordWord::NEXT],
+            record[RecordWord::FRAME],
+            record[RecordWord::USED],
+            record[RecordWord::TOP],
+        ));
     }
     Loaded::Unfit
 }

@@ -14,10 +14,11 @@ use Rattle.base_prelude.specs.Choice.{ifTrue, ifEq}
 use Rattle.prog_tables.specs.Tests.{oneOf, some, someOf}
 use Rattle.prog_tables.specs.Statement.{Row, hasExpression, isTest, isOperator, isCall, usedBy, operandAt, slots, rowFrom, rowAt}
 use Rattle.prog_tables.specs.Nesting.{isListed, hasTarget}
-use Rattle.prog_tables.specs.Faults.{expressionListed, inFunction, sizeAt, operandFault, addressListed, kindFault, targetFault, calleeFault, sizeFault, ownWord, hasWord, wordFault, operandsFault, addressFault, rowFault}
+use Rattle.prog_tables.specs.Faults.{expressionListed, isCallRow, expressionFault, inFunction, sizeAt, operandFault, addressListed, kindFault, targetFault, calleeFault, sizeFault, ownWord, hasWord, wordFault, operandsFault, addressFault, rowFault}
 use Rattle.prog_tables.specs.declared.Operand.{Operand}
 use Rattle.prog_tables.specs.declared.Operand.the-variants.{Unlisted}
 use Rattle.prog_tables.proofs.Each.{one-true}
+use Rattle.prog_tables.proofs.CallRows.{call-bare}
 
 module _ (k : ℕ) (b : Bool) (d : b ≡ isTest k) where
   pub has-test : b ≡ true → true ≡ hasTarget k
@@ -62,25 +63,43 @@ pub ruleset sizes = (within-kind, within-not, size-in, size-out)
 
 -- ---- causes
 
+pub row-call : (k : ℕ) → k ≡ 11 → true ≡ isCallRow k
+row-call k h = rw h
+
+pub row-tail : (k : ℕ) → (k ≡ 11 → ⊥) → eqb k 12 ≡ isCallRow k
+row-tail k h = rw (ne-eqb k 11 h)
+
+pub ruleset call-rows = (row-call, row-tail)
+
+module _ (k e : ℕ) (b : Bool) (d : b ≡ isCallRow k) where
+  pub call-good : b ≡ true → e ≡ 2 → false ≡ expressionFault k e
+  call-good h q = rw (← d, h, call-bare k (sym d ∙ h), eq-eqb e 2 q)
+
+  pub call-bad : b ≡ true → (e ≡ 2 → ⊥) → true ≡ expressionFault k e
+  call-bad h q = rw (← d, h, ne-eqb e 2 q)
+
+  module _ (h : b ≡ false) (v : Bool) (r : v ≡ hasExpression k) where
+    pub no-expression : v ≡ false → false ≡ expressionFault k e
+    no-expression q = rw (← d, h, ← r, q)
+
+    pub expression-good : (w : Bool) → v ≡ true → w ≡ expressionListed k e → w ≡ true → false ≡ expressionFault k e
+    expression-good w q s l = rw (← d, h, ← r, q, ← s, l)
+
+    pub expression-bad : (w : Bool) → v ≡ true → w ≡ expressionListed k e → w ≡ false → true ≡ expressionFault k e
+    expression-bad w q s l = rw (← d, h, ← r, q, ← s, l)
+
+pub ruleset expression-ways = (call-good, call-bad, no-expression, expression-good, expression-bad)
+
 module _ (f : ℕ → Row) (n k : ℕ) (b : Bool) (e : k ≡ f n .kind) (d : b ≡ isListed k) where
   pub kind-unlisted : b ≡ false → true ≡ kindFault f n
   unfolding kindFault ifTrue
   kind-unlisted h = rw (← e, ← d, h)
 
-  module _ (h : b ≡ true) (v : Bool) (r : v ≡ hasExpression k) where
-    pub kind-plain : v ≡ false → false ≡ kindFault f n
-    unfolding kindFault ifTrue
-    kind-plain q = rw (← e, ← d, h, ← r, q)
+  pub kind-listed : (x : ℕ) (v : Bool) → b ≡ true → x ≡ f n .expr → v ≡ expressionFault k x → v ≡ kindFault f n
+  unfolding kindFault ifTrue
+  kind-listed x v h g s = rw (← e, ← d, h, ← g) s
 
-    pub kind-good : (x : ℕ) (w : Bool) → v ≡ true → x ≡ f n .expr → w ≡ expressionListed k x → w ≡ true → false ≡ kindFault f n
-    unfolding kindFault ifTrue
-    kind-good x w q g s l = rw (← e, ← d, h, ← r, q, ← g, ← s, l)
-
-    pub kind-bad : (x : ℕ) (w : Bool) → v ≡ true → x ≡ f n .expr → w ≡ expressionListed k x → w ≡ false → true ≡ kindFault f n
-    unfolding kindFault ifTrue
-    kind-bad x w q g s l = rw (← e, ← d, h, ← r, q, ← g, ← s, l)
-
-pub ruleset kind-ways = (kind-unlisted, kind-plain, kind-good, kind-bad)
+pub ruleset kind-ways = (kind-unlisted, kind-listed)
 
 module _ (k : ℕ) (b : Bool) (d : b ≡ hasTarget k) where
   pub jump-yes : b ≡ true → true ≡ oneOf (hasTarget k) (eqb k 10)

@@ -15,13 +15,16 @@ use Rattle.base_prelude.proofs.Choice.{true-false, either}
 use Rattle.prog_tables.specs.Tests.{both, oneOf, some, someOf}
 use Rattle.prog_tables.specs.Statement.{Row, hasExpression, isTest, isCall, usedBy, slots, rowFrom, rowAt}
 use Rattle.prog_tables.specs.Nesting.{isListed, hasTarget}
-use Rattle.prog_tables.specs.Faults.{operandFault, kindFault, targetFault, calleeFault, sizeFault, hasWord, wordFault, operandsFault, addressFault, rowFault, sizeAt}
-use Rattle.prog_tables.proofs.Each.{one-false}
+use Rattle.prog_tables.specs.Faults.{isCallRow, operandFault, kindFault, targetFault, calleeFault, sizeFault, hasWord, wordFault, operandsFault, addressFault, rowFault, sizeAt}
+use Rattle.prog_tables.proofs.Each.{one-false, one-no, one-rest}
 use Rattle.prog_tables.proofs.Ranges.{test-least, test-most}
 
 test-bare : (k : ℕ) → 14 ≤ k → hasExpression k ≡ false
 unfolding hasExpression ifLt
 test-bare k h = rw (le-ltb k 5 (omega arith), le-ltb k 8 (omega arith), ne-eqb k 13 (λ e. omega arith))
+
+test-no-kind : (k : ℕ) → 14 ≤ k → oneOf (hasExpression k) (isCallRow k) ≡ false
+test-no-kind k h = rw (test-bare k h, ne-eqb k 11 (λ e. omega arith), ne-eqb k 12 (λ e. omega arith))
 
 module _ (t : List ℕ) (c d n : ℕ) where
   abbrev f : ℕ → Row
@@ -33,9 +36,9 @@ module _ (t : List ℕ) (c d n : ℕ) where
   abbrev expr : ℕ
   expr = rowAt t n .expr
 
-  no-kind : isListed kind ≡ true → hasExpression kind ≡ false → kindFault f n ≡ false
+  no-kind : isListed kind ≡ true → oneOf (hasExpression kind) (isCallRow kind) ≡ false → kindFault f n ≡ false
   unfolding kindFault ifTrue
-  no-kind h e = rw (h, e)
+  no-kind h e = rw (h, one-no (hasExpression kind) (isCallRow kind) e, one-rest (hasExpression kind) (isCallRow kind) e)
 
   no-target : oneOf (hasTarget kind) (eqb kind 10) ≡ false → targetFault f c n ≡ false
   unfolding targetFault
@@ -66,8 +69,8 @@ module _ (t : List ℕ) (c d n : ℕ) where
     listed : isListed k ≡ true → isListed kind ≡ true
     listed h = ap isListed e ∙ h
 
-    bare : hasExpression k ≡ false → hasExpression kind ≡ false
-    bare h = ap hasExpression e ∙ h
+    bare : oneOf (hasExpression k) (isCallRow k) ≡ false → oneOf (hasExpression kind) (isCallRow kind) ≡ false
+    bare h = ap (λ (i : ℕ). oneOf (hasExpression i) (isCallRow i)) e ∙ h
 
     aimless : oneOf (hasTarget k) (eqb k 10) ≡ false → oneOf (hasTarget kind) (eqb kind 10) ≡ false
     aimless h = ap (λ (i : ℕ). oneOf (hasTarget i) (eqb i 10)) e ∙ h
@@ -196,22 +199,20 @@ module _ (t : List ℕ) (c d n : ℕ) where
       )
       (one-false (targetFault f c n))
 
-  pub of-call : kind ≡ 11 → rowFault f c d n ≡ some (calleeFault f c n ∷ operandsFault f c d n ∷ [])
+  pub of-call : kind ≡ 11 → rowFault f c d n ≡ some (kindFault f n ∷ calleeFault f c n ∷ operandsFault f c d n ∷ [])
   unfolding rowFault some isListed hasExpression hasTarget isTest isCall hasWord usedBy ifTrue ifEq ifLt
   of-call e =
       rw (
-        no-kind (listed 11 e refl) (bare 11 e refl),
         no-target (aimless 11 e refl),
         no-size (ap (λ (i : ℕ). eqb i 1) e),
         no-word (ap hasWord e),
         no-address (ap (λ (i : ℕ). eqb i 7) e),
       )
 
-  pub of-tail-call : kind ≡ 12 → rowFault f c d n ≡ some (calleeFault f c n ∷ operandsFault f c d n ∷ [])
+  pub of-tail-call : kind ≡ 12 → rowFault f c d n ≡ some (kindFault f n ∷ calleeFault f c n ∷ operandsFault f c d n ∷ [])
   unfolding rowFault some isListed hasExpression hasTarget isTest isCall hasWord usedBy ifTrue ifEq ifLt
   of-tail-call e =
       rw (
-        no-kind (listed 12 e refl) (bare 12 e refl),
         no-target (aimless 12 e refl),
         no-size (ap (λ (i : ℕ). eqb i 1) e),
         no-word (ap hasWord e),
@@ -273,7 +274,7 @@ module _ (t : List ℕ) (c d n : ℕ) where
       let l = test-least kind e in
       let u = test-most kind e in
       rw (
-        no-kind (rw (ne-eqb kind 0 (λ q. omega (arith, l, q)), lt-ltb kind 23 (omega (arith, u)))) (test-bare kind l),
+        no-kind (rw (ne-eqb kind 0 (λ q. omega (arith, l, q)), lt-ltb kind 23 (omega (arith, u)))) (test-no-kind kind l),
         no-callee (rw (ne-eqb kind 11 (λ q. omega (arith, l, q)), ne-eqb kind 12 (λ q. omega (arith, l, q)), test-bare kind l)),
         no-size (ne-eqb kind 1 (λ q. omega (arith, l, q))),
         no-word (rw (le-ltb kind 3 (omega (arith, l)), le-ltb kind 7 (omega (arith, l)))),
@@ -402,10 +403,10 @@ module _ (t : List ℕ) (c d n k : ℕ) (x : Bool) (e : k ≡ rowAt t n .kind) w
   pub row-10 : k ≡ 10 → x ≡ targetFault (rowAt t) c n → x ≡ rowFault (rowAt t) c d n
   row-10 h q = q ∙ sym (of-goto t c d n (sym e ∙ h))
 
-  pub row-11 : k ≡ 11 → x ≡ some (calleeFault (rowAt t) c n ∷ operandsFault (rowAt t) c d n ∷ []) → x ≡ rowFault (rowAt t) c d n
+  pub row-11 : k ≡ 11 → x ≡ some (kindFault (rowAt t) n ∷ calleeFault (rowAt t) c n ∷ operandsFault (rowAt t) c d n ∷ []) → x ≡ rowFault (rowAt t) c d n
   row-11 h q = q ∙ sym (of-call t c d n (sym e ∙ h))
 
-  pub row-12 : k ≡ 12 → x ≡ some (calleeFault (rowAt t) c n ∷ operandsFault (rowAt t) c d n ∷ []) → x ≡ rowFault (rowAt t) c d n
+  pub row-12 : k ≡ 12 → x ≡ some (kindFault (rowAt t) n ∷ calleeFault (rowAt t) c n ∷ operandsFault (rowAt t) c d n ∷ []) → x ≡ rowFault (rowAt t) c d n
   row-12 h q = q ∙ sym (of-tail-call t c d n (sym e ∙ h))
 
   pub row-13 : k ≡ 13 → x ≡ some (kindFault (rowAt t) n ∷ calleeFault (rowAt t) c n ∷ operandsFault (rowAt t) c d n ∷ []) → x ≡ rowFault (rowAt t) c d n

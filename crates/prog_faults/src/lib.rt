@@ -1,20 +1,19 @@
 // Broken rows: refusal 35 for a statement row.
+use base_limits::Machine;
 use lang_kinds::Kind;
 use prog_tables::ExpressionKind;
 use prog_tables::Operand;
-use prog_tables::StatementRow;
-use prog_tables::Table;
 ghost use mathlib.Core.Path.{_≡_};
 ghost use mathlib.Core.List.{[], _∷_};
 ghost use Prim.Native.Nat.{_+_, _*_, _≤_, _<_, min};
 ghost use lib.Dec.{eqb};
 ghost use Rattle.prog_tables.specs.Tests.{oneOf, some};
-ghost use Rattle.prog_tables.specs.Statement.{usedBy, operandAt, rowAt};
+ghost use Rattle.prog_tables.specs.Statement.{usedBy, rowAt};
 ghost use Rattle.prog_tables.specs.Nesting.{isListed, hasTarget};
-ghost use Rattle.prog_tables.specs.Faults.{expressionListed, inFunction, sizeAt, operandFault, addressListed, kindFault, targetFault, calleeFault, sizeFault, ownWord, hasWord, wordFault, operandsFault, addressFault, rowFault};
+ghost use Rattle.prog_tables.specs.Faults.{expressionListed, isCallRow, expressionFault, inFunction, sizeAt, operandFault, addressListed, kindFault, targetFault, calleeFault, sizeFault, ownWord, hasWord, wordFault, operandsFault, addressFault, rowFault};
 ghost use Rattle.lang_kinds.specs.Kinds as kind;
-ghost use Rattle.prog_tables.specs.StatementRow as row;
-ghost use Rattle.prog_tables.specs.Layout.{statementRow};
+ghost use Rattle.prog_tables.specs.Layout.{operandSlots};
+ghost use Rattle.prog_tables.specs.Places.{slotAt};
 
 // Whether a kind is listed.
 pub fn is_listed(k: u32) -> bool
@@ -39,7 +38,17 @@ pub fn has_target(k: u32) -> bool
     k == Kind::ELSE_IF
 }
 
-// Whether a row of this kind may have an expression of kind e.
+// `call` and `tail-call`.
+fn is_call_row(k: u32) -> bool
+    ensures { λ r. ⌜ r ≡ isCallRow k ⌝ }
+{
+    if k == Kind::CALL {
+        return true;
+    }
+    k == Kind::TAIL_CALL
+}
+
+// Whether a row of this kind with an expression may have one of kind e.
 pub fn is_expression(k: u32, e: u32) -> bool
     ensures { λ r. ⌜ r ≡ expressionListed k e ⌝ }
 {
@@ -53,6 +62,25 @@ pub fn is_expression(k: u32, e: u32) -> bool
         return true;
     }
     prog_tables::is_operator(e)
+}
+
+// An unlisted expression kind of a row of this kind.
+fn is_unlisted(k: u32, e: u32) -> bool
+    ensures { λ r. ⌜ r ≡ expressionFault k e ⌝ }
+{
+    if is_call_row(k) {
+        if e == ExpressionKind::CALL {
+            return false;
+        }
+        return true;
+    }
+    if prog_tables::has_expression(k) {
+        if is_expression(k, e) {
+            return false;
+        }
+        return true;
+    }
+    false
 }
 
 // Whether a row is in a function.
@@ -112,14 +140,8 @@ fn kind_fault(t: &[u32], n: u32) -> bool
 {
     let k = prog_tables::kind_at(t, n);
     if is_listed(k) {
-        if prog_tables::has_expression(k) {
-            let e = prog_tables::expression_at(t, n);
-            if is_expression(k, e) {
-                return false;
-            }
-            return true;
-        }
-        return false;
+        let e = prog_tables::expression_at(t, n);
+        return is_unlisted(k, e);
     }
     true
 }
@@ -171,7 +193,7 @@ fn callee_fault(t: &[u32], c: u32, n: u32) -> bool
                 let p = prog_tables::parameters_at(t, g);
                 let m = prog_tables::count_at(t, n);
                 if p == m {
-                    if m <= 8 {
+                    if m <= Machine::PARAMETERS {
                         return false;
                     }
                     return true;
@@ -259,14 +281,10 @@ fn operands_at(t: &[u32], n: u32) -> u32
 
 // Whether the operand in slot i of a row is broken.
 fn slot_fault(t: &[u32], size: u32, d: u32, n: u32, i: u32) -> bool
-    requires { ⌜ i < 8 ⌝ }
-    ensures { λ r. ⌜ r ≡ operandFault size d (operandAt (now (t .entry)) (n * statementRow + row.operands + i * 2)) ⌝ }
+    requires { ⌜ i < operandSlots ⌝ }
+    ensures { λ r. ⌜ r ≡ operandFault size d (slotAt (now (t .entry)) n i) ⌝ }
 {
-    let o = prog_tables::operand_at(
-        t,
-        n as usize * Table::STATEMENT_ROW + StatementRow::OPERANDS + i as usize * 2,
-    );
-    operand_fault(size, d, o)
+    operand_fault(size, d, prog_tables::slot_at(t, n, i))
 }
 
 // A broken operand.
@@ -310,7 +328,7 @@ fn test_fault(t: &[u32], c: u32, d: u32, n: u32) -> bool
     operands_fault(t, c, d, n)
 }
 
-// A broken call: its callee, its arguments.
+// A broken call in any form: its callee, its arguments.
 fn call_fault(t: &[u32], c: u32, d: u32, n: u32) -> bool
     ensures { λ r. ⌜ r ≡ some (calleeFault (rowAt (now (t .entry))) c n ∷ operandsFault (rowAt (now (t .entry))) c d n ∷ []) ⌝ }
 {
@@ -320,8 +338,8 @@ fn call_fault(t: &[u32], c: u32, d: u32, n: u32) -> bool
     operands_fault(t, c, d, n)
 }
 
-// A broken `return`: its expression.
-fn return_fault(t: &[u32], c: u32, d: u32, n: u32) -> bool
+// A broken `call`, `tail-call` or `return`: its expression.
+fn expression_fault(t: &[u32], c: u32, d: u32, n: u32) -> bool
     ensures { λ r. ⌜ r ≡ some (kindFault (rowAt (now (t .entry))) n ∷ calleeFault (rowAt (now (t .entry))) c n ∷ operandsFault (rowAt (now (t .entry))) c d n ∷ []) ⌝ }
 {
     if kind_fault(t, n) {
@@ -381,9 +399,9 @@ pub fn row_fault(t: &[u32], c: u32, d: u32, n: u32) -> bool
         Kind::SET_BYTE => operands_fault(t, c, d, n),
         Kind::SET_WORD => operands_fault(t, c, d, n),
         Kind::GOTO => target_fault(t, c, n),
-        Kind::CALL => call_fault(t, c, d, n),
-        Kind::TAIL_CALL => call_fault(t, c, d, n),
-        Kind::RETURN => return_fault(t, c, d, n),
+        Kind::CALL => expression_fault(t, c, d, n),
+        Kind::TAIL_CALL => expression_fault(t, c, d, n),
+        Kind::RETURN => expression_fault(t, c, d, n),
         Kind::ELSE => target_fault(t, c, n),
         Kind::ELSE_IF => target_fault(t, c, n),
         Kind::END_IF => false,

@@ -1,10 +1,12 @@
 // Nesting and frames: targets, what a frame needs, the words of lets and blocks, the locals in scope.
 use lang_kinds::Kind;
+use prog_tables::Table;
 ghost use mathlib.Core.Path.{_≡_};
 ghost use Prim.Native.Nat.{_+_, _*_, _≤_, _<_, max};
+ghost use Rattle.base_limits.specs.Limits.{statements};
 ghost use Rattle.prog_tables.specs.Statement.{rowAt};
 ghost use Rattle.prog_tables.specs.Nesting.{isArm, isEndIf, nextArm, endIfOf, targetOf, encloses};
-ghost use Rattle.prog_tables.specs.Frames.{isIn, letsBefore, needOf, firstLet, blockWord, letWord, letSeen, localsAt};
+ghost use Rattle.prog_tables.specs.Frames.{frameDepth, isIn, letsBefore, needOf, firstLet, blockWord, letWord, letSeen, localsAt};
 
 // Whether a row is of a kind and stands in a frame.
 pub fn is_in(t: &[u32], k: u32, s: u32, i: u32) -> bool
@@ -43,7 +45,7 @@ fn greater(a: u32, b: u32) -> u32
 
 // The words a frame needs, by recursion with the remaining depth of frames falling.
 pub fn need(t: &[u32], c: u32, depth: u32, s: u32) -> u32
-    requires { ⌜ (c ≤ 1024) × (depth ≤ 17) ⌝ }
+    requires { ⌜ (c ≤ statements) × (depth ≤ frameDepth) ⌝ }
     ensures { λ r. ⌜ (r ≡ needOf (rowAt (now (t .entry))) c depth s) × (r ≤ depth * 2000) ⌝ }
 {
     if depth == 0 {
@@ -124,7 +126,7 @@ pub fn end_if_of(t: &[u32], c: u32, n: u32) -> u32
 
 // Where a false test, an else or an else-if jump goes.
 pub fn target_of(t: &[u32], c: u32, n: u32) -> u32
-    requires { ⌜ (n < c) × (c ≤ 1024) ⌝ }
+    requires { ⌜ (n < c) × (c ≤ statements) ⌝ }
     ensures { λ r. ⌜ r ≡ targetOf (rowAt (now (t .entry))) c n ⌝ }
 {
     let k = prog_tables::kind_at(t, n);
@@ -158,7 +160,7 @@ pub fn is_around(t: &[u32], fuel: u32, e: u32, s: u32) -> bool
 
 // The word of a frame's first let, by recursion with the remaining frames falling.
 pub fn first_let(t: &[u32], c: u32, fuel: u32, s: u32) -> u64
-    requires { ⌜ (c ≤ 1024) × (fuel ≤ 17) ⌝ }
+    requires { ⌜ (c ≤ statements) × (fuel ≤ frameDepth) ⌝ }
     ensures { λ r. ⌜ (r ≡ firstLet (rowAt (now (t .entry))) c fuel s) × (r ≤ 4294967300 + fuel * 2000) ⌝ }
 {
     if fuel == 0 {
@@ -177,22 +179,22 @@ pub fn first_let(t: &[u32], c: u32, fuel: u32, s: u32) -> u64
 
 // The word in which a block saves the auto top.
 pub fn block_word(t: &[u32], c: u32, s: u32) -> u64
-    requires { ⌜ c ≤ 1024 ⌝ }
+    requires { ⌜ c ≤ statements ⌝ }
     ensures { λ r. ⌜ r ≡ blockWord (rowAt (now (t .entry))) c s ⌝ }
 {
     let e = prog_tables::scope_at(t, s);
-    let w = first_let(t, c, 17, e);
+    let w = first_let(t, c, Table::FRAME_DEPTH, e);
     let lets = lets_before(t, e, c);
     w + lets as u64
 }
 
 // The word of a let.
 pub fn let_word(t: &[u32], c: u32, n: u32) -> u64
-    requires { ⌜ c ≤ 1024 ⌝ }
+    requires { ⌜ c ≤ statements ⌝ }
     ensures { λ r. ⌜ r ≡ letWord (rowAt (now (t .entry))) c n ⌝ }
 {
     let e = prog_tables::scope_at(t, n);
-    let w = first_let(t, c, 17, e);
+    let w = first_let(t, c, Table::FRAME_DEPTH, e);
     let lets = lets_before(t, e, n);
     w + lets as u64
 }
@@ -203,7 +205,7 @@ fn is_seen(t: &[u32], s: u32, i: u32) -> bool
 {
     let k = prog_tables::kind_at(t, i);
     if k == Kind::LET {
-        return is_around(t, 17, prog_tables::scope_at(t, i), s);
+        return is_around(t, Table::FRAME_DEPTH, prog_tables::scope_at(t, i), s);
     }
     false
 }

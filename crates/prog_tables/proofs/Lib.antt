@@ -3,6 +3,7 @@ pub mod Ranges
 pub mod Cases
 pub mod Rows
 pub mod Nested
+pub mod CallRows
 pub mod Targets
 pub mod Sound
 pub mod Words

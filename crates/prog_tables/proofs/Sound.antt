@@ -14,10 +14,10 @@ use Rattle.prog_tables.specs.Statement.{hasExpression, isCall, usedBy}
 use Rattle.prog_tables.specs.Label.{Tables, rows, labelsOf, isFunctionLabel}
 use Rattle.prog_tables.specs.Nesting.{openBefore, stands, allClosed, targetOf, hasTarget}
 use Rattle.prog_tables.specs.Frames.{frameSize, blockWord, letWord, letsBefore, localsAt}
-use Rattle.prog_tables.specs.Faults.{expressionListed, inFunction, kindFault, targetFault, calleeFault, sizeFault}
+use Rattle.prog_tables.specs.Faults.{expressionFault, inFunction, kindFault, targetFault, calleeFault, sizeFault}
 use Rattle.prog_tables.specs.WellFormed.{aimed, labelled, jumps, calls, hasOperands, shaped, framed, WellFormed}
 use Rattle.prog_tables.proofs.Each.{both-left, both-true, given-then, all-at, all-closed, stands-at, aimed-at, jumps-at, calls-at, shaped-at, framed-at}
-use Rattle.prog_tables.proofs.Nested.{here, Held, held}
+use Rattle.prog_tables.proofs.Nested.{not-true, here, Held, held}
 use Rattle.prog_tables.proofs.Targets.{Aimed, target-aimed}
 
 -- ---- tests
@@ -54,9 +54,9 @@ module _ (t : Tables) (w : WellFormed t) where
     pub kind-sound : kindFault (rows t) n ≡ false
     unfolding kindFault shaped
     kind-sound =
-        ifTrue-yes (both (hasExpression (rows t n .kind)) (not (expressionListed (rows t n .kind) (rows t n .expr)))) true (here (rows t) (t .count) ok n h .listed)
-        ∙ given-both (hasExpression (rows t n .kind)) (expressionListed (rows t n .kind) (rows t n .expr))
-        (both-left (given (hasExpression (rows t n .kind)) (expressionListed (rows t n .kind) (rows t n .expr)))
+        ifTrue-yes (expressionFault (rows t n .kind) (rows t n .expr)) true (here (rows t) (t .count) ok n h .listed)
+        ∙ not-true (expressionFault (rows t n .kind) (rows t n .expr))
+        (both-left (not (expressionFault (rows t n .kind) (rows t n .expr)))
         (given (hasOperands (rows t n .kind)) (eqb (rows t n .count) (usedBy (rows t n .kind) (rows t n .expr) (rows t n .count)))) (shaped-at t w n h))
 
     pub row-held : Held (rows t) (t .count) ok n

@@ -16,7 +16,7 @@ use Rattle.prog_tables.specs.Tests.{both, oneOf, all, allOf, allBelow}
 use Rattle.prog_tables.specs.Statement.{Row, hasExpression, isCall, usedBy, rowAt}
 use Rattle.prog_tables.specs.Label.{Tables, labelAt}
 use Rattle.prog_tables.specs.Nesting.{hasTarget}
-use Rattle.prog_tables.specs.Faults.{hasWord}
+use Rattle.prog_tables.specs.Faults.{isCallRow, hasWord}
 use Rattle.prog_tables.specs.WellFormed.{hasOperands}
 
 -- a row uses its word j
@@ -25,7 +25,7 @@ usesWord r j =
     ifLt j row.a true
     (ifEq j row.a (oneOf (eqb (r .kind) kind.function) (oneOf (hasWord (r .kind)) (oneOf (hasTarget (r .kind)) (eqb (r .kind) kind.goto))))
     (ifEq j row.b (oneOf (eqb (r .kind) kind.function) (eqb (r .kind) kind.block))
-    (ifEq j row.expr (hasExpression (r .kind))
+    (ifEq j row.expr (oneOf (hasExpression (r .kind)) (isCallRow (r .kind)))
     (ifEq j row.callee (oneOf (eqb (r .kind) kind.block) (isCall (r .kind) (r .expr)))
     (ifEq j row.count (hasOperands (r .kind))
     (ifLt j row.operands (eqb (r .kind) kind.setAt)

@@ -19,9 +19,17 @@ use Rattle.prog_tables.specs.Nesting.{isListed, hasTarget}
 use Rattle.prog_tables.specs.declared.Operand.{Operand}
 use Rattle.prog_tables.specs.declared.Operand.the-variants.{Constant, Local, Address, AtConstant, AtLocal, AtAddress, Unlisted}
 
--- the expression kinds that a row of kind k may have: a bare `return` alone has none
+-- the expression kinds that a row of kind k with an expression may have: a bare `return` alone has none
 unfoldable pub expressionListed : ℕ → ℕ → Bool
 expressionListed k e = ifEq e noExpression (eqb k kind.return) (ifEq e plain true (ifEq e callExpression true (isOperator e)))
+
+-- `call` and `tail-call`
+abbrev pub isCallRow : ℕ → Bool
+isCallRow k = oneOf (eqb k kind.call) (eqb k kind.tailCall)
+
+-- an unlisted expression kind e of a row of kind k: `call` and `tail-call` have that of a call
+abbrev pub expressionFault : ℕ → ℕ → Bool
+expressionFault k e = oneOf (both (isCallRow k) (not (eqb e callExpression))) (both (hasExpression k) (not (expressionListed k e)))
 
 -- row n is in a function: its function field names a `function` row
 unfoldable pub inFunction : (ℕ → Row) → ℕ → ℕ → Bool
@@ -55,7 +63,7 @@ addressListed Unlisted = false
 
 -- "a kind not listed"; those of operands are in `operandsFault`
 unfoldable pub kindFault : (ℕ → Row) → ℕ → Bool
-kindFault f n = ifTrue (isListed (f n .kind)) (both (hasExpression (f n .kind)) (not (expressionListed (f n .kind) (f n .expr)))) true
+kindFault f n = ifTrue (isListed (f n .kind)) (expressionFault (f n .kind) (f n .expr)) true
 
 -- "a target that is no statement of the same function"
 unfoldable pub targetFault : (ℕ → Row) → ℕ → ℕ → Bool

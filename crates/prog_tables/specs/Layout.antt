@@ -3,7 +3,7 @@
 -- Assumes nothing.
 use mathlib.Core.Path.{_≡_, refl}
 use Prim.Native.Nat.{ℕ, _*_}
-use Rattle.base_limits.specs.Limits.{statements, labels, nameBytes}
+use Rattle.base_limits.specs.Limits.{statements, labels, nameBytes, parameters}
 use Rattle.lang_words.specs.Numbers as op
 use Rattle.prog_tables.specs.StatementRow as row
 use Rattle.prog_tables.specs.LabelRow as label
@@ -34,6 +34,10 @@ labelWords = 1024
 -- bytes of the name table, which stands beside the label table: as many for each label as a name may have
 abbrev pub nameTable : ℕ
 nameTable = 16384
+
+-- a slot for each argument
+pub slot-each : operandSlots ≡ parameters
+slot-each = refl
 
 pub statement-size : statementWords ≡ statements * statementRow
 statement-size = refl

@@ -4,6 +4,7 @@ pub mod OutlineLabel
 pub mod Layout
 pub mod Tests
 pub mod Statement
+pub mod Places
 pub mod Label
 pub mod Nesting
 pub mod Frames

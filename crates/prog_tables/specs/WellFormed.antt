@@ -20,7 +20,7 @@ use Rattle.prog_tables.specs.Statement.{Row, hasExpression, isTest, isCa
 use Rattle.prog_tables.specs.Label.{Label, Tables, rows, labelsOf, isData, isFunctionLabel}
 use Rattle.prog_tables.specs.Nesting.{stands, allClosed, hasTarget, targetOf, depthOf, followsJump}
 use Rattle.prog_tables.specs.Frames.{frameDepth, frameSize, blockWord, letWord, letsBefore, inScope, localsAt}
-use Rattle.prog_tables.specs.Faults.{expressionListed, addressListed}
+use Rattle.prog_tables.specs.Faults.{expressionFault, addressListed}
 use Rattle.prog_tables.specs.declared.Operand.{Operand}
 use Rattle.prog_tables.specs.declared.Operand.the-variants.{Constant, Local, Address, AtConstant, AtLocal, AtAddress, Unlisted}
 
@@ -65,10 +65,10 @@ calls f c g l n =
 unfoldable pub hasOperands : ℕ → Bool
 hasOperands k = oneOf (hasExpression k) (oneOf (isTest k) (both (leb kind.setByte k) (both (leb k kind.tailCall) (not (eqb k kind.goto)))))
 
--- an expression of a listed kind; as many operands as its operator, call or statement takes
+-- a listed expression kind; as many operands as its operator, call or statement takes
 unfoldable pub shaped : (ℕ → Row) → ℕ → Bool
 shaped f n =
-    both (given (hasExpression (f n .kind)) (expressionListed (f n .kind) (f n .expr)))
+    both (not (expressionFault (f n .kind) (f n .expr)))
     (given (hasOperands (f n .kind)) (eqb (f n .count) (usedBy (f n .kind) (f n .expr) (f n .count))))
 
 -- "A value is a local or a data label (its address)": at row n, of a listed kind, "a local's word or a data address that of one in

@@ -1,10 +1,12 @@
 // What a program is: rows of statements and labels, operands.
+use base_limits::Machine;
 use lang_kinds::Kind;
 use lang_words::Word;
 ghost use mathlib.Core.Path.{_≡_};
-ghost use Prim.Native.Nat.{_<_};
-ghost use lib.ListN.{getD};
-ghost use Rattle.prog_tables.specs.Layout.{sizesOf, numbersOf};
+ghost use Prim.Native.Nat.{_+_, _≤_, _<_};
+ghost use lib.ListN.{length, getD};
+ghost use Rattle.prog_tables.specs.Layout.{statementRow, operandSlots, sizesOf, numbersOf};
+ghost use Rattle.prog_tables.specs.Places.{placeOf, kindFrom, funcFrom, aFrom, bFrom, exprFrom, addressKind, addressPlace, firstPlace, secondPlace, thirdPlace, slotPlace, slotAt};
 ghost use Rattle.prog_tables.specs.Statement.{operandOf, hasExpression, isTest, isOperator, isCall, expressionUses, usedBy, operandAt, rowAt};
 
 // An operand: a constant, a local's word, a data address, or the word at one of these. Unlisted is any other kind.
@@ -24,18 +26,21 @@ pub struct Table {}
 impl Table {
     pub const STATEMENT_ROW: usize = 27;
 
-    pub const STATEMENT_WORDS: usize = 27648;
+    pub const STATEMENT_WORDS: usize = Machine::STATEMENTS * Table::STATEMENT_ROW;
 
     pub const OPERAND_SLOTS: usize = 8;
 
     pub const LABEL_ROW: usize = 4;
 
-    pub const LABEL_WORDS: usize = 1024;
+    pub const LABEL_WORDS: usize = Machine::LABELS * Table::LABEL_ROW;
 
-    pub const NAME_TABLE: usize = 16384;
+    pub const NAME_TABLE: usize = Machine::LABELS * Machine::NAME_BYTES;
 
     // Frame words before the parameters.
     pub const FRAME_HEAD: u32 = 3;
+
+    // Frames one in the other: a function's and those of its blocks.
+    pub const FRAME_DEPTH: u32 = Machine::BLOCK_DEPTH + 1;
 }
 
 // Every constant of the type.
@@ -457,4 +462,106 @@ pub fn address_at(t: &[u32], n: u32) -> Operand
     ensures { λ r. ⌜ r ≡ rowAt (now (t .entry)) n .address ⌝ }
 {
     operand_at(t, n as usize * Table::STATEMENT_ROW + StatementRow::ADDRESS)
+}
+
+// Operand i of a row.
+pub fn slot_at(t: &[u32], n: u32, i: u32) -> Operand
+    requires { ⌜ i < operandSlots ⌝ }
+    ensures { λ r. ⌜ r ≡ slotAt (now (t .entry)) n i ⌝ }
+{
+    operand_at(t, slot_place(n, i))
+}
+
+// ---- rows that are in the table: read without a test
+
+// A word of a table that has it.
+pub fn word_in(t: &[u32], i: usize) -> u32
+    requires { ⌜ i < length (now t) ⌝ }
+    ensures { λ r. ⌜ r ≡ getD (now (t .entry)) i 0 ⌝ }
+{
+    t[i]
+}
+
+// The kind of a row.
+pub fn kind_in(t: &[u32], n: u32) -> u32
+    requires { ⌜ placeOf n + statementRow ≤ length (now t) ⌝ }
+    ensures { λ r. ⌜ r ≡ kindFrom (now (t .entry)) (placeOf n) ⌝ }
+{
+    t[n as usize * Table::STATEMENT_ROW]
+}
+
+// The function that it stands in.
+pub fn func_in(t: &[u32], n: u32) -> u32
+    requires { ⌜ placeOf n + statementRow ≤ length (now t) ⌝ }
+    ensures { λ r. ⌜ r ≡ funcFrom (now (t .entry)) (placeOf n) ⌝ }
+{
+    t[n as usize * Table::STATEMENT_ROW + StatementRow::FUNC]
+}
+
+// Its target, word or size.
+pub fn a_in(t: &[u32], n: u32) -> u32
+    requires { ⌜ placeOf n + statementRow ≤ length (now t) ⌝ }
+    ensures { λ r. ⌜ r ≡ aFrom (now (t .entry)) (placeOf n) ⌝ }
+{
+    t[n as usize * Table::STATEMENT_ROW + StatementRow::A]
+}
+
+// Its parameters or own lets.
+pub fn b_in(t: &[u32], n: u32) -> u32
+    requires { ⌜ placeOf n + statementRow ≤ length (now t) ⌝ }
+    ensures { λ r. ⌜ r ≡ bFrom (now (t .entry)) (placeOf n) ⌝ }
+{
+    t[n as usize * Table::STATEMENT_ROW + StatementRow::B]
+}
+
+// Its expression kind.
+pub fn expression_in(t: &[u32], n: u32) -> u32
+    requires { ⌜ placeOf n + statementRow ≤ length (now t) ⌝ }
+    ensures { λ r. ⌜ r ≡ exprFrom (now (t .entry)) (placeOf n) ⌝ }
+{
+    t[n as usize * Table::STATEMENT_ROW + StatementRow::EXPR]
+}
+
+// The kind of its address operand.
+pub fn address_kind_in(t: &[u32], n: u32) -> u32
+    requires { ⌜ placeOf n + statementRow ≤ length (now t) ⌝ }
+    ensures { λ r. ⌜ r ≡ addressKind (now (t .entry)) (placeOf n) ⌝ }
+{
+    t[n as usize * Table::STATEMENT_ROW + StatementRow::ADDRESS]
+}
+
+// The place of its address operand.
+pub fn address_place(n: u32) -> usize
+    ensures { λ r. ⌜ r ≡ addressPlace (placeOf n) ⌝ }
+{
+    n as usize * Table::STATEMENT_ROW + StatementRow::ADDRESS
+}
+
+// The place of its first operand.
+pub fn first_place(n: u32) -> usize
+    ensures { λ r. ⌜ r ≡ firstPlace (placeOf n) ⌝ }
+{
+    n as usize * Table::STATEMENT_ROW + StatementRow::OPERANDS
+}
+
+// The place of its second operand.
+pub fn second_place(n: u32) -> usize
+    ensures { λ r. ⌜ r ≡ secondPlace (placeOf n) ⌝ }
+{
+    n as usize * Table::STATEMENT_ROW + StatementRow::SECOND
+}
+
+// The place of its third operand.
+pub fn third_place(n: u32) -> usize
+    ensures { λ r. ⌜ r ≡ thirdPlace (placeOf n) ⌝ }
+{
+    n as usize * Table::STATEMENT_ROW + StatementRow::THIRD
+}
+
+// The place of operand i.
+pub fn slot_place(n: u32, i: u32) -> usize
+    requires { ⌜ i < operandSlots ⌝ }
+    ensures { λ r. ⌜ r ≡ slotPlace (placeOf n) i ⌝ }
+{
+    n as usize * Table::STATEMENT_ROW + StatementRow::OPERANDS + i as usize * 2
 }

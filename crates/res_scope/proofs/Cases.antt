@@ -185,11 +185,11 @@ module _ (kind i next : ℕ) (b : Bool) (r : Parts) (d : b ≡ listsOperands kin
   plain-operands h q = q ∙ rw (← d, h)
 
   module _ (h : b ≡ false) where
-    pub plain-call : kind ≡ 11 → r ≡ parts 0 (i + 1) (i + 2) → r ≡ plainParts kind i next
+    pub plain-call : kind ≡ 11 → r ≡ parts 2 (i + 1) (i + 2) → r ≡ plainParts kind i next
     unfolding plainParts ifTrue ifEq
     plain-call e q = q ∙ rw (← d, h, eq-eqb _ _ e)
 
-    pub plain-tail : (kind ≡ 11 → ⊥) → kind ≡ 12 → r ≡ parts 0 (i + 1) (i + 2) → r ≡ plainParts kind i next
+    pub plain-tail : (kind ≡ 11 → ⊥) → kind ≡ 12 → r ≡ parts 2 (i + 1) (i + 2) → r ≡ plainParts kind i next
     unfolding plainParts ifTrue ifEq
     plain-tail f e q = q ∙ rw (← d, h, ne-eqb _ _ f, eq-eqb _ _ e)
 

@@ -39,8 +39,8 @@ listsOperands k = ifLt k kind.setByte false (ifLt k kind.goto true (ifLt k kind.
 unfoldable pub plainParts : ℕ → ℕ → ℕ → Parts
 plainParts k i next =
     ifTrue (listsOperands k) (parts noExpression 0 (i + 1))
-    (ifEq k kind.call (parts noExpression (i + 1) (i + 2))
-    (ifEq k kind.tailCall (parts noExpression (i + 1) (i + 2))
+    (ifEq k kind.call (parts callExpression (i + 1) (i + 2))
+    (ifEq k kind.tailCall (parts callExpression (i + 1) (i + 2))
     (parts noExpression 0 next)))
 
 -- of a statement of a kind whose magic word is token i

@@ -9,6 +9,7 @@ use prog_tables::StatementRow;
 use prog_tables::Table;
 ghost use mathlib.Core.Path.{_≡_};
 ghost use Prim.Native.Nat.{_+_, _-_, _≤_, _<_, min};
+ghost use Rattle.prog_tables.specs.Layout.{noExpression, callExpression};
 ghost use Rattle.prog_tables.specs.Statement.{rowAt};
 ghost use Rattle.prog_tables.specs.Tests.{firstFrom};
 ghost use Rattle.res_scope.specs.Lines.{firstToken, endToken, labelToken, labelKind, labelStatement};
@@ -259,7 +260,7 @@ fn expression_parts(t: &[u32], i: u32) -> Parts
 }
 
 fn no_parts(next: u32) -> Parts
-    ensures { λ r. ⌜ r ≡ parts 0 0 next ⌝ }
+    ensures { λ r. ⌜ r ≡ parts noExpression 0 next ⌝ }
 {
     Parts {
         expr: ExpressionKind::NONE,
@@ -295,10 +296,10 @@ fn lists_operands(kind: u32) -> bool
 
 fn call_parts(i: u32) -> Parts
     requires { ⌜ i ≤ 4097 ⌝ }
-    ensures { λ r. ⌜ r ≡ parts 0 (i + 1) (i + 2) ⌝ }
+    ensures { λ r. ⌜ r ≡ parts callExpression (i + 1) (i + 2) ⌝ }
 {
     Parts {
-        expr: ExpressionKind::NONE,
+        expr: ExpressionKind::CALL,
         callee: i + 1,
         first: i + 2,
     }

@@ -6,8 +6,8 @@ use mathlib.Core.Bool.{Bool, true, false}
 use mathlib.Core.List.{List}
 use lib.ListN.{take, set, replicate}
 use Rattle.base_prelude.specs.Lists.{sameList}
-use Rattle.base_limits.specs.Fresh.{freshOf}
 use Rattle.base_limits.specs.declared.Machine.{Machine}
+use Rattle.base_limits.specs.Record.{freshOf}
 use Rattle.vm_definitions.specs.Access.{storeFrom}
 use Rattle.test_lines.specs.Lines.{oneMore, startsWith}
 use Rattle.test_lines.specs.Fields.{noNumber}

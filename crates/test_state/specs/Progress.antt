@@ -3,8 +3,8 @@
 use Prim.Native.Nat.{ℕ}
 use mathlib.Core.Bool.{Bool, true, false}
 use mathlib.Core.List.{List}
-use Rattle.base_limits.specs.Fresh.{freshOf}
 use Rattle.base_limits.specs.declared.Machine.{Machine}
+use Rattle.base_limits.specs.Record.{freshOf}
 use Rattle.test_lines.specs.Lines.{oneMore}
 use Rattle.test_lines.specs.Sources.{Source}
 use Rattle.test_state.specs.declared.Lent.{Lent}

@@ -9,10 +9,11 @@ use lib.ListN.{length, take, drop, length-drop}
 use lib.Seq.{take-all}
 use Rattle.base_prelude.specs.Bytes.{byteAt}
 use Rattle.base_prelude.proofs.Bytes.{byte-within}
-use Rattle.base_prelude.proofs.Choice.{tests, ifLt-yes, ifLt-no}
+use Rattle.base_prelude.proofs.Choice.{tests, ifLt-yes, ifLt-no, ifTrue-yes, ifTrue-no}
 use Rattle.base_limits.specs.declared.State.{State}
 use Rattle.base_limits.specs.declared.State.the-variants.{Running, Finished, Stopped}
 use Rattle.base_limits.specs.declared.Machine.{Machine}
+use Rattle.base_limits.specs.Record.{movedTo, withState}
 use Rattle.vm_definitions.specs.declared.Broken.{Broken}
 use Rattle.vm_definitions.specs.declared.Broken.the-variants.{No, At, Somewhere}
 use Rattle.vm_definitions.specs.declared.Started.{Started}
@@ -26,7 +27,7 @@ use Rattle.test_text.specs.Fields.{countFields, hasWord, wordEnd, rawAt}
 use Rattle.test_text.specs.Numbers.{negatedOf, fieldValue, areValues, hasValues, longDigit}
 use Rattle.test_text.specs.Answers.{addAll, fieldBytes, none-word, begun-word, refused-word, broken-word, rejected-word, going-word, finished-word, stopped-word, record-word, brokenBytes, startedBytes, rejectedBytes, countedBytes, stoppedBytes, finishedBytes, stateBytes, unsoundBytes, outcomeBytes, recordBytes}
 use Rattle.test_text.specs.Records as poke
-use Rattle.test_text.specs.Records.{pokeNumber, withState, pokeState, isNumberPoke, isStatePoke, isRecordPoke, pokeRecord}
+use Rattle.test_text.specs.Records.{pokeNumber, pokeState, isNumberPoke, isStatePoke, isRecordPoke, pokeRecord}
 use Rattle.test_text.specs.Buffers.{lesserOf, behindOf}
 
 -- a word at the start of a field
@@ -271,24 +272,25 @@ module _ (l : List ℕ) (a : Bool) (p : a ≡ hasWord l 2 poke.next-word) where
     v-is : v ≡ fieldValue l 3 % noNumber
     v-is = h ∙ ap (λ (x : ℕ). x % noNumber) g
 
-    pub poke-next : a ≡ true → record { state = r .state; next = v; frame = r .frame; used = r .used; top = r .top } ≡ pokeNumber l r
+    pub poke-next : (q : Machine) → a ≡ true → q ≡ movedTo r v (r .frame) (r .used) (r .top) → q ≡ pokeNumber l r
     unfolding pokeNumber
-    poke-next e = rw (← p, ← v-is) (search tests)
+    poke-next q e z = rw (← p, ← v-is) (z ∙ sym (ifTrue-yes _ _ e))
 
     module _ (a0 : a ≡ false) (b : Bool) (p′ : b ≡ hasWord l 2 poke.frame-word) where
-      pub poke-frame : b ≡ true → record { state = r .state; next = r .next; frame = v; used = r .used; top = r .top } ≡ pokeNumber l r
+      pub poke-frame : (q : Machine) → b ≡ true → q ≡ movedTo r (r .next) v (r .used) (r .top) → q ≡ pokeNumber l r
       unfolding pokeNumber
-      poke-frame e = rw (← p, ← p′, ← v-is) (search tests)
+      poke-frame q e z = rw (← p, ← p′, ← v-is) (z ∙ sym (ifTrue-no _ _ a0 ∙ ifTrue-yes _ _ e))
 
       module _ (b0 : b ≡ false) (c : Bool) (p″ : c ≡ hasWord l 2 poke.used-word) where
-        pub poke-used : c ≡ true → record { state = r .state; next = r .next; frame = r .frame; used = v; top = r .top } ≡ pokeNumber l r
+        pub poke-used : (q : Machine) → c ≡ true → q ≡ movedTo r (r .next) (r .frame) v (r .top) → q ≡ pokeNumber l r
         unfolding pokeNumber
-        poke-used e = rw (← p, ← p′, ← p″, ← v-is) (search tests)
+        poke-used q e z = rw (← p, ← p′, ← p″, ← v-is) (z ∙ sym (ifTrue-no _ _ a0 ∙ ifTrue-no _ _ b0 ∙ ifTrue-yes _ _ e))
 
         module _ (c0 : c ≡ false) (d : Bool) (p‴ : d ≡ hasWord l 2 poke.top-word) where
-          pub poke-top : d ≡ true → record { state = r .state; next = r .next; frame = r .frame; used = r .used; top = v } ≡ pokeNumber l r
+          pub poke-top : (q : Machine) → d ≡ true → q ≡ movedTo r (r .next) (r .frame) (r .used) v → q ≡ pokeNumber l r
           unfolding pokeNumber
-          poke-top e = rw (← p, ← p′, ← p″, ← p‴, ← v-is) (search tests)
+          poke-top q e z =
+              rw (← p, ← p′, ← p″, ← p‴, ← v-is) (z ∙ sym (ifTrue-no _ _ a0 ∙ ifTrue-no _ _ b0 ∙ ifTrue-no _ _ c0 ∙ ifTrue-yes _ _ e))
 
           pub poke-other : d ≡ false → r ≡ pokeNumber l r
           unfolding pokeNumber

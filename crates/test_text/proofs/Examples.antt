@@ -8,6 +8,7 @@ use Rattle.base_prelude.specs.Bytes.{byteAt}
 use Rattle.base_prelude.specs.Walk.{walk}
 use Rattle.base_limits.specs.declared.State.{State}
 use Rattle.base_limits.specs.declared.State.the-variants.{Running, Finished, Stopped}
+use Rattle.base_limits.specs.Record.{ofParts}
 use Rattle.vm_definitions.specs.declared.Broken.{Broken}
 use Rattle.vm_definitions.specs.declared.Broken.the-variants.{No, At, Somewhere}
 use Rattle.vm_definitions.specs.declared.Started.the-variants.{Refused}
@@ -21,7 +22,7 @@ use Rattle.test_text.specs.Answers.{fieldBytes, fieldsFrom, plainBytes, 
 
 outcome : State → ℕ → Broken → Outcome
 outcome state count broken =
-    record { machine = record { state = state; next = 1; frame = 0; used = 6; top = 4 }; count = count; broken = broken }
+    record { machine = ofParts state 1 0 6 4; count = count; broken = broken }
 
 -- `refused 23`
 refused-23 : startedBytes (Refused 23) ≡ 114 ∷ 101 ∷ 102 ∷ 117 ∷ 115 ∷ 101 ∷ 100 ∷ 32 ∷ 50 ∷ 51 ∷ []
@@ -30,27 +31,27 @@ refused-23 = refl
 
 -- `going 7`
 going-7 : outcomeBytes (outcome Running 7 No) ≡ 103 ∷ 111 ∷ 105 ∷ 110 ∷ 103 ∷ 32 ∷ 55 ∷ []
-unfolding ifLt digitsWithin decimal field brokenBytes countedBytes stoppedBytes finishedBytes stateBytes unsoundBytes outcomeBytes outcome
+unfolding ifLt digitsWithin decimal field brokenBytes countedBytes stoppedBytes finishedBytes stateBytes unsoundBytes outcomeBytes outcome ofParts
 going-7 = refl
 
 -- `finished 3 42`
 finished-42 : outcomeBytes (outcome (Finished 42) 3 No) ≡ 102 ∷ 105 ∷ 110 ∷ 105 ∷ 115 ∷ 104 ∷ 101 ∷ 100 ∷ 32 ∷ 51 ∷ 32 ∷ 52 ∷ 50 ∷ []
-unfolding ifLt digitsWithin decimal field brokenBytes countedBytes stoppedBytes finishedBytes stateBytes unsoundBytes outcomeBytes outcome
+unfolding ifLt digitsWithin decimal field brokenBytes countedBytes stoppedBytes finishedBytes stateBytes unsoundBytes outcomeBytes outcome ofParts
 finished-42 = refl
 
 -- `stopped 0 32 1`
 stopped-32 : outcomeBytes (outcome (Stopped 32 1) 0 No) ≡ 115 ∷ 116 ∷ 111 ∷ 112 ∷ 112 ∷ 101 ∷ 100 ∷ 32 ∷ 48 ∷ 32 ∷ 51 ∷ 50 ∷ 32 ∷ 49 ∷ []
-unfolding ifLt digitsWithin decimal field brokenBytes countedBytes stoppedBytes finishedBytes stateBytes unsoundBytes outcomeBytes outcome
+unfolding ifLt digitsWithin decimal field brokenBytes countedBytes stoppedBytes finishedBytes stateBytes unsoundBytes outcomeBytes outcome ofParts
 stopped-32 = refl
 
 -- `broken 5 12`
 broken-row : outcomeBytes (outcome Running 5 (At 12)) ≡ 98 ∷ 114 ∷ 111 ∷ 107 ∷ 101 ∷ 110 ∷ 32 ∷ 53 ∷ 32 ∷ 49 ∷ 50 ∷ []
-unfolding ifLt digitsWithin decimal field brokenBytes countedBytes stoppedBytes finishedBytes stateBytes unsoundBytes outcomeBytes outcome
+unfolding ifLt digitsWithin decimal field brokenBytes countedBytes stoppedBytes finishedBytes stateBytes unsoundBytes outcomeBytes outcome ofParts
 broken-row = refl
 
 -- `broken 0 none`
 broken-nowhere : outcomeBytes (outcome Running 0 Somewhere) ≡ 98 ∷ 114 ∷ 111 ∷ 107 ∷ 101 ∷ 110 ∷ 32 ∷ 48 ∷ 32 ∷ 110 ∷ 111 ∷ 110 ∷ 101 ∷ []
-unfolding ifLt digitsWithin decimal field brokenBytes countedBytes stoppedBytes finishedBytes stateBytes unsoundBytes outcomeBytes outcome
+unfolding ifLt digitsWithin decimal field brokenBytes countedBytes stoppedBytes finishedBytes stateBytes unsoundBytes outcomeBytes outcome ofParts
 broken-nowhere = refl
 
 -- `run -1`, its field 1

@@ -7,6 +7,7 @@ use Rattle.base_prelude.specs.Choice.{ifTrue}
 use Rattle.base_limits.specs.declared.State.{State}
 use Rattle.base_limits.specs.declared.State.the-variants.{Running, Finished, Stopped}
 use Rattle.base_limits.specs.declared.Machine.{Machine}
+use Rattle.base_limits.specs.Record.{movedTo, withState}
 use Rattle.test_lines.specs.Fields.{noNumber}
 use Rattle.test_text.specs.Fields.{hasWord}
 use Rattle.test_text.specs.Numbers.{fieldValue, hasValues}
@@ -42,13 +43,10 @@ stopped-word = 115 ∷ 116 ∷ 111 ∷ 112 ∷ 112 ∷ 101 ∷ 100 ∷ 32 ∷ []
 -- one of its numbers
 unfoldable pub pokeNumber : List ℕ → Machine → Machine
 pokeNumber l r =
-    ifTrue (hasWord l 2 next-word) (record { state = r .state; next = fieldValue l 3 % noNumber; frame = r .frame; used = r .used; top = r .top })
-    (ifTrue (hasWord l 2 frame-word) (record { state = r .state; next = r .next; frame = fieldValue l 3 % noNumber; used = r .used; top = r .top })
-    (ifTrue (hasWord l 2 used-word) (record { state = r .state; next = r .next; frame = r .frame; used = fieldValue l 3 % noNumber; top = r .top })
-    (ifTrue (hasWord l 2 top-word) (record { state = r .state; next = r .next; frame = r .frame; used = r .used; top = fieldValue l 3 % noNumber }) r)))
-
-unfoldable pub withState : State → Machine → Machine
-withState q r = record { state = q; next = r .next; frame = r .frame; used = r .used; top = r .top }
+    ifTrue (hasWord l 2 next-word) (movedTo r (fieldValue l 3 % noNumber) (r .frame) (r .used) (r .top))
+    (ifTrue (hasWord l 2 frame-word) (movedTo r (r .next) (fieldValue l 3 % noNumber) (r .used) (r .top))
+    (ifTrue (hasWord l 2 used-word) (movedTo r (r .next) (r .frame) (fieldValue l 3 % noNumber) (r .top))
+    (ifTrue (hasWord l 2 top-word) (movedTo r (r .next) (r .frame) (r .used) (fieldValue l 3 % noNumber)) r)))
 
 -- its state
 unfoldable pub pokeState : List ℕ → Machine → Machine

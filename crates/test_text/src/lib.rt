@@ -22,7 +22,7 @@ ghost use Rattle.vm_definitions.specs.Access.{storeFrom};
 ghost use Rattle.test_text.specs.Fields.{countFields, hasWord, wordEnd, rawAt};
 ghost use Rattle.test_text.specs.Numbers.{negatedOf, fieldValue, areValues, hasValues, isDigits, longDigit, longNumber, listed, argumentsOf};
 ghost use Rattle.test_text.specs.Answers.{addAll, fieldBytes, plainBytes, brokenBytes, startedBytes, rejectedBytes, countedBytes, stoppedBytes, finishedBytes, stateBytes, unsoundBytes, outcomeBytes, recordBytes, numbersFrom, wordsBytes, holdsBytes};
-ghost use Rattle.test_text.specs.Records.{pokeNumber, withState, pokeState, isNumberPoke, isStatePoke, isRecordPoke, pokeRecord};
+ghost use Rattle.test_text.specs.Records.{pokeNumber, pokeState, isNumberPoke, isStatePoke, isRecordPoke, pokeRecord};
 ghost use Rattle.test_text.specs.Buffers.{lesserOf, behindOf, changedIn, stored, bytesStored};
 
 // Sizes of the buffers of a case.
@@ -447,40 +447,23 @@ pub fn read_arguments(l: &[u8], arguments: &mut [u32; 16]) -> usize
 }
 
 // A record with one of its numbers changed.
-fn poke_number(l: &[u8], mut r: Machine) -> Machine
+fn poke_number(l: &[u8], r: Machine) -> Machine
     ensures { λ z. ⌜ z ≡ pokeNumber (now (l .entry)) r ⌝ }
 {
     let v = narrow(value(l, 3));
     if has_word(l, 2, b"next ") {
-        r.next = v;
-        return r;
+        return Machine::moved(r, v, r.frame, r.used, r.top);
     }
     if has_word(l, 2, b"frame ") {
-        r.frame = v;
-        return r;
+        return Machine::moved(r, r.next, v, r.used, r.top);
     }
     if has_word(l, 2, b"used ") {
-        r.used = v;
-        return r;
+        return Machine::moved(r, r.next, r.frame, v, r.top);
     }
     if has_word(l, 2, b"top ") {
-        r.top = v;
-        return r;
+        return Machine::moved(r, r.next, r.frame, r.used, v);
     }
     r
-}
-
-// A record in another state.
-fn with_state(q: State, r: Machine) -> Machine
-    ensures { λ z. ⌜ z ≡ withState q r ⌝ }
-{
-    Machine {
-        state: q,
-        next: r.next,
-        frame: r.frame,
-        used: r.used,
-        top: r.top,
-    }
 }
 
 // A record with its state changed.
@@ -489,11 +472,11 @@ fn poke_state(l: &[u8], r: Machine) -> Machine
 {
     let v = narrow(value(l, 3));
     if has_word(l, 2, b"finished ") {
-        return with_state(State::Finished(v), r);
+        return Machine::with_state(State::Finished(v), r);
     }
     if has_word(l, 2, b"stopped ") {
         let at = narrow(value(l, 4));
-        return with_state(
+        return Machine::with_state(
             State::Stopped {
                 number: v,
                 statement: at,
@@ -501,7 +484,7 @@ fn poke_state(l: &[u8], r: Machine) -> Machine
             r,
         );
     }
-    with_state(State::Running, r)
+    Machine::with_state(State::Running, r)
 }
 
 // Whether a line names a number of the record.

@@ -13,10 +13,10 @@ use borrow.Author.Tests.{lt-ltb, ltb-false, eqb-false}
 use Rattle.base_prelude.specs.Choice.{ifLt, ifEq}
 use Rattle.base_prelude.specs.Lists.{zeros}
 use Rattle.base_prelude.proofs.Choice.{ifEq-yes, ifEq-no, ifLt-no, ifTrue-no, true-false}
-use Rattle.prog_tables.specs.Tests.{allOf}
+use Rattle.prog_tables.specs.Tests.{oneOf, allOf}
 use Rattle.prog_tables.specs.Statement.{Row, operandKind, operandNumber, hasExpression, isCall, usedBy, rowAt, rowFrom, slotWords, encode}
 use Rattle.prog_tables.specs.Nesting.{hasTarget}
-use Rattle.prog_tables.specs.Faults.{hasWord}
+use Rattle.prog_tables.specs.Faults.{isCallRow, hasWord}
 use Rattle.prog_tables.specs.WellFormed.{hasOperands}
 use Rattle.prog_tables.specs.Canonical.{usesWord, unusedZero, zeroFrom}
 use Rattle.prog_tables.specs.declared.Operand.{Operand}
@@ -36,7 +36,7 @@ use Rattle.thm_canonical.proofs.Zeros.{below-all, used-or-zero, neither
 pub record Bare (x : Row) : Type 0 where
   pub words : (x .kind ≡ 1 → ⊥) → hasWord (x .kind) ≡ false → hasTarget (x .kind) ≡ false → (x .kind ≡ 10 → ⊥) → x .a ≡ 0
   pub owns : (x .kind ≡ 1 → ⊥) → (x .kind ≡ 3 → ⊥) → x .b ≡ 0
-  pub plain : hasExpression (x .kind) ≡ false → x .expr ≡ 0
+  pub plain : oneOf (hasExpression (x .kind)) (isCallRow (x .kind)) ≡ false → x .expr ≡ 0
   pub uncalled : (x .kind ≡ 3 → ⊥) → isCall (x .kind) (x .expr) ≡ false → x .callee ≡ 0
   pub idle : hasOperands (x .kind) ≡ false → x .count ≡ 0
   pub unlisted : (x .kind ≡ 7 → ⊥) → x .address ≡ Unlisted
@@ -113,7 +113,7 @@ module _ (f : ℕ → Row) (c r : ℕ) (a : f r .kind ≡ 1 → ⊥) (b : hasWor
 
 -- what an accepted outline says of row r (crate thm_line_rows): of a kind, with its parts, up to a token
 pub record Quiet (kind : ℕ) (p : Parts) (next : ℕ) : Type 0 where
-  pub plain : hasExpression kind ≡ false → p .expr ≡ 0
+  pub plain : oneOf (hasExpression kind) (isCallRow kind) ≡ false → p .expr ≡ 0
   pub idle : hasOperands kind ≡ false → next - p .first ≡ 0
   pub shaped : hasOperands kind ≡ true → usedBy kind (p .expr) (next - p .first) ≡ next - p .first
   pub uncalled : isCall kind (p .expr) ≡ false → p .callee ≡ 0

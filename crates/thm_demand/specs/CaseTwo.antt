@@ -6,7 +6,7 @@ use Prim.Native.Nat.{ℕ}
 use lib.ListN.{replicate}
 use Rattle.base_limits.specs.declared.Width.the-variants.{Bits32}
 use Rattle.base_limits.specs.declared.State.the-variants.{Finished}
-use Rattle.base_limits.specs.Fresh.{freshOf}
+use Rattle.base_limits.specs.Record.{freshOf}
 use Rattle.prog_tables.specs.Label.{Tables}
 use Rattle.check_source.specs.Check.{Filled, lent, checkOf}
 use Rattle.app_listing.specs.Cases.{case1}

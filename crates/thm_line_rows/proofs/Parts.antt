@@ -20,9 +20,10 @@ use Rattle.parse_shapes.specs.Shapes.{isName, isOperator, operandsFrom, callFro
 use Rattle.prog_tables.specs.Tests.{both, oneOf, allBelow}
 use Rattle.prog_tables.specs.Statement.{hasExpression, isTest, isCall, expressionUses, usedBy}
 use Rattle.prog_tables.specs.Statement as statement
-use Rattle.prog_tables.specs.Faults.{expressionListed}
+use Rattle.prog_tables.specs.Faults.{expressionListed, isCallRow}
 use Rattle.prog_tables.specs.WellFormed.{hasOperands}
-use Rattle.prog_tables.proofs.Each.{below-at, both-left, both-right}
+use Rattle.prog_tables.proofs.Each.{below-at, both-left, both-right, one-no, one-rest}
+use Rattle.prog_tables.proofs.CallRows.{quiet-row, listed-none, listed-expression, listed-call}
 use Rattle.res_scope.specs.Parts.{parts, symbolParts, expressionParts, returnParts, listsOperands, plainParts, partsOf}
 use Rattle.res_scope.specs.declared.Parts.{Parts}
 use Rattle.thm_line_rows.specs.Parted.{Parted}
@@ -161,8 +162,8 @@ module _ (kind : ℕ) (x : hasExpression kind ≡ true) where
   unfolding isCall hasExpression ifLt
   call-is ex = ifEq-no _ _ (no-expression 11 refl) ∙ ifEq-no _ _ (no-expression 12 refl) ∙ ifTrue-yes _ _ x
 
-  no-plain : {P : Type 0} → hasExpression kind ≡ false → P
-  no-plain h = true-false (sym x ∙ h)
+  no-plain : {P : Type 0} → oneOf (hasExpression kind) (isCallRow kind) ≡ false → P
+  no-plain h = true-false (sym x ∙ one-no (hasExpression kind) (isCallRow kind) h)
 
   module _ (t : List ℕ) (i₀ i e : ℕ) (o : i₀ < i) (l : e ≤ i + 10) where
     call-parted : kindAt t (i + 1) ≡ 3 → operandsFrom t (i + 2) e ≡ true → Parted t kind i₀ e (parts 2 (i + 1) (i + 2))
@@ -175,7 +176,7 @@ module _ (kind : ℕ) (x : hasExpression kind ≡ true) where
           shaped = λ _. uses-is 2 (e - (i + 2));
           idle = λ h. absurd (has-operands h);
           few = omega arith;
-          listed = λ _. refl;
+          listed = listed-expression kind 2 x refl;
           plain = no-plain;
           operands = r .1;
           called = λ _. (omega arith, omega (arith, r .0), a);
@@ -204,7 +205,7 @@ module _ (kind : ℕ) (x : hasExpression kind ≡ true) where
           shaped = λ _. uses-is w (e - (i + 1)) ∙ operator-uses w (e - (i + 1)) h ∙ sym c;
           idle = λ z. absurd (has-operands z);
           few = omega (arith, operator-few w h);
-          listed = λ _. operator-listed w h;
+          listed = listed-expression kind w x (operator-listed w h);
           plain = no-plain;
           operands = r .1;
           called = λ z. true-false (sym (sym (ne-eqb w 2 (λ y. omega (arith, s .0))) ∙ sym (call-is w) ∙ z));
@@ -222,7 +223,7 @@ module _ (kind : ℕ) (x : hasExpression kind ≡ true) where
           shaped = λ _. uses-is 1 (e - i) ∙ d;
           idle = λ z. absurd (has-operands z);
           few = omega arith;
-          listed = λ _. refl;
+          listed = listed-expression kind 1 x refl;
           plain = no-plain;
           operands = r .1;
           called = λ z. true-false (sym (sym (call-is 1) ∙ z));
@@ -273,7 +274,7 @@ module _ (t : List ℕ) (kind i e : ℕ) (o : i < e) where
         shaped = λ z. true-false (sym z ∙ a);
         idle = λ _. refl;
         few = omega arith;
-        listed = λ z. true-false (sym z ∙ c);
+        listed = listed-none kind 0 c (quiet-row kind 0 d);
         plain = λ _. refl;
         operands = λ j p q. let z : ⊥ = omega arith in absurd z;
         called = λ z. true-false (sym z ∙ d);
@@ -291,7 +292,7 @@ module _ (t : List ℕ) (kind i e : ℕ) (o : i < e) where
         shaped = λ _. z;
         idle = λ _. refl;
         few = omega arith;
-        listed = λ _. refl;
+        listed = refl;
         plain = λ _. refl;
         operands = λ j p q. let y : ⊥ = omega arith in absurd y;
         called = λ y. true-false (sym y);
@@ -350,7 +351,7 @@ module _ (kind : ℕ) (h : listTest kind ≡ true) where
         shaped = λ _. list-uses (e - (i + 1)) ∙ q;
         idle = λ z. true-false (sym list-has ∙ z);
         few = l;
-        listed = λ z. true-false (sym z ∙ list-plain);
+        listed = listed-none kind 0 list-plain (quiet-row kind 0 list-quiet);
         plain = λ _. refl;
         operands = r .1;
         called = λ z. true-false (sym z ∙ list-quiet);
@@ -368,14 +369,14 @@ test-parted t kind i e a b h c =
     list-parted kind (range-at listTest 14 6 kind list-tests a b) t i e h (omega arith) (ifTrue-yes _ _ (range-at isTest 14 6 kind tests-are a b) ∙ sym c)
 
 unfoldable callTest : ℕ → Bool
-callTest k = both (hasOperands k) (both (not (hasExpression k)) (both (isCall k 0) (not (listsOperands k))))
+callTest k = both (hasOperands k) (both (not (hasExpression k)) (both (isCallRow k) (both (isCall k 2) (not (listsOperands k)))))
 
 calls-are : allBelow (λ j. callTest (11 + j)) 2 ≡ true
 unfolding allBelow callTest listsOperands hasOperands hasExpression isTest isCall ifLt ifEq ifTrue
 calls-are = refl
 
 module _ (kind : ℕ) (h : callTest kind ≡ true) where
-  calls-rest : both (not (hasExpression kind)) (both (isCall kind 0) (not (listsOperands kind))) ≡ true
+  calls-rest : both (not (hasExpression kind)) (both (isCallRow kind) (both (isCall kind 2) (not (listsOperands kind)))) ≡ true
   unfolding callTest
   calls-rest = both-right (hasOperands kind) _ h
 
@@ -386,17 +387,23 @@ module _ (kind : ℕ) (h : callTest kind ≡ true) where
   calls-plain : hasExpression kind ≡ false
   calls-plain = untrue _ (both-left _ _ calls-rest)
 
-  calls-call : isCall kind 0 ≡ true
-  calls-call = both-left _ _ (both-right (not (hasExpression kind)) _ calls-rest)
+  calls-row : isCallRow kind ≡ true
+  calls-row = both-left _ _ (both-right (not (hasExpression kind)) _ calls-rest)
+
+  calls-end : both (isCall kind 2) (not (listsOperands kind)) ≡ true
+  calls-end = both-right (isCallRow kind) _ (both-right (not (hasExpression kind)) _ calls-rest)
+
+  calls-call : isCall kind 2 ≡ true
+  calls-call = both-left _ _ calls-end
 
   calls-lists : listsOperands kind ≡ false
-  calls-lists = untrue _ (both-right (isCall kind 0) _ (both-right (not (hasExpression kind)) _ calls-rest))
+  calls-lists = untrue _ (both-right (isCall kind 2) _ calls-end)
 
-  calls-uses : (m : ℕ) → usedBy kind 0 m ≡ m
+  calls-uses : (m : ℕ) → usedBy kind 2 m ≡ m
   unfolding usedBy
   calls-uses m = ifTrue-no _ _ calls-plain ∙ ifTrue-yes _ _ calls-call
 
-  calls-parted : (t : List ℕ) (i e : ℕ) → callFrom t (i + 1) e ≡ true → e ≤ i + 10 → Parted t kind i e (parts 0 (i + 1) (i + 2))
+  calls-parted : (t : List ℕ) (i e : ℕ) → callFrom t (i + 1) e ≡ true → e ≤ i + 10 → Parted t kind i e (parts 2 (i + 1) (i + 2))
   calls-parted t i e b l =
       let c = call-inside t i e b in
       let r = operands-inside t (i + 2) e (c .1) in
@@ -406,8 +413,8 @@ module _ (kind : ℕ) (h : callTest kind ≡ true) where
         shaped = λ _. calls-uses (e - (i + 2));
         idle = λ z. true-false (sym calls-has ∙ z);
         few = omega arith;
-        listed = λ z. true-false (sym z ∙ calls-plain);
-        plain = λ _. refl;
+        listed = listed-call kind calls-row;
+        plain = λ z. true-false (sym calls-row ∙ one-rest (hasExpression kind) (isCallRow kind) z);
         operands = r .1;
         called = λ _. (omega arith, omega (arith, r .0), c .0);
         uncalled = λ z. true-false (sym calls-call ∙ z);
@@ -436,7 +443,7 @@ module _ (t : List ℕ) (kind i e : ℕ) where
   unfolding plainParts
   plain-list h = ifTrue-yes _ _ h
 
-  plain-call : listsOperands kind ≡ false → 11 ≤ kind → kind < 13 → plainParts kind i e ≡ parts 0 (i + 1) (i + 2)
+  plain-call : listsOperands kind ≡ false → 11 ≤ kind → kind < 13 → plainParts kind i e ≡ parts 2 (i + 1) (i + 2)
   unfolding plainParts
   plain-call h a b =
       ifTrue-no _ _ h

@@ -16,7 +16,8 @@ use Rattle.parse_outline.specs.Outline as outline
 use Rattle.parse_outline.specs.declared.Parsed.the-variants as answer
 use Rattle.prog_tables.specs.Statement.{hasExpression, isCall, usedBy}
 use Rattle.prog_tables.specs.Statement as statement
-use Rattle.prog_tables.specs.Faults.{expressionListed}
+use Rattle.prog_tables.specs.Tests.{oneOf}
+use Rattle.prog_tables.specs.Faults.{isCallRow, expressionFault}
 use Rattle.prog_tables.specs.WellFormed.{hasOperands}
 use Rattle.res_skeleton.specs.Skeleton.{parametersOf, skeletonOf}
 use Rattle.res_skeleton.proofs.Laws.{kind-is, parameters-are}
@@ -63,7 +64,7 @@ module _ (w : Width) (t : List ℕ) (n c l : ℕ) (x y : List ℕ) (long : lengt
       → usedBy (kindOf k m) (partsAt t k m .expr) (endToken k m - partsAt t k m .first) ≡ endToken k m - partsAt t k m .first
   row-shaped = row-parted .shaped
 
-  pub row-listed : hasExpression (kindOf k m) ≡ true → expressionListed (kindOf k m) (partsAt t k m .expr) ≡ true
+  pub row-listed : expressionFault (kindOf k m) (partsAt t k m .expr) ≡ false
   row-listed = row-parted .listed
 
   pub row-few : endToken k m - partsAt t k m .first ≤ 8
@@ -73,7 +74,7 @@ module _ (w : Width) (t : List ℕ) (n c l : ℕ) (x y : List ℕ) (long : lengt
   pub row-idle : hasOperands (kindOf k m) ≡ false → endToken k m - partsAt t k m .first ≡ 0
   row-idle q = omega (arith, row-parted .idle q)
 
-  pub row-plain : hasExpression (kindOf k m) ≡ false → partsAt t k m .expr ≡ 0
+  pub row-plain : oneOf (hasExpression (kindOf k m)) (isCallRow (kindOf k m)) ≡ false → partsAt t k m .expr ≡ 0
   row-plain = row-parted .plain
 
   -- operand tokens

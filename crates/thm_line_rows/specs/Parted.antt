@@ -7,8 +7,9 @@ use Prim.Native.Nat.{ℕ, _-_, _≤_, _<_}
 use Rattle.lang_kinds.specs.Tokens as token
 use Rattle.parse_lines.specs.Tokens.{kindAt}
 use Rattle.prog_tables.specs.Layout.{noExpression}
+use Rattle.prog_tables.specs.Tests.{oneOf}
 use Rattle.prog_tables.specs.Statement.{hasExpression, isCall, usedBy}
-use Rattle.prog_tables.specs.Faults.{expressionListed}
+use Rattle.prog_tables.specs.Faults.{isCallRow, expressionFault}
 use Rattle.prog_tables.specs.WellFormed.{hasOperands}
 use Rattle.res_scope.specs.declared.Parts.{Parts}
 
@@ -20,9 +21,9 @@ pub record Parted (t : List ℕ) (kind i e : ℕ) (p : Parts) : Type 0 where
   pub shaped : hasOperands kind ≡ true → usedBy kind (p .expr) (e - p .first) ≡ e - p .first
   pub idle : hasOperands kind ≡ false → p .first ≡ e
   pub few : e - p .first ≤ 8
-  -- the kind of its expression
-  pub listed : hasExpression kind ≡ true → expressionListed kind (p .expr) ≡ true
-  pub plain : hasExpression kind ≡ false → p .expr ≡ noExpression
+  -- the kind of its expression; no other row has one
+  pub listed : expressionFault kind (p .expr) ≡ false
+  pub plain : oneOf (hasExpression kind) (isCallRow kind) ≡ false → p .expr ≡ noExpression
   -- a symbol, a substitute, an integer, or `@` and one of these
   pub operands : (j : ℕ) → p .first ≤ j → j < e → (token.symbol ≤ kindAt t j) × (kindAt t j < token.string)
   -- a row that calls names a function, no other row does

@@ -1,7 +1,7 @@
 -- The tests of a row on its names, from its faults: none.
 -- Assumes nothing.
 use mathlib.Core.Path.{_≡_, refl, sym, _∙_, ap, ap₂, subst}
-use mathlib.Core.Bool.{Bool, true, false}
+use mathlib.Core.Bool.{Bool, true, false, not}
 use mathlib.Core.List.{List, [], _∷_, _++_}
 use mathlib.Core.Logic.{_⊎_, inl, inr, ⊎-elim}
 use Prim.Native.Nat.{ℕ, zero, suc, _+_, _*_, _-_, _≤_, _<_, min}
@@ -19,7 +19,7 @@ use Rattle.prog_tables.specs.Tests.{both, oneOf, given, all, allOf, someBelow}
 use Rattle.prog_tables.specs.Statement.{Row, rowAt, isCall, hasExpression, usedBy}
 use Rattle.prog_tables.specs.Frames.{inScope}
 use Rattle.prog_tables.specs.Label.{Label, isData, isFunctionLabel}
-use Rattle.prog_tables.specs.Faults.{addressListed, expressionListed}
+use Rattle.prog_tables.specs.Faults.{addressListed, expressionFault}
 use Rattle.prog_tables.specs.WellFormed.{labelled, jumps, calls, shaped, hasOperands, operandGood, operandsGood, addressGood, setsLocal}
 use Rattle.prog_tables.specs.declared.Operand.{Operand}
 use Rattle.prog_tables.specs.declared.Operand.the-variants.{Constant, Local, Address, AtConstant, AtLocal, AtAddress, Unlisted}
@@ -239,12 +239,12 @@ module _ (same : ℕ → ℕ → Bool) (t k y : List ℕ) (l : ℕ) (w z : List 
         (both-true _ _ (ap (labelled h l isFunctionLabel) a ∙ m .5) refl)))))
 
     -- as many operands as the expression or statement takes
-    pub shape-passes : (hasExpression kind ≡ true → expressionListed kind (p .expr) ≡ true) → (hasOperands kind ≡ true → usedBy kind (p .expr) (next - p .first) ≡ next - p .first)
+    pub shape-passes : expressionFault kind (p .expr) ≡ false → (hasOperands kind ≡ true → usedBy kind (p .expr) (next - p .first) ≡ next - p .first)
         → shaped f r ≡ true
     unfolding shaped
     shape-passes a b =
         both-true _ _
-        (given-true (hasExpression (f r .kind)) _ (λ e. ap₂ expressionListed kind-is expr-is ∙ a (ap hasExpression (sym kind-is) ∙ e)))
+        (ap not (ap₂ (λ (k e : ℕ). expressionFault k e) kind-is expr-is ∙ a))
         (given-true (hasOperands (f r .kind)) _ (λ e.
         eq-eqb (f r .count) (usedBy (f r .kind) (f r .expr) (f r .count))
         (count-is ∙ sym (b (ap hasOperands (sym kind-is) ∙ e)) ∙ sym (used-same (f r .kind) kind (f r .expr) (p .expr) (f r .count) (next - p .first) kind-is expr-is count-is))))

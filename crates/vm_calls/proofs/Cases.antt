@@ -11,13 +11,14 @@ use borrow.Author.Tests.{lt-ltb, le-ltb, eq-eqb, ne-eqb}
 use Rattle.base_prelude.specs.Choice.{ifLt, ifEq, ifTrue}
 use Rattle.base_limits.specs.declared.Width.the-variants.{Bits32}
 use Rattle.base_limits.specs.declared.Machine.{Machine}
+use Rattle.base_limits.specs.Record.{stopped, movedTo, ended}
 use Rattle.base_word.specs.Bytes.{wordBytes}
 use Rattle.prog_tables.specs.Statement.{Row, rowAt, slots}
 use Rattle.prog_tables.specs.declared.Operand.{Operand}
 use Rattle.vm_definitions.specs.Access.{wordGood, storeFrom}
 use Rattle.vm_definitions.specs.Operands.{Words, words, bad, numberIn, readAll}
 use Rattle.vm_definitions.specs.Frames.{returnsTo, callerFrame, topAtEntry, frameWords, leavesGood, resumptionOf}
-use Rattle.vm_definitions.specs.Step.{stopped, movedTo, ended, effected, callBy, tailCallBy, handedTo, handedBy, argumentsOf}
+use Rattle.vm_definitions.specs.Step.{effected, callBy, tailCallBy, handedTo, handedBy, argumentsOf}
 use Rattle.vm_definitions.specs.Lent.{world, left}
 use Rattle.vm_definitions.specs.declared.Outcome.{Outcome}
 use Rattle.vm_definitions.specs.declared.Resumption.{Resumption}

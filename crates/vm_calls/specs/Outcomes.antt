@@ -9,13 +9,14 @@ use Rattle.base_prelude.specs.Choice.{ifTrue}
 use Rattle.base_limits.specs.declared.Width.{Width}
 use Rattle.base_limits.specs.declared.Width.the-variants.{Bits32}
 use Rattle.base_limits.specs.declared.Machine.{Machine}
-use Rattle.prog_tables.specs.StatementRow as row
-use Rattle.prog_tables.specs.Layout.{statementRow, noExpression, callExpression}
-use Rattle.prog_tables.specs.Statement.{Row, operandAt, rowAt, hasExpression, usedBy}
+use Rattle.base_limits.specs.Record.{stopped}
+use Rattle.prog_tables.specs.Layout.{noExpression, callExpression}
+use Rattle.prog_tables.specs.Places.{slotAt}
+use Rattle.prog_tables.specs.Statement.{Row, rowAt, hasExpression, usedBy}
 use Rattle.prog_tables.specs.Faults.{expressionListed}
 use Rattle.vm_definitions.specs.Operands.{Words, words, bad, readOf}
 use Rattle.vm_definitions.specs.Frames.{resumptionOf}
-use Rattle.vm_definitions.specs.Step.{World, Effect, After, stopped, effected, workedOf, argumentsOf, assigned, setByteBy, setWordBy, callBy, tailCallBy, handedTo, handedBy, addressOf, stops}
+use Rattle.vm_definitions.specs.Step.{World, Effect, After, effected, workedOf, argumentsOf, assigned, setByteBy, setWordBy, callBy, tailCallBy, handedTo, handedBy, addressOf, stops}
 use Rattle.vm_definitions.specs.Access.{wordGood}
 use Rattle.vm_definitions.specs.Lent.{world}
 use Rattle.vm_definitions.specs.declared.Outcome.{Outcome}
@@ -76,7 +77,7 @@ settingWord w f c x = setWordBy w f c x (argumentsOf w f c x)
 
 -- the operand in slot i of row n, read in the frame at s
 abbrev pub slotRead : List ℕ → ℕ → List ℕ → ℕ → List ℕ → ℕ → Read
-slotRead t n st s m i = readOf Bits32 st s m (operandAt t (n * statementRow + row.operands + i * 2))
+slotRead t n st s m i = readOf Bits32 st s m (slotAt t n i)
 
 -- k words, where all were read
 abbrev pub wordsIn : Bool → List ℕ → ℕ → Words

@@ -1,9 +1,6 @@
 // Calls and returns: arguments, new frames, the way a value is handed back; and the answers that statements give.
 use base_limits::Machine;
-use base_limits::State;
 use lang_kinds::Kind;
-use prog_tables::Operand;
-use prog_tables::StatementRow;
 use prog_tables::Table;
 use vm_definitions::Broken;
 use vm_definitions::Outcome;
@@ -12,17 +9,19 @@ use vm_definitions::Resumption;
 use vm_definitions::Worked;
 ghost use mathlib.Core.Path.{_≡_};
 ghost use mathlib.Core.Bool.{true};
-ghost use Prim.Native.Nat.{suc, _+_, _*_, _≤_, _<_, min};
+ghost use Prim.Native.Nat.{suc, _+_, _≤_, _<_, min};
 ghost use lib.ListN.{length, take};
+ghost use Rattle.base_limits.specs.Limits.{greatestWord, memoryBytes, stackWords};
 ghost use Rattle.base_limits.specs.declared.Width.the-variants.{Bits32};
-ghost use Rattle.prog_tables.specs.Statement.{rowAt, slots, operandAt};
+ghost use Rattle.base_limits.specs.Record.{goingOn, movedTo, ended};
+ghost use Rattle.prog_tables.specs.Statement.{rowAt, slots};
 ghost use Rattle.vm_definitions.specs.Operands.{readAll};
 ghost use Rattle.vm_definitions.specs.Access.{storeFrom};
 ghost use Rattle.vm_definitions.specs.Frames.{returnsTo, callerFrame, topAtEntry, frameWords, leavesGood};
-ghost use Rattle.vm_definitions.specs.Step.{goingOn, movedTo, ended, workedOf};
+ghost use Rattle.vm_definitions.specs.Step.{workedOf};
 ghost use Rattle.vm_definitions.specs.Lent.{world, left};
-ghost use Rattle.prog_tables.specs.StatementRow as row;
-ghost use Rattle.prog_tables.specs.Layout.{statementRow};
+ghost use Rattle.prog_tables.specs.Layout.{operandSlots};
+ghost use Rattle.prog_tables.specs.Places.{placeOf};
 ghost use Rattle.vm_calls.specs.Outcomes.{oneStep, halted, after, calling, callingWith, atCalling, tailCalling, tailCallingWith, handing, handingTo, slotRead, wordsIn, Expressed, Calls};
 
 // A statement that took effect.
@@ -40,41 +39,14 @@ fn count_one(q: Machine) -> Outcome
 pub fn go_on(r: Machine, n: u32, top: u32) -> Outcome
     ensures { λ o. ⌜ o ≡ oneStep (goingOn r n top) ⌝ }
 {
-    let state = r.state;
-    count_one(Machine {
-        state: state,
-        next: n,
-        frame: r.frame,
-        used: r.used,
-        top: top,
-    })
-}
-
-// The record in another frame.
-fn move_to(r: Machine, n: u32, frame: u32, used: u32, top: u32) -> Machine
-    ensures { λ q. ⌜ q ≡ movedTo r n frame used top ⌝ }
-{
-    let state = r.state;
-    Machine {
-        state: state,
-        next: n,
-        frame: frame,
-        used: used,
-        top: top,
-    }
+    count_one(Machine::going_on(r, n, top))
 }
 
 // The run has finished with a word.
 fn finish(v: u32, top: u32) -> Outcome
     ensures { λ o. ⌜ o ≡ oneStep (ended Bits32 v top) ⌝ }
 {
-    count_one(Machine {
-        state: State::Finished(v),
-        next: 4294967295,
-        frame: 4294967295,
-        used: 0,
-        top: top,
-    })
+    count_one(Machine::ended(v, top))
 }
 
 // The statement stops; nothing is counted.
@@ -82,42 +54,22 @@ pub fn stop(r: Machine, k: u32) -> Outcome
     ensures { λ o. ⌜ o ≡ halted r k ⌝ }
 {
     Outcome {
-        machine: Machine {
-            state: State::Stopped {
-                number: k,
-                statement: r.next,
-            },
-            next: r.next,
-            frame: r.frame,
-            used: r.used,
-            top: r.top,
-        },
+        machine: Machine::stopped(r, k),
         count: 0,
         broken: Broken::No,
     }
 }
 
-// Operand i of row n.
-pub fn slot_at(t: &[u32], n: u32, i: u32) -> Operand
-    requires { ⌜ i < 8 ⌝ }
-    ensures { λ r. ⌜ r ≡ operandAt (now (t .entry)) (n * statementRow + row.operands + i * 2) ⌝ }
-{
-    prog_tables::operand_at(
-        t,
-        n as usize * Table::STATEMENT_ROW + StatementRow::OPERANDS + i as usize * 2,
-    )
-}
-
 // The value of the row's expression, which is no call.
 pub fn work(t: &[u32], c: u32, r: Machine, st: &[u32], m: &[u8]) -> Worked
-    requires { ⌜ (Expressed (rowAt (now t) (r .next))) × (length (now m) ≤ 65536) ⌝ }
+    requires { ⌜ (Expressed (rowAt (now t) (r .next))) × (length (now m) ≤ memoryBytes) ⌝ }
     ensures { λ x. ⌜ x ≡ workedOf Bits32 (rowAt (now (t .entry))) c (world r (now (st .entry)) (now (m .entry))) ⌝ }
 {
     let n = r.next;
     let s = r.frame;
     let top = r.top;
     let e = prog_tables::expression_at(t, n);
-    vm_operands::eval(e, slot_at(t, n, 0), slot_at(t, n, 1), st, s, m, top)
+    vm_operands::eval(e, prog_tables::slot_at(t, n, 0), prog_tables::slot_at(t, n, 1), st, s, m, top)
 }
 
 // ---- calls
@@ -125,23 +77,23 @@ pub fn work(t: &[u32], c: u32, r: Machine, st: &[u32], m: &[u8]) -> Worked
 // The words of arguments, where all could be read.
 pub struct Arguments {
     pub good: bool,
-    pub words: [u32; 8],
+    pub words: [u32; Table::OPERAND_SLOTS],
 }
 
 // Argument i of row n; s is where the frame starts.
 fn read_slot(t: &[u32], n: u32, i: u32, st: &[u32], s: u32, m: &[u8]) -> Read
-    requires { ⌜ i < 8 ⌝ }
+    requires { ⌜ i < operandSlots ⌝ }
     ensures { λ x. ⌜ x ≡ slotRead (now (t .entry)) n (now (st .entry)) s (now (m .entry)) i ⌝ }
 {
-    vm_operands::read_operand(st, s, m, slot_at(t, n, i))
+    vm_operands::read_operand(st, s, m, prog_tables::slot_at(t, n, i))
 }
 
 // The first k arguments of row n, left to right.
 fn read_arguments(t: &[u32], n: u32, k: u32, st: &[u32], s: u32, m: &[u8]) -> Arguments
-    requires { ⌜ k ≤ 8 ⌝ }
-    ensures { λ a. ⌜ wordsIn (a .good) (a .words) k ≡ readAll Bits32 (now (st .entry)) s (now (m .entry)) (take k (slots (now (t .entry)) (n * statementRow))) ⌝ }
+    requires { ⌜ k ≤ operandSlots ⌝ }
+    ensures { λ a. ⌜ wordsIn (a .good) (a .words) k ≡ readAll Bits32 (now (st .entry)) s (now (m .entry)) (take k (slots (now (t .entry)) (placeOf n))) ⌝ }
 {
-    let mut words = [0u32; 8];
+    let mut words = [0u32; Table::OPERAND_SLOTS];
     let mut i: u32 = 0;
     while i < k {
         let x = read_slot(t, n, i, st, s, m);
@@ -166,10 +118,10 @@ fn read_arguments(t: &[u32], n: u32, k: u32, st: &[u32], s: u32, m: &[u8]) -> Ar
 
 // How many arguments a row has: at most as many as its slots.
 fn arguments_at(t: &[u32], n: u32) -> u32
-    ensures { λ k. ⌜ (k ≡ min (rowAt (now (t .entry)) n .count) 8) × (k ≤ 8) ⌝ }
+    ensures { λ k. ⌜ (k ≡ min (rowAt (now (t .entry)) n .count) operandSlots) × (k ≤ operandSlots) ⌝ }
 {
     let k = prog_tables::count_at(t, n);
-    if k < 8 { k } else { 8 }
+    if k < Machine::PARAMETERS { k } else { Machine::PARAMETERS }
 }
 
 // A new frame of function g at a place, with k arguments: the run goes on behind its `function` line.
@@ -181,16 +133,16 @@ fn enter(
     back: u32,
     below: u32,
     top: u32,
-    words: [u32; 8],
+    words: [u32; Table::OPERAND_SLOTS],
     k: u32,
     st: &mut [u32],
 ) -> Outcome
-    requires { ⌜ (k ≤ 8) × (g < 4294967295) × (at + size ≤ 16384) ⌝ }
+    requires { ⌜ (k ≤ operandSlots) × (g < greatestWord) × (at + size ≤ stackWords) ⌝ }
     ensures { λ o. ⌜ (o ≡ oneStep (movedTo r (suc g) at (at + size) top)) × (now (st .exit) ≡ storeFrom (now (st .entry)) at (frameWords back below top (take k words) size)) ⌝ }
 {
     let to = k as usize;
     vm_memory::build_frame(st, at, back, below, top, &words[0..to], size);
-    count_one(move_to(r, g + 1, at, at + size, top))
+    count_one(Machine::moved(r, g + 1, at, at + size, top))
 }
 
 // A new frame for k arguments behind the frame in use, or stop 33.
@@ -198,12 +150,12 @@ fn push_frame(
     t: &[u32],
     c: u32,
     r: Machine,
-    words: [u32; 8],
+    words: [u32; Table::OPERAND_SLOTS],
     k: u32,
     st: &mut [u32],
     m: &[u8],
 ) -> Outcome
-    requires { ⌜ (k ≤ 8) × (rowAt (now t) (r .next) .callee < c) × (length (now st) ≤ 16384) ⌝ }
+    requires { ⌜ (k ≤ operandSlots) × (rowAt (now t) (r .next) .callee < c) × (length (now st) ≤ stackWords) ⌝ }
     ensures { λ o. ⌜ left o (now (st .exit)) (now (m .entry)) ≡ after (callingWith (wordsIn true words k)) (now (t .entry)) c r (now (st .entry)) (now (m .entry)) ⌝ }
 {
     let n = r.next;
@@ -220,7 +172,7 @@ fn push_frame(
 
 // A call in any form, its address judged: arguments, then the frame.
 pub fn call(t: &[u32], c: u32, r: Machine, st: &mut [u32], m: &[u8]) -> Outcome
-    requires { ⌜ (Calls (rowAt (now t) (r .next)) c) × (length (now st) ≤ 16384) ⌝ }
+    requires { ⌜ (Calls (rowAt (now t) (r .next)) c) × (length (now st) ≤ stackWords) ⌝ }
     ensures { λ o. ⌜ left o (now (st .exit)) (now (m .entry)) ≡ after calling (now (t .entry)) c r (now (st .entry)) (now (m .entry)) ⌝ }
 {
     let n = r.next;
@@ -237,7 +189,7 @@ pub fn call(t: &[u32], c: u32, r: Machine, st: &mut [u32], m: &[u8]) -> Outcome
 
 // `set @` with a call: the address is judged first.
 pub fn call_at(t: &[u32], c: u32, r: Machine, st: &mut [u32], m: &[u8]) -> Outcome
-    requires { ⌜ (Calls (rowAt (now t) (r .next)) c) × (length (now st) ≤ 16384) ⌝ }
+    requires { ⌜ (Calls (rowAt (now t) (r .next)) c) × (length (now st) ≤ stackWords) ⌝ }
     ensures { λ o. ⌜ left o (now (st .exit)) (now (m .entry)) ≡ after atCalling (now (t .entry)) c r (now (st .entry)) (now (m .entry)) ⌝ }
 {
     let n = r.next;
@@ -250,8 +202,8 @@ pub fn call_at(t: &[u32], c: u32, r: Machine, st: &mut [u32], m: &[u8]) -> Outco
 }
 
 // A new frame of function g in the place of the frame in use; its head stays.
-fn enter_again(r: Machine, g: u32, size: u32, words: [u32; 8], k: u32, st: &mut [u32]) -> Outcome
-    requires { ⌜ (k ≤ 8) × (g < 4294967295) × (r .frame + size ≤ 16384) ⌝ }
+fn enter_again(r: Machine, g: u32, size: u32, words: [u32; Table::OPERAND_SLOTS], k: u32, st: &mut [u32]) -> Outcome
+    requires { ⌜ (k ≤ operandSlots) × (g < greatestWord) × (r .frame + size ≤ stackWords) ⌝ }
     ensures { λ o. ⌜ (o ≡ oneStep (movedTo r (suc g) (r .frame) (r .frame + size) (topAtEntry (now (st .entry)) (r .frame)))) × (now (st .exit) ≡ storeFrom (now (st .entry)) (r .frame) (frameWords (returnsTo (now (st .entry)) (r .frame)) (callerFrame (now (st .entry)) (r .frame)) (topAtEntry (now (st .entry)) (r .frame)) (take k words) size)) ⌝ }
 {
     let s = r.frame;
@@ -267,12 +219,12 @@ fn replace_frame(
     t: &[u32],
     c: u32,
     r: Machine,
-    words: [u32; 8],
+    words: [u32; Table::OPERAND_SLOTS],
     k: u32,
     st: &mut [u32],
     m: &[u8],
 ) -> Outcome
-    requires { ⌜ (k ≤ 8) × (rowAt (now t) (r .next) .callee < c) × (length (now st) ≤ 16384) ⌝ }
+    requires { ⌜ (k ≤ operandSlots) × (rowAt (now t) (r .next) .callee < c) × (length (now st) ≤ stackWords) ⌝ }
     ensures { λ o. ⌜ left o (now (st .exit)) (now (m .entry)) ≡ after (tailCallingWith (wordsIn true words k)) (now (t .entry)) c r (now (st .entry)) (now (m .entry)) ⌝ }
 {
     let n = r.next;
@@ -287,7 +239,7 @@ fn replace_frame(
 
 // `tail-call`: all arguments are read before a word is written.
 pub fn tail_call(t: &[u32], c: u32, r: Machine, st: &mut [u32], m: &[u8]) -> Outcome
-    requires { ⌜ (Calls (rowAt (now t) (r .next)) c) × (length (now st) ≤ 16384) ⌝ }
+    requires { ⌜ (Calls (rowAt (now t) (r .next)) c) × (length (now st) ≤ stackWords) ⌝ }
     ensures { λ o. ⌜ left o (now (st .exit)) (now (m .entry)) ≡ after tailCalling (now (t .entry)) c r (now (st .entry)) (now (m .entry)) ⌝ }
 {
     let n = r.next;
@@ -349,7 +301,7 @@ pub fn hand_back(t: &[u32], c: u32, r: Machine, v: u32, st: &mut [u32], m: &mut 
             used,
             top,
         } => {
-            let q = move_to(r, call + 1, frame, used, top);
+            let q = Machine::moved(r, call + 1, frame, used, top);
             hand_to(t, c, r, v, call, frame, q, st, m)
         }
     }

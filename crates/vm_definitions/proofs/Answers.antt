@@ -11,17 +11,18 @@ use Rattle.vm_definitions.specs.declared.Broken.the-variants.{No, At, So
 use Rattle.vm_definitions.specs.declared.Broken.{Broken}
 use Rattle.vm_definitions.specs.declared.Started.{Started}
 use Rattle.base_limits.specs.declared.State.{State}
+use Rattle.base_limits.specs.Record.{freshOf}
 use Rattle.vm_definitions.specs.declared.Started.the-variants.{Begun, Refused, Unsound}
 use Rattle.base_prelude.specs.Choice as m1
 use Rattle.prog_tables.specs.Statement as m10
 use Rattle.vm_definitions.specs.Frames as m15
-use Rattle.base_limits.specs.Fresh.{freshOf}
 use Rattle.vm_definitions.specs.Step.{World, After, runOf}
 use Rattle.vm_definitions.specs.Start.{startOf, startLeaves}
 use Rattle.vm_definitions.specs.Ledger.{started, counted, fromReturn, popped, countedIn, fed, ledgerOf}
 use Rattle.prog_tables.proofs.Samples.{program}
 use Rattle.vm_definitions.proofs.Opened.{opened}
-use Rattle.vm_definitions.specs.Causes.{causeOf, firstOf, operatorMeets, withFrame}
+use Rattle.vm_definitions.specs.Causes.{causeOf, firstOf, withFrame}
+use Rattle.vm_definitions.specs.Operators.{operators, lineIn, operatorOf, operatorMeets}
 
 -- a state with the steps counted and the stack words in use, or a refused start
 data Came : Type 0 where
@@ -230,7 +231,7 @@ p10 =
     ∷ (13 ∷ 0 ∷ 0 ∷ 1 ∷ 0 ∷ 0 ∷ 1 ∷ 0 ∷ 1 ∷ 0 ∷ 0 ∷ 2 ∷ 4 ∷ [])
     ∷ (2 ∷ [])
     ∷ (1 ∷ 5 ∷ 5 ∷ 0 ∷ 3 ∷ [])
-    ∷ (12 ∷ 5 ∷ 5 ∷ 6 ∷ [])
+    ∷ (12 ∷ 5 ∷ 5 ∷ 6 ∷ 0 ∷ 0 ∷ 2 ∷ [])
     ∷ (2 ∷ 5 ∷ 5 ∷ []) ∷ [])
     ((3 ∷ 0 ∷ 0 ∷ 1 ∷ []) ∷ (4 ∷ 5 ∷ 0 ∷ 1 ∷ []) ∷ [])
     ((103 ∷ []) ∷ (102 ∷ []) ∷ []) 0
@@ -406,7 +407,7 @@ p18 =
     ∷ (13 ∷ 0 ∷ 0 ∷ 1 ∷ 0 ∷ 0 ∷ 50 ∷ 0 ∷ 2 ∷ 0 ∷ 0 ∷ 2 ∷ 3 ∷ 2 ∷ 4 ∷ [])
     ∷ (2 ∷ [])
     ∷ (1 ∷ 3 ∷ 3 ∷ 0 ∷ 5 ∷ 2 ∷ [])
-    ∷ (12 ∷ 3 ∷ 3 ∷ 4 ∷ 0 ∷ 0 ∷ 0 ∷ 0 ∷ 2 ∷ 0 ∷ 0 ∷ 2 ∷ 4 ∷ 2 ∷ 3 ∷ [])
+    ∷ (12 ∷ 3 ∷ 3 ∷ 4 ∷ 0 ∷ 0 ∷ 2 ∷ 0 ∷ 2 ∷ 0 ∷ 0 ∷ 2 ∷ 4 ∷ 2 ∷ 3 ∷ [])
     ∷ (2 ∷ 3 ∷ 3 ∷ []) ∷ [])
     ((3 ∷ 0 ∷ 0 ∷ 1 ∷ []) ∷ (4 ∷ 3 ∷ 0 ∷ 1 ∷ []) ∷ [])
     ((103 ∷ []) ∷ (102 ∷ []) ∷ []) 0
@@ -432,7 +433,7 @@ p19 =
     ∷ (1 ∷ 3 ∷ 3 ∷ 0 ∷ 4 ∷ [])
     ∷ (5 ∷ 3 ∷ 3 ∷ 4 ∷ 3 ∷ 0 ∷ 1 ∷ 0 ∷ 1 ∷ 0 ∷ 0 ∷ 1 ∷ 4 ∷ [])
     ∷ (6 ∷ 3 ∷ 3 ∷ 4 ∷ 3 ∷ 0 ∷ 2 ∷ 0 ∷ 1 ∷ 0 ∷ 0 ∷ 2 ∷ 3 ∷ [])
-    ∷ (11 ∷ 3 ∷ 3 ∷ 4 ∷ 0 ∷ 0 ∷ 0 ∷ 0 ∷ 1 ∷ 0 ∷ 0 ∷ 1 ∷ 9 ∷ [])
+    ∷ (11 ∷ 3 ∷ 3 ∷ 4 ∷ 0 ∷ 0 ∷ 2 ∷ 0 ∷ 1 ∷ 0 ∷ 0 ∷ 1 ∷ 9 ∷ [])
     ∷ (7 ∷ 3 ∷ 3 ∷ 4 ∷ 0 ∷ 0 ∷ 2 ∷ 0 ∷ 1 ∷ 1 ∷ 4 ∷ 2 ∷ 3 ∷ [])
     ∷ (13 ∷ 3 ∷ 3 ∷ 4 ∷ 0 ∷ 0 ∷ 41 ∷ 0 ∷ 2 ∷ 0 ∷ 0 ∷ 1 ∷ 0 ∷ 1 ∷ 1 ∷ [])
     ∷ (2 ∷ 3 ∷ 3 ∷ []) ∷ [])
@@ -484,7 +485,7 @@ p21 =
     ∷ (4 ∷ 0 ∷ 1 ∷ 1 ∷ 3 ∷ [])
     ∷ (2 ∷ [])
     ∷ (1 ∷ 6 ∷ 6 ∷ 0 ∷ 4 ∷ [])
-    ∷ (11 ∷ 6 ∷ 6 ∷ 7 ∷ [])
+    ∷ (11 ∷ 6 ∷ 6 ∷ 7 ∷ 0 ∷ 0 ∷ 2 ∷ [])
     ∷ (5 ∷ 6 ∷ 6 ∷ 7 ∷ 3 ∷ 0 ∷ 36 ∷ 0 ∷ 1 ∷ 0 ∷ 0 ∷ 1 ∷ 4 ∷ [])
     ∷ (13 ∷ 6 ∷ 6 ∷ 7 ∷ 0 ∷ 0 ∷ 1 ∷ 0 ∷ 1 ∷ 0 ∷ 0 ∷ 2 ∷ 3 ∷ [])
     ∷ (2 ∷ 6 ∷ 6 ∷ []) ∷ [])
@@ -664,5 +665,5 @@ tail-sum = refl
 
 -- `mod` of the least number by -1 is no cause
 mod-least : firstOf Bits32 8 8 (operatorMeets Bits32 0 42 2147483648 4294967295) ≡ 0
-unfolding firstOf operatorMeets causeOf m1.ifEq m1.ifTrue
+unfolding firstOf operatorMeets operatorOf lineIn operators causeOf m1.ifEq m1.ifTrue
 mod-least = refl

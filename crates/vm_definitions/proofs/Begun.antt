@@ -15,8 +15,8 @@ use Rattle.base_prelude.specs.Lists.{sameList}
 use Rattle.base_prelude.proofs.Choice.{true-false, either, either-eq, either-true, ifTrue-yes, ifTrue-no}
 use Rattle.base_limits.specs.Limits.{stackWords}
 use Rattle.base_limits.specs.Width.{memoryLimit}
-use Rattle.base_limits.specs.Fresh.{freshOf}
 use Rattle.base_limits.specs.declared.Width.{Width}
+use Rattle.base_limits.specs.Record.{freshOf, mark}
 use Rattle.prog_tables.specs.Tests.{both, oneOf, all, firstFrom}
 use Rattle.prog_tables.specs.Label.{Tables, rows, labelsOf, isData, isFunctionLabel}
 use Rattle.prog_tables.specs.Nesting.{encloses, followsJump}
@@ -26,7 +26,7 @@ use Rattle.prog_tables.proofs.Each.{both-left, both-right, names-at}
 use Rattle.prog_laws.proofs.Next.{next-in, next-function, func-self}
 use Rattle.prog_laws.proofs.Rows.{marks}
 use Rattle.vm_definitions.specs.Access.{storeFrom}
-use Rattle.vm_definitions.specs.Frames.{mark, frameWords, topAtEntry}
+use Rattle.vm_definitions.specs.Frames.{frameWords, topAtEntry}
 use Rattle.vm_definitions.specs.Broken.{startBroken}
 use Rattle.vm_definitions.specs.Step.{World}
 use Rattle.vm_definitions.specs.Start.{exportsAs, exportOf, startedFunction, startAnswer, startWorld, startBy, begunBy, startOf, startLeaves}

@@ -13,6 +13,7 @@ use lib.ListN.{getD, length}
 use Rattle.base_prelude.specs.Choice.{ifLt, ifEq, ifTrue}
 use Rattle.base_prelude.proofs.Choice.{true-false, either, either-eq, either-true, ifEq-yes, ifEq-no, ifTrue-yes}
 use Rattle.base_limits.specs.declared.Width.{Width}
+use Rattle.base_limits.specs.Record.{movedTo}
 use Rattle.prog_tables.specs.Layout.{callExpression}
 use Rattle.prog_tables.specs.Tests.{both, oneOf}
 use Rattle.prog_tables.specs.Statement.{Row, hasExpression, isCall}
@@ -23,7 +24,7 @@ use Rattle.prog_laws.proofs.Rows.{Callee, callee-facts, marks, size-at, address
 use Rattle.vm_definitions.specs.Access.{wordGood, storeFrom}
 use Rattle.vm_definitions.specs.Operands.{Words, words, bad, numberIn}
 use Rattle.vm_definitions.specs.Frames.{frameWords, returnsTo, callerFrame, topAtEntry, isCalling}
-use Rattle.vm_definitions.specs.Step.{World, Effect, stops, leaves, movedTo, callBy, callOf, tailCallBy, argumentsOf, addressOf}
+use Rattle.vm_definitions.specs.Step.{World, Effect, stops, leaves, callBy, callOf, tailCallBy, argumentsOf, addressOf}
 use Rattle.vm_definitions.specs.Ledger.{Entry, Ledger}
 use Rattle.vm_definitions.proofs.Invariant.{FrameAt, Head, Under, Invariant}
 use Rattle.vm_definitions.proofs.Stores.{store-length, store-before, store-at}

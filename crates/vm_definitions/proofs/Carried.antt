@@ -8,6 +8,7 @@ use mathlib.Core.List.{List, [], _∷_}
 use native.Mathlib.Omega.{arith}
 use lib.ListN.{getD, length}
 use Rattle.base_limits.specs.declared.Width.{Width}
+use Rattle.base_limits.specs.Record.{goingOn}
 use Rattle.prog_tables.specs.Label.{Tables, rows}
 use Rattle.prog_tables.specs.Nesting.{encloses}
 use Rattle.prog_tables.specs.Frames.{frameDepth}
@@ -23,7 +24,7 @@ use Rattle.prog_laws.proofs.Words.{block-within}
 use Rattle.vm_definitions.specs.Access.{wordGood}
 use Rattle.vm_definitions.specs.Operands.{numberIn}
 use Rattle.vm_definitions.specs.Frames.{returnsTo, callerFrame, topAtEntry}
-use Rattle.vm_definitions.specs.Step.{World, goingOn}
+use Rattle.vm_definitions.specs.Step.{World}
 use Rattle.vm_definitions.specs.Ledger.{Entry, Ledger}
 use Rattle.vm_definitions.proofs.Invariant.{FrameAt, Head, FirstHead, Under, Invariant}
 

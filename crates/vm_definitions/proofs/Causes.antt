@@ -19,7 +19,8 @@ use Rattle.prog_tables.specs.Tests.{both, oneOf}
 use Rattle.prog_tables.specs.Statement.{Row, hasExpression, isTest, isOperator, isCall, expressionUses, usedBy, slots, operandAt, rowFrom, rowAt}
 use Rattle.prog_tables.specs.Label.{Tables, rows}
 use Rattle.prog_tables.specs.Nesting.{isListed}
-use Rattle.prog_tables.specs.Faults.{expressionListed, kindFault}
+use Rattle.prog_tables.specs.Faults.{expressionListed, expressionFault, kindFault}
+use Rattle.prog_tables.proofs.CallRows.{expression-listed}
 use Rattle.prog_tables.specs.declared.Operand.{Operand}
 use Rattle.prog_tables.specs.declared.Operand.the-variants.{Unlisted}
 use Rattle.vm_definitions.specs.Access.{byteAddress, wordAddress, byteGood, wordGood}
@@ -27,11 +28,12 @@ use Rattle.vm_definitions.specs.Operands.{Words, words, bad, isAt, numbe
 use Rattle.vm_definitions.specs.Expressions.{evalOf, operandNo, testHolds}
 use Rattle.vm_definitions.specs.Frames.{isReturn, isCalling, resumptionOf}
 use Rattle.vm_definitions.specs.Step.{World, Effect, stops, leaves, effectStop, goesTo, keeps, stores, blockOf, endBlockOf, testOf, workedOf, assigned, assignedAt, setAtOf, setByteBy, setWordBy, argumentsOf, callBy, callOf, tailCallBy, handedBy, returned, returnOf, effectOf}
-use Rattle.vm_definitions.specs.Causes.{Meeting, wordAt, byteAt, stacksTo, causeOf, firstOf, touched, wordOf, operatorMeets, withFrame, behindOperands, readsOf, meetingsOf, firstCause}
+use Rattle.vm_definitions.specs.Causes.{causeOf, firstOf, touched, wordOf, withFrame, behindOperands, readsOf, meetingsOf, firstCause}
 use Rattle.vm_definitions.specs.declared.Resumption.{Resumption}
 use Rattle.vm_definitions.specs.declared.Worked.{Worked}
 use Rattle.vm_definitions.specs.declared.Worked.the-variants.{Value, Stop}
 use Rattle.vm_definitions.proofs.Operators.{stopIn, next, first-here, first-later, first-one, word-good, word-bad, read-cause, all-cause, eval-cause}
+use Rattle.vm_definitions.specs.Operators.{Meeting, wordAt, byteAt, stacksTo, operators, lineIn, operatorOf, operatorMeets}
 
 -- a statement's effect by its kind and expression kind, those of its parts being given
 unfoldable dispatch : ℕ → ℕ → Effect → Effect → Effect → Effect → Effect → Effect → Effect → Effect → Effect → Effect → Effect → Effect → Effect
@@ -74,12 +76,10 @@ unfolding effectStop ifTrue
 good y true = refl
 good y false = refl
 
-kept-or : (a b c : Bool) → ifTrue a (both b (not c)) true ≡ false → b ≡ true → c ≡ true
+kept-or : (a b : Bool) → ifTrue a b true ≡ false → b ≡ false
 unfolding ifTrue
-kept-or true true true e h = refl
-kept-or true true false e h = true-false e
-kept-or true false c e h = true-false (sym h)
-kept-or false b c e h = true-false e
+kept-or true b e = e
+kept-or false b e = true-false e
 
 kept-first : (a b : Bool) → ifTrue a b true ≡ false → a ≡ true
 unfolding ifTrue
@@ -432,7 +432,7 @@ module _ (w : Width) (f : ℕ → Row) (c : ℕ) (x : World) (sum last : ℕ) wh
               ∙ ifEq-no {a = r .kind} {b = 2} (returned w f c x (Value 0 0)) (ifEq (r .expr) 0 (returned w f c x (Value 0 0)) (returned w f c x (workedOf w f c x))) (λ q. omega (arith, q, h))
 
           bare-13 : r .expr ≡ 0 → Caused
-          unfolding Caused doneBy dispatch hasExpression isTest ifTrue ifEq ifLt metBy behindBy isCall usedBy touched firstOf effectStop returned expressionUses isOperator operatorMeets
+          unfolding Caused doneBy dispatch hasExpression isTest ifTrue ifEq ifLt metBy behindBy isCall usedBy touched firstOf effectStop returned expressionUses isOperator operatorMeets operatorOf lineIn operators
           bare-13 q =
               ap effectStop (return-effect ∙ ifEq-yes (returned w f c x (Value 0 0)) (returned w f c x (workedOf w f c x)) q)
               ∙ home 0 it-returns
@@ -456,7 +456,7 @@ module _ (w : Width) (f : ℕ → Row) (c : ℕ) (x : World) (sum last : ℕ) wh
           unfolding kindFault
           listed k q h =
               subst (λ (i : ℕ). expressionListed i (r .expr) ≡ true) h
-              (kept-or (isListed (r .kind)) (hasExpression (r .kind)) (expressionListed (r .kind) (r .expr)) sound (ap hasExpression h ∙ q))
+              (expression-listed (r .kind) (r .expr) (kept-or (isListed (r .kind)) (expressionFault (r .kind) (r .expr)) sound) (ap hasExpression h ∙ q))
 
           not-bare : (k : ℕ) → (k ≡ 13 → ⊥) → hasExpression k ≡ true → r .kind ≡ k → r .expr ≡ 0 → ⊥
           not-bare k d q h e = listed-not k d (subst (λ (i : ℕ). expressionListed k i ≡ true) e (listed k q h))
@@ -501,7 +501,7 @@ module _ (w : Width) (f : ℕ → Row) (c : ℕ) (x : World) (sum last : ℕ) wh
 
           kind-listed : isListed (r .kind) ≡ true
           unfolding kindFault
-          kind-listed = kept-first (isListed (r .kind)) (both (hasExpression (r .kind)) (not (expressionListed (r .kind) (r .expr)))) sound
+          kind-listed = kept-first (isListed (r .kind)) (expressionFault (r .kind) (r .expr)) sound
 
           kind-low : 1 ≤ r .kind
           unfolding isListed

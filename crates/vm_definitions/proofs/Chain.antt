@@ -14,6 +14,7 @@ use lib.ListN.{length}
 use Rattle.base_prelude.specs.Choice.{ifTrue}
 use Rattle.base_prelude.proofs.Choice.{true-false, either-true, ifTrue-yes, ifTrue-no}
 use Rattle.base_limits.specs.declared.Width.{Width}
+use Rattle.base_limits.specs.Record.{mark}
 use Rattle.prog_tables.specs.Tests.{both, oneOf}
 use Rattle.prog_tables.specs.Statement.{Row}
 use Rattle.prog_tables.specs.Label.{Tables, rows}
@@ -24,7 +25,7 @@ use Rattle.prog_tables.proofs.Sound.{function-sound}
 use Rattle.prog_laws.proofs.Rows.{size-here, size-at}
 use Rattle.vm_definitions.specs.Access.{wordGood}
 use Rattle.vm_definitions.specs.Operands.{numberIn}
-use Rattle.vm_definitions.specs.Frames.{mark, returnsTo, callerFrame, topAtEntry, isFirst, isReturnCall, isCalling, calledFrom, headGood, passesOn, leavesGood, resumptionOf}
+use Rattle.vm_definitions.specs.Frames.{returnsTo, callerFrame, topAtEntry, isFirst, isReturnCall, isCalling, calledFrom, headGood, passesOn, leavesGood, resumptionOf}
 use Rattle.vm_definitions.specs.Ledger.{Entry, Ledger, fromReturn, popped, sumOf, lastOf}
 use Rattle.vm_definitions.specs.Step.{World}
 use Rattle.vm_definitions.specs.declared.Resumption.{Resumption}

@@ -15,8 +15,9 @@ use Rattle.base_limits.specs.declared.Width.{Width}
 use Rattle.base_limits.specs.declared.State.{State}
 use Rattle.base_limits.specs.declared.State.the-variants.{Running, Finished, Stopped}
 use Rattle.base_limits.specs.declared.Machine.{Machine}
+use Rattle.base_limits.specs.Record.{stopped, withState}
 use Rattle.prog_tables.specs.Label.{Tables, rows}
-use Rattle.vm_definitions.specs.Step.{World, Effect, stops, leaves, effectStop, effectOf, After, idle, effected, stepOf, counting, runOf, stopped}
+use Rattle.vm_definitions.specs.Step.{World, Effect, stops, leaves, effectStop, effectOf, After, idle, effected, stepOf, counting, runOf}
 use Rattle.vm_definitions.specs.Start.{startOf, startLeaves, startBy, startAnswer, startWorld, startedFunction, begunBy}
 use Rattle.vm_definitions.specs.Causes.{firstCause, meetingsOf, readsOf}
 use Rattle.vm_definitions.specs.Ledger.{Event, started, counted, Entry, Ledger, fed, countedIn, ledgerOf, sumOf, lastOf}
@@ -65,7 +66,7 @@ module _ (w : Width) (t : Tables) (m : ℕ) where
       }
 
   good-bytes : (es : Ledger) (x : World) → Good w t m es x → (b : List ℕ) → length b ≡ m → Good w t m es (withBytes x b)
-  unfolding runningWith
+  unfolding runningWith withState
   good-bytes _ _ (runs e es x l s i) b h = runs e es (withBytes x b) h s (other-bytes e es x i b (h ∙ sym l))
   good-bytes _ _ (stopsAt e es x k n l s i g) b h =
       stopsAt e es (withBytes x b) k n h s (other-bytes e es x i b (h ∙ sym l))
@@ -112,7 +113,7 @@ module _ (w : Width) (t : Tables) (bytes : List ℕ) (p : Parts w t bytes) where
   -- ---- a good world is sound
 
   pub good-sound : (m : ℕ) (es : Ledger) (x : World) → Good w t m es x → Sound w t es x
-  unfolding StateSound runningWith isFinished sumOf
+  unfolding StateSound runningWith withState isFinished sumOf
   good-sound m _ _ (runs e es x l s i) =
       record {
         finished = λ q. absurd (cons-some e es q);

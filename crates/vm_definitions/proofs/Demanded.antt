@@ -17,9 +17,9 @@ use lib.Dec.{ltb}
 use lib.ListN.{length}
 use Rattle.base_prelude.specs.Choice.{ifTrue}
 use Rattle.base_prelude.proofs.Choice.{true-false, ifTrue-no, either, either-eq, either-true}
-use Rattle.base_limits.specs.Fresh.{freshOf}
 use Rattle.base_limits.specs.declared.Width.{Width}
 use Rattle.base_limits.specs.declared.State.the-variants.{Running}
+use Rattle.base_limits.specs.Record.{freshOf}
 use Rattle.prog_tables.specs.Tests.{oneOf, some, someBelow}
 use Rattle.prog_tables.specs.Label.{Tables, rows, labelsOf}
 use Rattle.prog_tables.specs.Faults.{rowFault, labelFault, countFault, tablesFault}

@@ -10,6 +10,7 @@ use Rattle.base_prelude.specs.Choice.{ifLt, ifEq, ifTrue}
 use Rattle.base_prelude.proofs.Choice.{either, either-eq, either-true}
 use Rattle.base_limits.specs.Width.{bitsOf, bytesOf}
 use Rattle.base_limits.specs.declared.Width.{Width}
+use Rattle.base_limits.specs.Record.{goingOn, movedTo, ended}
 use Rattle.lang_words.specs.Words.{leastOperands}
 use Rattle.base_word.specs.Bytes.{wordBytes}
 use Rattle.base_word.specs.Word.{divOf, modOf, shlOf, shrOf, bsrOf, asrOf, rolOf, rorOf}
@@ -20,9 +21,9 @@ use Rattle.prog_tables.specs.Statement.{Row, isTest}
 use Rattle.prog_tables.specs.declared.Operand.{Operand}
 use Rattle.vm_definitions.specs.Access.{byteAddress, wordAddress, byteGood, wordGood, storeFrom}
 use Rattle.vm_definitions.specs.Operands.{Words, words, bad, numberIn, fetchOf, readOf, onRead}
-use Rattle.vm_definitions.specs.Expressions.{roundUp, reserved, answered, fetched, byteOf, applied, evalOf, operandNo, testHolds}
+use Rattle.vm_definitions.specs.Expressions.{evalOf, operandNo, testHolds}
 use Rattle.vm_definitions.specs.Frames.{isReturn, isCalling, resumptionOf}
-use Rattle.vm_definitions.specs.Step.{World, Effect, stops, leaves, goingOn, movedTo, ended, goesTo, keeps, stores, blockOf, endBlockOf, testOf, workedOf, assigned, assignedAt, addressOf, setAtOf, setByteBy, setWordBy, argumentsOf, callBy, callOf, tailCallBy, handedTo, handedBy, returned, returnOf, rowOf, effectOf}
+use Rattle.vm_definitions.specs.Step.{World, Effect, stops, leaves, goesTo, keeps, stores, blockOf, endBlockOf, testOf, workedOf, assigned, assignedAt, addressOf, setAtOf, setByteBy, setWordBy, argumentsOf, callBy, callOf, tailCallBy, handedTo, handedBy, returned, returnOf, rowOf, effectOf}
 use Rattle.vm_definitions.specs.declared.Read.{Read}
 use Rattle.vm_definitions.specs.declared.Read.the-variants.{Got, Bad}
 use Rattle.vm_definitions.specs.declared.Worked.{Worked}
@@ -31,6 +32,8 @@ use Rattle.vm_definitions.specs.declared.Resumption.{Resumption}
 use Rattle.vm_definitions.specs.declared.Resumption.the-variants.{Ends, Caller}
 use Rattle.vm_definitions.proofs.Stores.{store-length}
 use Rattle.vm_definitions.proofs.Kept.{on-read}
+use Rattle.vm_definitions.specs.Operators.{Operator, operators, roundUp, reserved, answered, fetched, byteOf, applied}
+use Rattle.vm_definitions.proofs.OperatorTable.{Every, each-operator}
 
 -- ---- expressions
 
@@ -66,27 +69,30 @@ unfolding StopSome
 some-stop = omega arith
 
 some-applied : (w : Width) (m : List ℕ) (top e x y : ℕ) → StopSome (applied w m top e x y)
-unfolding applied
+unfolding applied operators Every
 some-applied w m top e x y =
-    either-eq StopSome e 33 _ _ (λ d. some-value _ top)
-    (λ q. either-eq StopSome e 34 _ _ (λ d. some-value _ top)
-    (λ q. either-eq StopSome e 35 _ _ (λ d. some-answered top (asrOf (bitsOf w) x y))
-    (λ q. either-eq StopSome e 36 _ _ (λ d. some-reserved w (length m) top x)
-    (λ q. either-eq StopSome e 37 _ _ (λ d. some-reserved w (length m) top (bytesOf w * x))
-    (λ q. either-eq StopSome e 38 _ _ (λ d. some-answered top (bsrOf (bitsOf w) x y))
-    (λ q. either-eq StopSome e 39 _ _ (λ d. some-answered top (divOf (bitsOf w) x y))
-    (λ q. either-eq StopSome e 40 _ _ (λ d. some-byte m top (byteAddress w x y))
-    (λ q. either-eq StopSome e 41 _ _ (λ d. some-fetched top (fetchOf w m (wordAddress w x y)))
-    (λ q. either-eq StopSome e 42 _ _ (λ d. some-answered top (modOf (bitsOf w) x y))
-    (λ q. either-eq StopSome e 43 _ _ (λ d. some-value _ top)
-    (λ q. either-eq StopSome e 44 _ _ (λ d. some-value _ top)
-    (λ q. either-eq StopSome e 45 _ _ (λ d. some-value _ top)
-    (λ q. either-eq StopSome e 46 _ _ (λ d. some-answered top (rolOf (bitsOf w) x y))
-    (λ q. either-eq StopSome e 47 _ _ (λ d. some-answered top (rorOf (bitsOf w) x y))
-    (λ q. either-eq StopSome e 48 _ _ (λ d. some-answered top (shlOf (bitsOf w) x y))
-    (λ q. either-eq StopSome e 49 _ _ (λ d. some-answered top (shrOf (bitsOf w) x y))
-    (λ q. either-eq StopSome e 50 _ _ (λ d. some-value _ top)
-    (λ q. some-value _ top))))))))))))))))))
+    each-operator (λ (o : Operator). StopSome (o .result w m top x y)) e
+    (some-value _ top,
+    (some-value _ top,
+    (some-answered top (asrOf (bitsOf w) x y),
+    (some-reserved w (length m) top x,
+    (some-reserved w (length m) top (bytesOf w * x),
+    (some-answered top (bsrOf (bitsOf w) x y),
+    (some-answered top (divOf (bitsOf w) x y),
+    (some-byte m top (byteAddress w x y),
+    (some-fetched top (fetchOf w m (wordAddress w x y)),
+    (some-answered top (modOf (bitsOf w) x y),
+    (some-value _ top,
+    (some-value _ top,
+    (some-value _ top,
+    (some-answered top (rolOf (bitsOf w) x y),
+    (some-answered top (rorOf (bitsOf w) x y),
+    (some-answered top (shlOf (bitsOf w) x y),
+    (some-answered top (shrOf (bitsOf w) x y),
+    (some-value _ top,
+    (some-value _ top,
+    tt)))))))))))))))))))
+    (some-value 0 top)
 
 some-eval : (w : Width) (st : List ℕ) (s : ℕ) (m : List ℕ) (top e : ℕ) (os : List Operand) → StopSome (evalOf w st s m top e os)
 unfolding evalOf

@@ -10,12 +10,13 @@ use lib.ListN.{getD, length}
 use Rattle.base_limits.specs.Limits.{stackWords}
 use Rattle.base_limits.specs.Width.{memoryLimit}
 use Rattle.base_limits.specs.declared.Width.{Width}
+use Rattle.base_limits.specs.Record.{mark}
 use Rattle.prog_tables.specs.Label.{Tables, rows}
 use Rattle.prog_tables.specs.Nesting.{encloses}
 use Rattle.prog_tables.specs.Frames.{frameDepth}
 use Rattle.vm_definitions.specs.Access.{wordGood}
 use Rattle.vm_definitions.specs.Operands.{numberIn}
-use Rattle.vm_definitions.specs.Frames.{mark, returnsTo, callerFrame, topAtEntry, isCalling}
+use Rattle.vm_definitions.specs.Frames.{returnsTo, callerFrame, topAtEntry, isCalling}
 use Rattle.vm_definitions.specs.Step.{World}
 use Rattle.vm_definitions.specs.Ledger.{Entry, Ledger}
 

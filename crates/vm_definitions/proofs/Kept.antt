@@ -12,6 +12,7 @@ use Rattle.base_prelude.specs.Choice.{ifLt, ifEq, ifTrue}
 use Rattle.base_prelude.proofs.Choice.{true-false, either, either-eq, either-true, ifTrue-yes}
 use Rattle.base_limits.specs.Width.{bitsOf, bytesOf}
 use Rattle.base_limits.specs.declared.Width.{Width}
+use Rattle.base_limits.specs.Record.{goingOn}
 use Rattle.lang_words.specs.Words.{leastOperands}
 use Rattle.base_word.specs.Bytes.{wordBytes}
 use Rattle.base_word.specs.Word.{addOf, subOf, mulOf, divOf, modOf, andOf, orOf, xorOf, notOf, shlOf, shrOf, bsrOf, asrOf, rolOf, rorOf}
@@ -30,8 +31,8 @@ use Rattle.prog_laws.proofs.Targets.{goto-target, target-scope}
 use Rattle.prog_laws.proofs.Words.{around-self, frame-shallow, block-low, block-within, end-facts, Apart, destination-apart}
 use Rattle.vm_definitions.specs.Access.{byteAddress, wordAddress, byteGood, wordGood, storeFrom}
 use Rattle.vm_definitions.specs.Operands.{Words, words, bad, numberIn, fetchOf, readOf, readAll, onRead}
-use Rattle.vm_definitions.specs.Expressions.{roundUp, reserved, answered, fetched, byteOf, applied, evalOf, operandNo, testHolds}
-use Rattle.vm_definitions.specs.Step.{World, Effect, stops, leaves, goingOn, goesTo, keeps, stores, blockOf, endBlockOf, testOf, workedOf, assigned, assignedAt, addressOf, setAtOf, setByteBy, setWordBy}
+use Rattle.vm_definitions.specs.Expressions.{evalOf, operandNo, testHolds}
+use Rattle.vm_definitions.specs.Step.{World, Effect, stops, leaves, goesTo, keeps, stores, blockOf, endBlockOf, testOf, workedOf, assigned, assignedAt, addressOf, setAtOf, setByteBy, setWordBy}
 use Rattle.vm_definitions.specs.Ledger.{Entry, Ledger}
 use Rattle.vm_definitions.specs.declared.Read.{Read}
 use Rattle.vm_definitions.specs.declared.Read.the-variants.{Got, Bad}
@@ -41,6 +42,8 @@ use Rattle.vm_definitions.proofs.Invariant.{FrameAt, Under, Invariant}
 use Rattle.vm_definitions.proofs.Stores.{set-other, store-length, store-before, store-at, store-most, zeros-most}
 use Rattle.vm_definitions.proofs.Carried.{Agree, frame-to, kept}
 use Rattle.vm_definitions.proofs.Places.{target-inside, goto-inside, around-cases, around-more, around-outside}
+use Rattle.vm_definitions.specs.Operators.{Operator, operators, roundUp, reserved, answered, fetched, byteOf, applied}
+use Rattle.vm_definitions.proofs.OperatorTable.{Every, each-operator}
 use Rattle.prog_tables.proofs.Ranges.{test-least}
 
 -- a statement stops, or leaves a world of which the invariant holds
@@ -102,27 +105,30 @@ unfolding TopIn
 top-stop m k = tt
 
 pub top-applied : (w : Width) (m : List ℕ) (top e x y : ℕ) → top ≤ length m → TopIn (length m) (applied w m top e x y)
-unfolding applied
+unfolding applied operators Every
 top-applied w m top e x y h =
-    either-eq (TopIn (length m)) e 33 _ _ (λ d. top-value (length m) (addOf (bitsOf w) x y) top h)
-    (λ q. either-eq (TopIn (length m)) e 34 _ _ (λ d. top-value (length m) (andOf (bitsOf w) x y) top h)
-    (λ q. either-eq (TopIn (length m)) e 35 _ _ (λ d. top-answered (length m) top (asrOf (bitsOf w) x y) h)
-    (λ q. either-eq (TopIn (length m)) e 36 _ _ (λ d. top-reserved w (length m) top x)
-    (λ q. either-eq (TopIn (length m)) e 37 _ _ (λ d. top-reserved w (length m) top (bytesOf w * x))
-    (λ q. either-eq (TopIn (length m)) e 38 _ _ (λ d. top-answered (length m) top (bsrOf (bitsOf w) x y) h)
-    (λ q. either-eq (TopIn (length m)) e 39 _ _ (λ d. top-answered (length m) top (divOf (bitsOf w) x y) h)
-    (λ q. either-eq (TopIn (length m)) e 40 _ _ (λ d. top-byte m (length m) top (byteAddress w x y) h)
-    (λ q. either-eq (TopIn (length m)) e 41 _ _ (λ d. top-fetched (length m) top (fetchOf w m (wordAddress w x y)) h)
-    (λ q. either-eq (TopIn (length m)) e 42 _ _ (λ d. top-answered (length m) top (modOf (bitsOf w) x y) h)
-    (λ q. either-eq (TopIn (length m)) e 43 _ _ (λ d. top-value (length m) (mulOf (bitsOf w) x y) top h)
-    (λ q. either-eq (TopIn (length m)) e 44 _ _ (λ d. top-value (length m) (notOf (bitsOf w) x) top h)
-    (λ q. either-eq (TopIn (length m)) e 45 _ _ (λ d. top-value (length m) (orOf (bitsOf w) x y) top h)
-    (λ q. either-eq (TopIn (length m)) e 46 _ _ (λ d. top-answered (length m) top (rolOf (bitsOf w) x y) h)
-    (λ q. either-eq (TopIn (length m)) e 47 _ _ (λ d. top-answered (length m) top (rorOf (bitsOf w) x y) h)
-    (λ q. either-eq (TopIn (length m)) e 48 _ _ (λ d. top-answered (length m) top (shlOf (bitsOf w) x y) h)
-    (λ q. either-eq (TopIn (length m)) e 49 _ _ (λ d. top-answered (length m) top (shrOf (bitsOf w) x y) h)
-    (λ q. either-eq (TopIn (length m)) e 50 _ _ (λ d. top-value (length m) (subOf (bitsOf w) x y) top h)
-    (λ q. top-value (length m) (xorOf (bitsOf w) x y) top h))))))))))))))))))
+    each-operator (λ (o : Operator). TopIn (length m) (o .result w m top x y)) e
+    (top-value (length m) (addOf (bitsOf w) x y) top h,
+    (top-value (length m) (andOf (bitsOf w) x y) top h,
+    (top-answered (length m) top (asrOf (bitsOf w) x y) h,
+    (top-reserved w (length m) top x,
+    (top-reserved w (length m) top (bytesOf w * x),
+    (top-answered (length m) top (bsrOf (bitsOf w) x y) h,
+    (top-answered (length m) top (divOf (bitsOf w) x y) h,
+    (top-byte m (length m) top (byteAddress w x y) h,
+    (top-fetched (length m) top (fetchOf w m (wordAddress w x y)) h,
+    (top-answered (length m) top (modOf (bitsOf w) x y) h,
+    (top-value (length m) (mulOf (bitsOf w) x y) top h,
+    (top-value (length m) (notOf (bitsOf w) x) top h,
+    (top-value (length m) (orOf (bitsOf w) x y) top h,
+    (top-answered (length m) top (rolOf (bitsOf w) x y) h,
+    (top-answered (length m) top (rorOf (bitsOf w) x y) h,
+    (top-answered (length m) top (shlOf (bitsOf w) x y) h,
+    (top-answered (length m) top (shrOf (bitsOf w) x y) h,
+    (top-value (length m) (subOf (bitsOf w) x y) top h,
+    (top-value (length m) (xorOf (bitsOf w) x y) top h,
+    tt)))))))))))))))))))
+    (top-value (length m) 0 top h)
 
 pub top-eval : (w : Width) (st : List ℕ) (s : ℕ) (m : List ℕ) (top e : ℕ) (os : List Operand) → top ≤ length m → TopIn (length m) (evalOf w st s m top e os)
 unfolding evalOf

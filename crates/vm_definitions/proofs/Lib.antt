@@ -6,6 +6,7 @@ pub mod Guard
 pub mod Stores
 pub mod Carried
 pub mod Places
+pub mod OperatorTable
 pub mod Kept
 pub mod Called
 pub mod Returned

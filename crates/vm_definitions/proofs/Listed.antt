@@ -20,12 +20,14 @@ use Rattle.prog_tables.specs.declared.Operand.{Operand}
 use Rattle.prog_tables.proofs.Each.{both-left, both-right, both-true}
 use Rattle.vm_definitions.specs.Access.{byteAddress, wordAddress}
 use Rattle.vm_definitions.specs.Operands.{isAt, numberIn}
-use Rattle.vm_definitions.specs.Expressions.{roundUp, operandNo}
+use Rattle.vm_definitions.specs.Expressions.{operandNo}
 use Rattle.vm_definitions.specs.Step.{World}
-use Rattle.vm_definitions.specs.Causes.{Meeting, wordAt, byteAt, divides, leavesOver, shiftsBy, reservesTo, stacksTo, causeOf, firstOf, touched, wordOf, operatorMeets, withFrame, behindOperands, readsOf, meetingsOf, firstCause, argumentsRead, passesStack}
+use Rattle.vm_definitions.specs.Causes.{causeOf, firstOf, touched, wordOf, withFrame, behindOperands, readsOf, meetingsOf, firstCause, argumentsRead, passesStack}
 use Rattle.vm_definitions.specs.Ledger.{Ledger, sumOf, lastOf}
 use Rattle.vm_definitions.specs.Claim.{causeIn, Listed, stackFull}
 use Rattle.vm_definitions.proofs.Operators.{first-one, first-both}
+use Rattle.vm_definitions.proofs.OperatorTable.{Every, each-operator}
+use Rattle.vm_definitions.specs.Operators.{Operator, operators, roundUp, Meeting, wordAt, byteAt, divides, leavesOver, shiftsBy, reservesTo, stacksTo, operatorMeets}
 
 pick-is : (P : ℕ → Type 0) (b : Bool) (x y : ℕ) → P x → P y → P (pick b x y)
 pick-is P true x y p q = p
@@ -128,20 +130,30 @@ module _ (w : Width) (m s : ℕ) where
   chosen e k us vs p q = either-eq NoStack e k us vs (λ h. p) (λ h. q)
 
   operator-no : (top e x y : ℕ) → NoStack (operatorMeets w top e x y)
-  unfolding operatorMeets
+  unfolding operatorMeets operators Every
   operator-no top e x y =
-      chosen e 35 _ _ (one-stack (shiftsBy y) (shifts-other y))
-      (chosen e 36 _ _ (one-stack (reservesTo (roundUp w top + x)) (reserves-other (roundUp w top + x)))
-      (chosen e 37 _ _ (one-stack (reservesTo (roundUp w top + bytesOf w * x)) (reserves-other (roundUp w top + bytesOf w * x)))
-      (chosen e 38 _ _ (one-stack (shiftsBy y) (shifts-other y))
-      (chosen e 39 _ _ (one-stack (divides x y) (divides-other x y))
-      (chosen e 40 _ _ (one-stack (byteAt (byteAddress w x y)) (byte-other (byteAddress w x y)))
-      (chosen e 41 _ _ (one-stack (wordAt (wordAddress w x y)) (word-other (wordAddress w x y)))
-      (chosen e 42 _ _ (one-stack (leavesOver y) (leaves-other y))
-      (chosen e 46 _ _ (one-stack (shiftsBy y) (shifts-other y))
-      (chosen e 47 _ _ (one-stack (shiftsBy y) (shifts-other y))
-      (chosen e 48 _ _ (one-stack (shiftsBy y) (shifts-other y))
-      (chosen e 49 _ _ (one-stack (shiftsBy y) (shifts-other y)) none-stack)))))))))))
+      each-operator (λ (o : Operator). NoStack (o .meets w top x y)) e
+      (none-stack,
+      (none-stack,
+      (one-stack (shiftsBy y) (shifts-other y),
+      (one-stack (reservesTo (roundUp w top + x)) (reserves-other (roundUp w top + x)),
+      (one-stack (reservesTo (roundUp w top + bytesOf w * x)) (reserves-other (roundUp w top + bytesOf w * x)),
+      (one-stack (shiftsBy y) (shifts-other y),
+      (one-stack (divides x y) (divides-other x y),
+      (one-stack (byteAt (byteAddress w x y)) (byte-other (byteAddress w x y)),
+      (one-stack (wordAt (wordAddress w x y)) (word-other (wordAddress w x y)),
+      (one-stack (leavesOver y) (leaves-other y),
+      (none-stack,
+      (none-stack,
+      (none-stack,
+      (one-stack (shiftsBy y) (shifts-other y),
+      (one-stack (shiftsBy y) (shifts-other y),
+      (one-stack (shiftsBy y) (shifts-other y),
+      (one-stack (shiftsBy y) (shifts-other y),
+      (none-stack,
+      (none-stack,
+      tt)))))))))))))))))))
+      none-stack
 
   -- behind the operands of a row that does not call
   behind-no : (top sum last g : ℕ) (r : Row) (x y : ℕ) → isCall (r .kind) (r .expr) ≡ false → NoStack (behindOperands w top sum last g r x y)

@@ -15,8 +15,9 @@ use Rattle.base_limits.specs.declared.Width.{Width}
 use Rattle.base_limits.specs.declared.State.{State}
 use Rattle.base_limits.specs.declared.State.the-variants.{Running, Finished, Stopped}
 use Rattle.base_limits.specs.declared.Machine.{Machine}
+use Rattle.base_limits.specs.Record.{stopped, withState}
 use Rattle.prog_tables.specs.Label.{Tables, rows}
-use Rattle.vm_definitions.specs.Step.{World, Effect, stops, leaves, effectStop, effectOf, After, idle, effected, guarded, inState, stepOf, counting, runOf, stopped}
+use Rattle.vm_definitions.specs.Step.{World, Effect, stops, leaves, effectStop, effectOf, After, idle, effected, guarded, inState, stepOf, counting, runOf}
 use Rattle.vm_definitions.specs.Broken.{stepBroken}
 use Rattle.vm_definitions.specs.Start.{startOf, startLeaves, startedFunction, begunBy}
 use Rattle.vm_definitions.specs.Ledger.{Event, started, counted, Entry, Ledger, fed, countedIn, ledgerOf, sumOf, lastOf}
@@ -78,11 +79,8 @@ pub record Parts (w : Width) (t : Tables) (bytes : List ℕ) : Type 0 where
 module _ (w : Width) (t : Tables) (e : Entry) (es : Ledger) (x : World) where
   pub with-state : Invariant w t e es x → (s : State) (m : List ℕ) → length m ≡ length (x .memory)
       → Invariant w t e es
-      (record {
-        machine = record { state = s; next = x .machine .next; frame = x .machine .frame; used = x .machine .used; top = x .machine .top };
-        stack = x .stack;
-        memory = m;
-      })
+      (record { machine = withState s (x .machine); stack = x .stack; memory = m })
+  unfolding withState
   with-state i s m l =
       record {
         frame = subst (λ (n : ℕ). FrameAt w t n (x .stack) (e .func) (x .machine .frame) (x .machine .next)) (sym l) (i .frame);
@@ -97,7 +95,7 @@ module _ (w : Width) (t : Tables) (e : Entry) (es : Ledger) (x : World) where
 
 module _ (w : Width) (t : Tables) (es : Ledger) (x : World) where
   pub cause-state : causeIn w t es (runningWith x (x .memory)) ≡ causeIn w t es x
-  unfolding causeIn firstCause meetingsOf readsOf runningWith
+  unfolding causeIn firstCause meetingsOf readsOf runningWith withState
   cause-state = refl
 
 -- ---- what a step's effect gives
@@ -140,7 +138,7 @@ module _ (w : Width) (t : Tables) (bytes : List ℕ) (p : Parts w t bytes) where
   -- a stopped statement leaves a good world
   stop-good : (m : ℕ) (e : Entry) (es : Ledger) (x : World) (k : ℕ) → length (x .memory) ≡ m → x .machine .state ≡ Running → Invariant w t e es x
       → effectOf w (rows t) (t .count) x ≡ stops k → Good w t m (e ∷ es) (effected x (stops k) .world)
-  unfolding effected stopped runningWith causeIn firstCause meetingsOf readsOf effectStop
+  unfolding effected stopped runningWith withState causeIn firstCause meetingsOf readsOf effectStop
   stop-good m e es x k l s i q =
       stopsAt e es (effected x (stops k) .world) k (x .machine .next) l refl (with-state w t e es x i (Stopped k (x .machine .next)) (x .memory) refl)
       (record {

@@ -27,12 +27,14 @@ use Rattle.prog_tables.specs.declared.Operand.the-variants.{Unlisted}
 use Rattle.prog_tables.proofs.Each.{below-at}
 use Rattle.vm_definitions.specs.Access.{byteAddress, wordAddress, byteGood, wordGood, loadOf}
 use Rattle.vm_definitions.specs.Operands.{Words, words, bad, isAt, numberIn, fetchOf, readOf, withWord, onRead, readAll}
-use Rattle.vm_definitions.specs.Expressions.{roundUp, reserved, answered, fetched, byteOf, applied, operandNo, evalOf}
-use Rattle.vm_definitions.specs.Causes.{Meeting, wordAt, byteAt, divides, leavesOver, shiftsBy, reservesTo, stacksTo, causeOf, firstOf, touched, wordOf, operatorMeets}
+use Rattle.vm_definitions.specs.Expressions.{operandNo, evalOf}
+use Rattle.vm_definitions.specs.Causes.{causeOf, firstOf, touched, wordOf}
 use Rattle.vm_definitions.specs.declared.Read.{Read}
+use Rattle.vm_definitions.proofs.OperatorTable.{Every, each-operator}
 use Rattle.vm_definitions.specs.declared.Read.the-variants.{Got, Bad}
 use Rattle.vm_definitions.specs.declared.Worked.{Worked}
 use Rattle.vm_definitions.specs.declared.Worked.the-variants.{Value, Stop}
+use Rattle.vm_definitions.specs.Operators.{Operator, operators, lineIn, operatorOf, roundUp, reserved, answered, fetched, byteOf, applied, Meeting, wordAt, byteAt, divides, leavesOver, shiftsBy, reservesTo, stacksTo, operatorMeets}
 
 -- the number of a stop, 0 without one
 unfoldable pub stopIn : Worked → ℕ
@@ -159,109 +161,80 @@ fetched-cause top v true = refl
 fetched-cause top v false = refl
 
 module _ (w : Width) (m : List ℕ) (l top x y : ℕ) where
-  -- operator e stops with what it meets
-  Agrees : ℕ → Type 0
-  Agrees e = stopIn (applied w m top e x y) ≡ firstOf w (length m) l (operatorMeets w top e x y)
+  -- an operator stops with what it meets
+  Agrees : Operator → Type 0
+  Agrees o = stopIn (o .result w m top x y) ≡ firstOf w (length m) l (o .meets w top x y)
 
-  agrees-33 : Agrees 33
-  unfolding Agrees applied operatorMeets ifEq firstOf stopIn
-  agrees-33 = refl
+  -- a word alone; a shift or rotate by a count
+  word-agrees : (v : ℕ) → stopIn (Value v top) ≡ firstOf w (length m) l []
+  unfolding stopIn firstOf
+  word-agrees v = refl
 
-  agrees-34 : Agrees 34
-  unfolding Agrees applied operatorMeets ifEq firstOf stopIn
-  agrees-34 = refl
+  asr-agrees : stopIn (answered top (word.asrOf (bitsOf w) x y)) ≡ firstOf w (length m) l (shiftsBy y ∷ [])
+  unfolding causeOf word.asrOf
+  asr-agrees = shift-cause top _ _ ∙ sym (first-one w (length m) l (shiftsBy y))
 
-  agrees-35 : Agrees 35
-  unfolding Agrees applied operatorMeets ifEq ifLt causeOf reserved byteOf byteGood fetchOf wordGood word.asrOf
-  agrees-35 = shift-cause top _ _ ∙ sym (first-one w (length m) l (shiftsBy y))
+  bsr-agrees : stopIn (answered top (word.bsrOf (bitsOf w) x y)) ≡ firstOf w (length m) l (shiftsBy y ∷ [])
+  unfolding causeOf word.bsrOf
+  bsr-agrees = shift-cause top _ _ ∙ sym (first-one w (length m) l (shiftsBy y))
 
-  agrees-36 : Agrees 36
-  unfolding Agrees applied operatorMeets ifEq ifLt causeOf reserved byteOf byteGood fetchOf wordGood
-  agrees-36 = reserve-cause (roundUp w top) (roundUp w top + x) (ltb (length m) (roundUp w top + x)) ∙ sym (first-one w (length m) l (reservesTo (roundUp w top + x)))
+  rol-agrees : stopIn (answered top (word.rolOf (bitsOf w) x y)) ≡ firstOf w (length m) l (shiftsBy y ∷ [])
+  unfolding causeOf word.rolOf
+  rol-agrees = shift-cause top _ _ ∙ sym (first-one w (length m) l (shiftsBy y))
 
-  agrees-37 : Agrees 37
-  unfolding Agrees applied operatorMeets ifEq ifLt causeOf reserved byteOf byteGood fetchOf wordGood
-  agrees-37 = reserve-cause (roundUp w top) (roundUp w top + bytesOf w * x) (ltb (length m) (roundUp w top + bytesOf w * x)) ∙ sym (first-one w (length m) l (reservesTo (roundUp w top + bytesOf w * x)))
+  ror-agrees : stopIn (answered top (word.rorOf (bitsOf w) x y)) ≡ firstOf w (length m) l (shiftsBy y ∷ [])
+  unfolding causeOf word.rorOf
+  ror-agrees = shift-cause top _ _ ∙ sym (first-one w (length m) l (shiftsBy y))
 
-  agrees-38 : Agrees 38
-  unfolding Agrees applied operatorMeets ifEq ifLt causeOf reserved byteOf byteGood fetchOf wordGood word.bsrOf
-  agrees-38 = shift-cause top _ _ ∙ sym (first-one w (length m) l (shiftsBy y))
+  shl-agrees : stopIn (answered top (word.shlOf (bitsOf w) x y)) ≡ firstOf w (length m) l (shiftsBy y ∷ [])
+  unfolding causeOf word.shlOf
+  shl-agrees = shift-cause top _ _ ∙ sym (first-one w (length m) l (shiftsBy y))
 
-  agrees-39 : Agrees 39
-  unfolding Agrees applied operatorMeets ifEq ifLt causeOf reserved byteOf byteGood fetchOf wordGood word.divOf
-  agrees-39 = div-cause top (word.quotient (bitsOf w) x y) (eqb y 0) (eqb x (2 ^ (bitsOf w - 1))) (eqb y (2 ^ bitsOf w - 1)) ∙ sym (first-one w (length m) l (divides x y))
+  reserve-agrees : (n : ℕ) → stopIn (reserved w (length m) top n) ≡ firstOf w (length m) l (reservesTo (roundUp w top + n) ∷ [])
+  unfolding ifLt causeOf reserved
+  reserve-agrees n = reserve-cause (roundUp w top) (roundUp w top + n) (ltb (length m) (roundUp w top + n)) ∙ sym (first-one w (length m) l (reservesTo (roundUp w top + n)))
 
-  agrees-40 : Agrees 40
-  unfolding Agrees applied operatorMeets ifEq ifLt causeOf reserved byteOf byteGood fetchOf wordGood
-  agrees-40 = good-cause _ _ _ ∙ sym (first-one w (length m) l (byteAt (byteAddress w x y)))
+  div-agrees : stopIn (answered top (word.divOf (bitsOf w) x y)) ≡ firstOf w (length m) l (divides x y ∷ [])
+  unfolding ifEq ifLt causeOf word.divOf
+  div-agrees = div-cause top (word.quotient (bitsOf w) x y) (eqb y 0) (eqb x (2 ^ (bitsOf w - 1))) (eqb y (2 ^ bitsOf w - 1)) ∙ sym (first-one w (length m) l (divides x y))
 
-  agrees-41 : Agrees 41
-  unfolding Agrees applied operatorMeets ifEq ifLt causeOf reserved byteOf byteGood fetchOf wordGood
-  agrees-41 = fetched-cause top _ _ ∙ sym (first-one w (length m) l (wordAt (wordAddress w x y)))
+  mod-agrees : stopIn (answered top (word.modOf (bitsOf w) x y)) ≡ firstOf w (length m) l (leavesOver y ∷ [])
+  unfolding ifEq ifLt causeOf word.modOf
+  mod-agrees = mod-cause top (word.remainder (bitsOf w) x y) (eqb y 0) ∙ sym (first-one w (length m) l (leavesOver y))
 
-  agrees-42 : Agrees 42
-  unfolding Agrees applied operatorMeets ifEq ifLt causeOf reserved byteOf byteGood fetchOf wordGood word.modOf
-  agrees-42 = mod-cause top (word.remainder (bitsOf w) x y) (eqb y 0) ∙ sym (first-one w (length m) l (leavesOver y))
+  byte-agrees : stopIn (byteOf m top (byteAddress w x y)) ≡ firstOf w (length m) l (byteAt (byteAddress w x y) ∷ [])
+  unfolding ifEq ifLt causeOf byteOf byteGood
+  byte-agrees = good-cause _ _ _ ∙ sym (first-one w (length m) l (byteAt (byteAddress w x y)))
 
-  agrees-43 : Agrees 43
-  unfolding Agrees applied operatorMeets ifEq firstOf stopIn
-  agrees-43 = refl
+  fetch-agrees : stopIn (fetched top (fetchOf w m (wordAddress w x y))) ≡ firstOf w (length m) l (wordAt (wordAddress w x y) ∷ [])
+  unfolding ifEq ifLt causeOf fetchOf wordGood
+  fetch-agrees = fetched-cause top _ _ ∙ sym (first-one w (length m) l (wordAt (wordAddress w x y)))
 
-  agrees-44 : Agrees 44
-  unfolding Agrees applied operatorMeets ifEq firstOf stopIn
-  agrees-44 = refl
-
-  agrees-45 : Agrees 45
-  unfolding Agrees applied operatorMeets ifEq firstOf stopIn
-  agrees-45 = refl
-
-  agrees-46 : Agrees 46
-  unfolding Agrees applied operatorMeets ifEq ifLt causeOf reserved byteOf byteGood fetchOf wordGood word.rolOf
-  agrees-46 = shift-cause top _ _ ∙ sym (first-one w (length m) l (shiftsBy y))
-
-  agrees-47 : Agrees 47
-  unfolding Agrees applied operatorMeets ifEq ifLt causeOf reserved byteOf byteGood fetchOf wordGood word.rorOf
-  agrees-47 = shift-cause top _ _ ∙ sym (first-one w (length m) l (shiftsBy y))
-
-  agrees-48 : Agrees 48
-  unfolding Agrees applied operatorMeets ifEq ifLt causeOf reserved byteOf byteGood fetchOf wordGood word.shlOf
-  agrees-48 = shift-cause top _ _ ∙ sym (first-one w (length m) l (shiftsBy y))
-
-  agrees-49 : Agrees 49
-  unfolding Agrees applied operatorMeets ifEq ifLt causeOf reserved byteOf byteGood fetchOf wordGood word.bsrOf
-  agrees-49 = shift-cause top _ _ ∙ sym (first-one w (length m) l (shiftsBy y))
-
-  agrees-50 : Agrees 50
-  unfolding Agrees applied operatorMeets ifEq firstOf stopIn
-  agrees-50 = refl
-
-  agrees-51 : Agrees 51
-  unfolding Agrees applied operatorMeets ifEq firstOf stopIn
-  agrees-51 = refl
-
-  pub applied-cause : (e : ℕ) → 33 ≤ e → e < 52 → stopIn (applied w m top e x y) ≡ firstOf w (length m) l (operatorMeets w top e x y)
-  unfolding Agrees
-  applied-cause e a33 b =
-      next Agrees 33 e a33 agrees-33 (λ a34.
-      next Agrees 34 e a34 agrees-34 (λ a35.
-      next Agrees 35 e a35 agrees-35 (λ a36.
-      next Agrees 36 e a36 agrees-36 (λ a37.
-      next Agrees 37 e a37 agrees-37 (λ a38.
-      next Agrees 38 e a38 agrees-38 (λ a39.
-      next Agrees 39 e a39 agrees-39 (λ a40.
-      next Agrees 40 e a40 agrees-40 (λ a41.
-      next Agrees 41 e a41 agrees-41 (λ a42.
-      next Agrees 42 e a42 agrees-42 (λ a43.
-      next Agrees 43 e a43 agrees-43 (λ a44.
-      next Agrees 44 e a44 agrees-44 (λ a45.
-      next Agrees 45 e a45 agrees-45 (λ a46.
-      next Agrees 46 e a46 agrees-46 (λ a47.
-      next Agrees 47 e a47 agrees-47 (λ a48.
-      next Agrees 48 e a48 agrees-48 (λ a49.
-      next Agrees 49 e a49 agrees-49 (λ a50.
-      next Agrees 50 e a50 agrees-50 (λ a51.
-      next Agrees 51 e a51 agrees-51 (λ a52.
-      absurd (omega (arith, a52, b)))))))))))))))))))))
+  pub applied-cause : (e : ℕ) → stopIn (applied w m top e x y) ≡ firstOf w (length m) l (operatorMeets w top e x y)
+  unfolding applied operatorMeets operators Every Agrees
+  applied-cause e =
+      each-operator Agrees e
+      (word-agrees _,
+      (word-agrees _,
+      (asr-agrees,
+      (reserve-agrees x,
+      (reserve-agrees (bytesOf w * x),
+      (bsr-agrees,
+      (div-agrees,
+      (byte-agrees,
+      (fetch-agrees,
+      (mod-agrees,
+      (word-agrees _,
+      (word-agrees _,
+      (word-agrees _,
+      (rol-agrees,
+      (ror-agrees,
+      (shl-agrees,
+      (bsr-agrees,
+      (word-agrees _,
+      (word-agrees _,
+      tt)))))))))))))))))))
+      (word-agrees 0)
 
 -- ---- expressions
 
@@ -313,7 +286,7 @@ module _ (w : Width) (st : List ℕ) (s : ℕ) (m : List ℕ) (l top : ℕ) wher
       ≡ firstOf w (length m) l (touched st s os ++ operatorMeets w top e (wordOf w st s m (operandNo os 0)) (wordOf w st s m (operandNo os 1)))
 
   eval-plain : (o : Operand) → EvalAgrees 1 (o ∷ [])
-  unfolding EvalAgrees evalOf ifEq operatorMeets stopIn firstOf touched
+  unfolding EvalAgrees evalOf ifEq operatorMeets operatorOf lineIn operators stopIn firstOf touched
   eval-plain o = ap stopIn (fetched-is top (readOf w st s m o)) ∙ read-cause w st s m stopIn (Stop 32) (λ v. Value v top) o [] [] l refl refl
 
   module _ (e : ℕ) (a : 33 ≤ e) (b : e < 52) where
@@ -333,7 +306,7 @@ module _ (w : Width) (st : List ℕ) (s : ℕ) (m : List ℕ) (l top : ℕ) wher
         ap stopIn (eval-operator (o ∷ []))
         ∙ read-cause w st s m stopIn (Stop 32) (second (o ∷ [])) o [] (operatorMeets w top e (wordOf w st s m o) 0) l refl
         (ap stopIn (ifEq-yes (applied w m top e (wordOf w st s m o) 0) (onRead (readOf w st s m Unlisted) (Stop 32) (applied w m top e (wordOf w st s m o))) h)
-        ∙ applied-cause w m l top (wordOf w st s m o) 0 e a b)
+        ∙ applied-cause w m l top (wordOf w st s m o) 0 e)
 
     eval-two : (o p : Operand) → leastOperands e ≡ 2 → EvalAgrees e (o ∷ p ∷ [])
     unfolding EvalAgrees second stopIn touched
@@ -342,7 +315,7 @@ module _ (w : Width) (st : List ℕ) (s : ℕ) (m : List ℕ) (l top : ℕ) wher
         ∙ read-cause w st s m stopIn (Stop 32) (second (o ∷ p ∷ [])) o (p ∷ []) (operatorMeets w top e (wordOf w st s m o) (wordOf w st s m p)) l refl
         (ap stopIn (ifEq-no (applied w m top e (wordOf w st s m o) 0) (onRead (readOf w st s m p) (Stop 32) (applied w m top e (wordOf w st s m o))) (λ q. omega (arith, q, h)))
         ∙ read-cause w st s m stopIn (Stop 32) (applied w m top e (wordOf w st s m o)) p [] (operatorMeets w top e (wordOf w st s m o) (wordOf w st s m p)) l refl
-        (applied-cause w m l top (wordOf w st s m o) (wordOf w st s m p) e a b))
+        (applied-cause w m l top (wordOf w st s m o) (wordOf w st s m p) e))
 
     uses-operator : (n : ℕ) → expressionUses e n ≡ leastOperands e
     unfolding expressionUses isOperator

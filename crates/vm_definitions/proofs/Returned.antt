@@ -14,6 +14,7 @@ use Rattle.base_prelude.proofs.Choice.{true-false, either, either-eq, either-tr
 use Rattle.base_limits.specs.Width.{bytesOf}
 use Rattle.base_limits.specs.declared.Width.{Width}
 use Rattle.base_limits.specs.declared.State.the-variants.{Finished}
+use Rattle.base_limits.specs.Record.{ended, movedTo}
 use Rattle.base_word.specs.Bytes.{wordBytes}
 use Rattle.prog_tables.specs.Layout.{callExpression, noExpression}
 use Rattle.prog_tables.specs.Tests.{both, oneOf}
@@ -28,7 +29,7 @@ use Rattle.vm_definitions.specs.Access.{wordGood, storeFrom}
 use Rattle.vm_definitions.specs.Operands.{numberIn}
 use Rattle.vm_definitions.specs.Frames.{isReturn, isReturnCall, isCalling}
 use Rattle.vm_definitions.specs.Ledger.{Entry, Ledger, popped, countedIn, sumOf}
-use Rattle.vm_definitions.specs.Step.{World, Effect, stops, leaves, ended, movedTo, workedOf, handedTo, handedBy, returned, returnOf, effectOf}
+use Rattle.vm_definitions.specs.Step.{World, Effect, stops, leaves, workedOf, handedTo, handedBy, returned, returnOf, effectOf}
 use Rattle.vm_definitions.specs.declared.Worked.{Worked}
 use Rattle.vm_definitions.specs.declared.Worked.the-variants.{Value, Stop}
 use Rattle.vm_definitions.specs.declared.Resumption.{Resumption}

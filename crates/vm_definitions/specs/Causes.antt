@@ -10,27 +10,14 @@ use Rattle.base_prelude.specs.Choice.{ifLt, ifEq, ifTrue}
 use Rattle.base_limits.specs.Width.{bitsOf, bytesOf}
 use Rattle.base_limits.specs.declared.Width.{Width}
 use Rattle.lang_kinds.specs.Kinds as kind
-use Rattle.lang_words.specs.Numbers as op
 use Rattle.prog_tables.specs.Tests.{both, oneOf}
 use Rattle.prog_tables.specs.Statement.{Row, hasExpression, isCall}
 use Rattle.prog_tables.specs.declared.Operand.{Operand}
 use Rattle.vm_definitions.specs.Access.{byteAddress, wordAddress, loadOf}
 use Rattle.vm_definitions.specs.Operands.{isAt, numberIn}
-use Rattle.vm_definitions.specs.Expressions.{roundUp, operandNo}
+use Rattle.vm_definitions.specs.Operators.{Meeting, wordAt, byteAt, divides, leavesOver, shiftsBy, reservesTo, stacksTo, operatorMeets}
+use Rattle.vm_definitions.specs.Expressions.{operandNo}
 use Rattle.vm_definitions.specs.Step.{World}
-
-pub data Meeting : Type 0 where
-  -- a word or a byte of memory is touched at an address
-  wordAt : ℕ → Meeting
-  byteAt : ℕ → Meeting
-  -- `div` or `mod` of two words
-  divides : ℕ → ℕ → Meeting
-  leavesOver : ℕ → Meeting
-  -- a shift or rotate by a count
-  shiftsBy : ℕ → Meeting
-  -- auto memory up to an end, stack words up to an end
-  reservesTo : ℕ → Meeting
-  stacksTo : ℕ → Meeting
 
 -- the number of a cause, 0 where it is none: m bytes of memory, s words of stack
 unfoldable pub causeOf : Width → ℕ → ℕ → Meeting → ℕ
@@ -62,22 +49,6 @@ touched st s (o ∷ os) = ifTrue (isAt o) (wordAt (numberIn st s o) ∷ touched 
 -- an operand's word, where it can be read
 unfoldable pub wordOf : Width → List ℕ → ℕ → List ℕ → Operand → ℕ
 wordOf w st s m o = ifTrue (isAt o) (loadOf w m (numberIn st s o)) (numberIn st s o)
-
--- what operator e meets with words x and y
-unfoldable pub operatorMeets : Width → ℕ → ℕ → ℕ → ℕ → List Meeting
-operatorMeets w top e x y =
-    ifEq e op.asr (shiftsBy y ∷ [])
-    (ifEq e op.autoBytes (reservesTo (roundUp w top + x) ∷ [])
-    (ifEq e op.autoWords (reservesTo (roundUp w top + bytesOf w * x) ∷ [])
-    (ifEq e op.bsr (shiftsBy y ∷ [])
-    (ifEq e op.div (divides x y ∷ [])
-    (ifEq e op.getByte (byteAt (byteAddress w x y) ∷ [])
-    (ifEq e op.getWord (wordAt (wordAddress w x y) ∷ [])
-    (ifEq e op.modulo (leavesOver y ∷ [])
-    (ifEq e op.rol (shiftsBy y ∷ [])
-    (ifEq e op.ror (shiftsBy y ∷ [])
-    (ifEq e op.shl (shiftsBy y ∷ [])
-    (ifEq e op.shr (shiftsBy y ∷ []) [])))))))))))
 
 -- the stack words with the new frame of row r, which calls: "that sum with the new frame, for a tail call less the old one"; `sum`
 -- the words of all open functions, `last` those of the last, g the frame size of the function called

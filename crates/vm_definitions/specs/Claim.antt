@@ -8,9 +8,10 @@ use lib.ListN.{length}
 use Rattle.base_limits.specs.declared.Width.{Width}
 use Rattle.base_limits.specs.declared.State.{State}
 use Rattle.base_limits.specs.declared.State.the-variants.{Running, Finished, Stopped}
+use Rattle.base_limits.specs.Record.{stopped, withState}
 use Rattle.prog_tables.specs.Tests.{both}
 use Rattle.prog_tables.specs.Label.{Tables, rows}
-use Rattle.vm_definitions.specs.Step.{World, stopped, stepOf}
+use Rattle.vm_definitions.specs.Step.{World, stepOf}
 use Rattle.vm_definitions.specs.Start.{startOf}
 use Rattle.vm_definitions.specs.Causes.{firstCause, argumentsRead, passesStack}
 use Rattle.vm_definitions.specs.Ledger.{Ledger, ledgerOf, sumOf, lastOf}
@@ -21,12 +22,7 @@ use Rattle.vm_definitions.specs.declared.Started.the-variants.{Begun}
 
 -- the world with its record running and another memory
 unfoldable pub runningWith : World → List ℕ → World
-runningWith x m =
-    record {
-      machine = record { state = Running; next = x .machine .next; frame = x .machine .frame; used = x .machine .used; top = x .machine .top };
-      stack = x .stack;
-      memory = m;
-    }
+runningWith x m = record { machine = withState Running (x .machine); stack = x .stack; memory = m }
 
 -- the number of the first cause that its statement meets, the words in use being those of the ledger
 unfoldable pub causeIn : Width → Tables → Ledger → World → ℕ

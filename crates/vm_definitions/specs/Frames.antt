@@ -1,13 +1,13 @@
 -- Frames on the stack: the words of a new one, and the way out of those that a return leaves.
 -- Assumes nothing.
-use Prim.Native.Nat.{ℕ, zero, suc, _+_, _-_, _^_}
+use Prim.Native.Nat.{ℕ, zero, suc, _+_, _-_}
 use mathlib.Core.Bool.{Bool, true, false}
 use mathlib.Core.List.{List, [], _∷_, _++_}
 use lib.Dec.{ltb, leb, eqb}
 use lib.ListN.{getD, length, replicate}
 use Rattle.base_prelude.specs.Choice.{ifTrue}
-use Rattle.base_limits.specs.Width.{bitsOf}
 use Rattle.base_limits.specs.declared.Width.{Width}
+use Rattle.base_limits.specs.Record.{mark}
 use Rattle.lang_kinds.specs.Kinds as kind
 use Rattle.prog_tables.specs.Layout.{frameHead, callExpression}
 use Rattle.prog_tables.specs.Tests.{both, oneOf}
@@ -15,10 +15,6 @@ use Rattle.prog_tables.specs.Statement.{Row, hasExpression}
 use Rattle.prog_tables.specs.Faults.{inFunction, sizeAt}
 use Rattle.vm_definitions.specs.declared.Resumption.{Resumption}
 use Rattle.vm_definitions.specs.declared.Resumption.the-variants.{Ends, Caller}
-
--- "both 4294967295 for the first"
-unfoldable pub mark : Width → ℕ
-mark w = 2 ^ bitsOf w - 1
 
 -- "Frame words: place to return to, start of the caller's frame [..], auto top at entry, parameters, [..] Entering a function zeroes the words after
 -- the parameters"

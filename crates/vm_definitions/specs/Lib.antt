@@ -1,5 +1,6 @@
 pub mod Access
 pub mod Operands
+pub mod Operators
 pub mod Expressions
 pub mod Frames
 pub mod Broken

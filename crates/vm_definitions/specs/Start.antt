@@ -9,13 +9,13 @@ use Rattle.base_prelude.specs.Choice.{ifLt, ifEq, ifTrue}
 use Rattle.base_prelude.specs.Lists.{sameList}
 use Rattle.base_limits.specs.Limits.{stackWords}
 use Rattle.base_limits.specs.Width.{memoryLimit}
-use Rattle.base_limits.specs.Fresh.{freshOf}
 use Rattle.base_limits.specs.declared.Width.{Width}
+use Rattle.base_limits.specs.Record.{freshOf, mark}
 use Rattle.prog_tables.specs.Layout.{exportedFunction}
 use Rattle.prog_tables.specs.Tests.{both, oneOf, firstFrom}
 use Rattle.prog_tables.specs.Label.{Tables, rows, labelsOf}
 use Rattle.vm_definitions.specs.Access.{storeFrom}
-use Rattle.vm_definitions.specs.Frames.{mark, frameWords}
+use Rattle.vm_definitions.specs.Frames.{frameWords}
 use Rattle.vm_definitions.specs.Broken.{startBroken}
 use Rattle.vm_definitions.specs.Step.{World}
 use Rattle.vm_definitions.specs.declared.Broken.{Broken}

@@ -12,6 +12,7 @@ use Rattle.base_limits.specs.declared.Width.{Width}
 use Rattle.base_limits.specs.declared.State.{State}
 use Rattle.base_limits.specs.declared.State.the-variants.{Running, Finished, Stopped}
 use Rattle.base_limits.specs.declared.Machine.{Machine}
+use Rattle.base_limits.specs.Record.{goingOn, movedTo, ended, stopped}
 use Rattle.base_word.specs.Bytes.{wordBytes}
 use Rattle.lang_kinds.specs.Kinds as kind
 use Rattle.prog_tables.specs.Layout.{noExpression}
@@ -21,7 +22,7 @@ use Rattle.prog_tables.specs.Label.{Tables, rows}
 use Rattle.vm_definitions.specs.Access.{byteAddress, wordAddress, byteGood, wordGood, storeFrom}
 use Rattle.vm_definitions.specs.Operands.{Words, words, bad, numberIn, readOf, readAll, onRead}
 use Rattle.vm_definitions.specs.Expressions.{evalOf, operandNo, testHolds}
-use Rattle.vm_definitions.specs.Frames.{mark, frameWords, returnsTo, callerFrame, topAtEntry, isReturn, isCalling, resumptionOf}
+use Rattle.vm_definitions.specs.Frames.{frameWords, returnsTo, callerFrame, topAtEntry, isReturn, isCalling, resumptionOf}
 use Rattle.vm_definitions.specs.Broken.{stepBroken}
 use Rattle.vm_definitions.specs.declared.Worked.{Worked}
 use Rattle.vm_definitions.specs.declared.Worked.the-variants.{Value, Stop}
@@ -45,24 +46,6 @@ pub data Effect : Type 0 where
 unfoldable pub effectStop : Effect → ℕ
 effectStop (stops k) = k
 effectStop (leaves y) = 0
-
--- ---- the record
-
--- going on at statement n with an auto top
-unfoldable pub goingOn : Machine → ℕ → ℕ → Machine
-goingOn r n top = record { state = r .state; next = n; frame = r .frame; used = r .used; top = top }
-
--- in another frame
-unfoldable pub movedTo : Machine → ℕ → ℕ → ℕ → ℕ → Machine
-movedTo r n frame used top = record { state = r .state; next = n; frame = frame; used = used; top = top }
-
--- finished with a word: no stack words in use, no statement, no frame
-unfoldable pub ended : Width → ℕ → ℕ → Machine
-ended w v top = record { state = Finished v; next = mark w; frame = mark w; used = 0; top = top }
-
--- stopped at its statement
-unfoldable pub stopped : Machine → ℕ → Machine
-stopped r k = record { state = Stopped k (r .next); next = r .next; frame = r .frame; used = r .used; top = r .top }
 
 -- ---- statements: of a world x with the view f of c rows, the row being f (x .machine .next)
 

@@ -17,7 +17,7 @@ use Rattle.prog_tables.specs.Tests.{both, oneOf, given, all, some}
 use Rattle.prog_tables.specs.Statement.{Row, hasExpression, isCall}
 use Rattle.prog_tables.specs.Label.{Tables, rows}
 use Rattle.prog_tables.specs.Nesting.{isListed}
-use Rattle.prog_tables.specs.Faults.{expressionListed, inFunction, sizeAt, kindFault, targetFault, calleeFault, rowFault, countFault}
+use Rattle.prog_tables.specs.Faults.{expressionListed, expressionFault, inFunction, sizeAt, kindFault, targetFault, calleeFault, rowFault, countFault}
 use Rattle.prog_tables.proofs.Each.{both-left, both-right, given-then, all-at}
 use Rattle.vm_definitions.specs.Frames.{returnsTo, callerFrame, topAtEntry, isFirst, isReturn, isCalling, calledFrom, headGood, passesOn, leavesGood, resumptionOf}
 use Rattle.vm_definitions.specs.Broken.{lower, lowest, orElse, frameEnds, rowsUsed, recordGood, stepBroken}
@@ -27,6 +27,7 @@ use Rattle.vm_definitions.specs.declared.Broken.the-variants.{No, At, Somewhere
 use Rattle.vm_guard.specs.Guard.{rowBad, withinBroken}
 use Rattle.vm_guard.specs.Passed.{Passed}
 use Rattle.prog_tables.proofs.Each.{one-no, one-rest}
+use Rattle.prog_tables.proofs.CallRows.{expression-listed}
 
 -- refusal 35 of a step: the counts, then the rest
 pub step-broken : (w : Width) (t : Tables) (r : Machine) (st : List ℕ) (m : ℕ)
@@ -93,9 +94,9 @@ module _ (f : ℕ → Row) (c d n : ℕ) (e : rowFault f c d n ≡ false) where
   unfolding kindFault ifTrue
   row-listed h = by (isListed (f n .kind)) kind-good
     where
-      by : (q : Bool) → ifTrue q (both (hasExpression (f n .kind)) (not (expressionListed (f n .kind) (f n .expr)))) true ≡ false
+      by : (q : Bool) → ifTrue q (expressionFault (f n .kind) (f n .expr)) true ≡ false
           → expressionListed (f n .kind) (f n .expr) ≡ true
-      by true g = not-both (hasExpression (f n .kind)) (expressionListed (f n .kind) (f n .expr)) g h
+      by true g = expression-listed (f n .kind) (f n .expr) g h
       by false g = true-false g
 
   pub row-callee : isCall (f n .kind) (f n .expr) ≡ true → f n .callee < c

@@ -5,6 +5,7 @@ use mathlib.Core.Bool.{Bool, false}
 use mathlib.Core.List.{List}
 use lib.ListN.{length}
 use Rattle.base_prelude.specs.Choice.{ifLt, ifEq, ifTrue}
+use Rattle.base_limits.specs.Limits.{memoryBytes, stackWords}
 use Rattle.base_limits.specs.declared.Width.the-variants.{Bits32}
 use Rattle.base_limits.specs.declared.Machine.{Machine}
 use Rattle.prog_tables.specs.Statement.{Row}
@@ -15,8 +16,8 @@ use Rattle.vm_quick_operands.specs.Fast.{sizeOf}
 unfoldable pub frameGood : (ℕ → Row) → ℕ → ℕ → Machine → ℕ → List ℕ → Bool
 frameGood f c m r z st =
     ifLt m (r .top) false
-    (ifLt 65536 m false
-    (ifLt 16384 (length st) false
+    (ifLt memoryBytes m false
+    (ifLt stackWords (length st) false
     (ifLt (length st) (r .used) false
     (ifEq (r .frame + z) (r .used) (headGood Bits32 f c st (r .frame)) false))))
 

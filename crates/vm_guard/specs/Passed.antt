@@ -5,6 +5,7 @@ use mathlib.Core.Bool.{true, false}
 use mathlib.Core.List.{List}
 use Prim.Native.Nat.{ℕ, suc, _<_, _≤_}
 use lib.ListN.{length}
+use Rattle.base_limits.specs.Limits.{memoryBytes, stackWords}
 use Rattle.base_limits.specs.declared.Width.the-variants.{Bits32}
 use Rattle.base_limits.specs.declared.Machine.{Machine}
 use Rattle.prog_tables.specs.Statement.{Row, hasExpression, isCall}
@@ -15,7 +16,7 @@ pub record Passed (f : ℕ → Row) (c d : ℕ) (r : Machine) (st : List ℕ) (m
   pub within : r .next < c
   pub row : rowFault f c d (r .next) ≡ false
   pub callee : isCall (f (r .next) .kind) (f (r .next) .expr) ≡ true → f (r .next) .callee < c
-  pub stack : length st ≤ 16384
-  pub memory : m ≤ 65536
+  pub stack : length st ≤ stackWords
+  pub memory : m ≤ memoryBytes
   pub leaves : isReturn (f (r .next)) ≡ true → leavesGood Bits32 f c m st (suc (r .frame)) (r .frame) ≡ true
   pub listed : hasExpression (f (r .next) .kind) ≡ true → expressionListed (f (r .next) .kind) (f (r .next) .expr) ≡ true

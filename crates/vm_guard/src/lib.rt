@@ -87,8 +87,8 @@ fn is_first(st: &[u32], s: u32) -> bool
 {
     if s == 0 {
         let p = place_at(st, s);
-        if p == 4294967295 {
-            return caller_at(st, s) == 4294967295;
+        if p == Machine::MARK {
+            return caller_at(st, s) == Machine::MARK;
         }
         return false;
     }
@@ -369,10 +369,10 @@ fn has_shape(t: &[u32], c: u32, m: usize, r: Machine, st: &[u32]) -> bool
     if m < top as usize {
         return false;
     }
-    if 65536 < m {
+    if Machine::MEMORY_BYTES < m {
         return false;
     }
-    if 16384 < st.len() {
+    if Machine::STACK_WORDS < st.len() {
         return false;
     }
     frame_ends(t, c, r, st.len())
@@ -440,10 +440,10 @@ fn is_frame_good(t: &[u32], c: u32, m: usize, r: Machine, z: u32, st: &[u32]) ->
     if m < top as usize {
         return false;
     }
-    if 65536 < m {
+    if Machine::MEMORY_BYTES < m {
         return false;
     }
-    if 16384 < st.len() {
+    if Machine::STACK_WORDS < st.len() {
         return false;
     }
     let frame = r.frame;

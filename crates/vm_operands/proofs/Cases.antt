@@ -13,6 +13,7 @@ use Rattle.base_prelude.specs.Choice.{pick, ifLt, ifEq, ifTrue}
 use Rattle.base_prelude.proofs.Choice.{true-false, ifEq-no}
 use Rattle.base_limits.specs.declared.Width.the-variants.{Bits32}
 use Rattle.lang_words.specs.Words.{leastOperands}
+use Rattle.lang_words.specs.Numbers as op
 use Rattle.base_word.specs.Word.{addOf, subOf, mulOf, divOf, modOf, andOf, orOf, xorOf, notOf, shlOf, bsrOf, asrOf, rolOf, rorOf, eqOf, geOf, gtOf, leOf, ltOf, neOf}
 use Rattle.base_word.specs.declared.Answer.{Answer}
 use Rattle.prog_tables.specs.Statement.{isOperator, expressionUses}
@@ -21,11 +22,13 @@ use Rattle.prog_tables.specs.declared.Operand.the-variants.{Constant, Local, Ad
 use Rattle.prog_tables.proofs.Each.{both-right}
 use Rattle.vm_definitions.specs.Access.{byteAddress, wordAddress, byteGood, wordGood, wordFrom, loadOf}
 use Rattle.vm_definitions.specs.Operands.{isAt, numberIn, fetchOf, readOf, onRead}
-use Rattle.vm_definitions.specs.Expressions.{roundUp, reserved, answered, fetched, byteOf, applied, evalOf, testHolds}
+use Rattle.vm_definitions.specs.Expressions.{evalOf, testHolds}
+use Rattle.vm_definitions.proofs.OperatorTable.{Every, operator-none}
 use Rattle.vm_definitions.specs.declared.Read.{Read}
 use Rattle.vm_definitions.specs.declared.Read.the-variants.{Got, Bad}
 use Rattle.vm_definitions.specs.declared.Worked.{Worked}
 use Rattle.vm_definitions.specs.declared.Worked.the-variants.{Value, Stop}
+use Rattle.vm_definitions.specs.Operators.{Operator, operators, lineIn, operatorOf, roundUp, reserved, answered, fetched, byteOf, applied}
 
 -- ---- words of memory
 
@@ -135,110 +138,106 @@ module _ (m : List ℕ) (top a : ℕ) (b : Bool) (d : b ≡ byteGood (length m) 
 
 pub ruleset byte-ways = (byte-got, byte-bad)
 
+-- ---- addresses
+
+pub word-address : (b o v r : ℕ) → v ≡ mulOf 32 4 o → r ≡ addOf 32 b v → r ≡ wordAddress Bits32 b o
+unfolding wordAddress mulOf addOf
+word-address b o v r d e = omega (arith, d, e)
+
 -- ---- operators
 
 module _ (m : List ℕ) (top e x y : ℕ) where
-  pub apply-33 : (v : ℕ) (r : Worked) → e ≡ 33 → v ≡ addOf 32 x y → r ≡ Value v top → r ≡ applied Bits32 m top e x y
-  unfolding applied ifEq
-  apply-33 v r h d q = rw (h, ← d) q
+  pub apply-add : (v : ℕ) (r : Worked) → e ≡ op.add → v ≡ addOf 32 x y → r ≡ Value v top → r ≡ applied Bits32 m top e x y
+  unfolding applied operatorOf lineIn operators ifEq
+  apply-add v r h d q = rw (h, ← d) q
 
-  pub apply-34 : (v : ℕ) (r : Worked) → e ≡ 34 → v ≡ andOf 32 x y → r ≡ Value v top → r ≡ applied Bits32 m top e x y
-  unfolding applied ifEq
-  apply-34 v r h d q = rw (h, ← d) q
+  pub apply-and : (v : ℕ) (r : Worked) → e ≡ op.and → v ≡ andOf 32 x y → r ≡ Value v top → r ≡ applied Bits32 m top e x y
+  unfolding applied operatorOf lineIn operators ifEq
+  apply-and v r h d q = rw (h, ← d) q
 
-  pub apply-35 : (a : Answer) (r : Worked) → e ≡ 35 → a ≡ asrOf 32 x y → r ≡ answered top a → r ≡ applied Bits32 m top e x y
-  unfolding applied ifEq
-  apply-35 a r h d q = rw (h, ← d) q
+  pub apply-asr : (a : Answer) (r : Worked) → e ≡ op.asr → a ≡ asrOf 32 x y → r ≡ answered top a → r ≡ applied Bits32 m top e x y
+  unfolding applied operatorOf lineIn operators ifEq
+  apply-asr a r h d q = rw (h, ← d) q
 
-  pub apply-36 : (r : Worked) → e ≡ 36 → r ≡ reserved Bits32 (length m) top x → r ≡ applied Bits32 m top e x y
-  unfolding applied ifEq
-  apply-36 r h d = rw h d
+  pub apply-auto-bytes : (r : Worked) → e ≡ op.autoBytes → r ≡ reserved Bits32 (length m) top x → r ≡ applied Bits32 m top e x y
+  unfolding applied operatorOf lineIn operators ifEq
+  apply-auto-bytes r h d = rw h d
 
-  pub apply-37 : (r : Worked) → e ≡ 37 → r ≡ reserved Bits32 (length m) top (4 * x) → r ≡ applied Bits32 m top e x y
-  unfolding applied ifEq
-  apply-37 r h d = rw h d
+  pub apply-auto-words : (r : Worked) → e ≡ op.autoWords → r ≡ reserved Bits32 (length m) top (4 * x) → r ≡ applied Bits32 m top e x y
+  unfolding applied operatorOf lineIn operators ifEq
+  apply-auto-words r h d = rw h d
 
-  pub apply-38 : (a : Answer) (r : Worked) → e ≡ 38 → a ≡ bsrOf 32 x y → r ≡ answered top a → r ≡ applied Bits32 m top e x y
-  unfolding applied ifEq
-  apply-38 a r h d q = rw (h, ← d) q
+  pub apply-bsr : (a : Answer) (r : Worked) → e ≡ op.bsr → a ≡ bsrOf 32 x y → r ≡ answered top a → r ≡ applied Bits32 m top e x y
+  unfolding applied operatorOf lineIn operators ifEq
+  apply-bsr a r h d q = rw (h, ← d) q
 
-  pub apply-39 : (a : Answer) (r : Worked) → e ≡ 39 → a ≡ divOf 32 x y → r ≡ answered top a → r ≡ applied Bits32 m top e x y
-  unfolding applied ifEq
-  apply-39 a r h d q = rw (h, ← d) q
+  pub apply-div : (a : Answer) (r : Worked) → e ≡ op.div → a ≡ divOf 32 x y → r ≡ answered top a → r ≡ applied Bits32 m top e x y
+  unfolding applied operatorOf lineIn operators ifEq
+  apply-div a r h d q = rw (h, ← d) q
 
-  pub apply-40 : (a : ℕ) (r : Worked) → e ≡ 40 → a ≡ byteAddress Bits32 x y → r ≡ byteOf m top a → r ≡ applied Bits32 m top e x y
-  unfolding applied ifEq
-  apply-40 a r h d q = rw (h, ← d) q
+  pub apply-get-byte : (a : ℕ) (r : Worked) → e ≡ op.getByte → a ≡ byteAddress Bits32 x y → r ≡ byteOf m top a → r ≡ applied Bits32 m top e x y
+  unfolding applied operatorOf lineIn operators ifEq
+  apply-get-byte a r h d q = rw (h, ← d) q
 
-  pub apply-41 : (a : ℕ) (f : Read) (r : Worked) → e ≡ 41 → a ≡ wordAddress Bits32 x y → f ≡ fetchOf Bits32 m a → r ≡ fetched top f → r ≡ applied Bits32 m top e x y
-  unfolding applied ifEq
-  apply-41 a f r h d q g = rw (h, ← d, ← q) g
+  pub apply-get-word : (a : ℕ) (f : Read) (r : Worked) → e ≡ op.getWord → a ≡ wordAddress Bits32 x y → f ≡ fetchOf Bits32 m a → r ≡ fetched top f → r ≡ applied Bits32 m top e x y
+  unfolding applied operatorOf lineIn operators ifEq
+  apply-get-word a f r h d q g = rw (h, ← d, ← q) g
 
-  pub apply-42 : (a : Answer) (r : Worked) → e ≡ 42 → a ≡ modOf 32 x y → r ≡ answered top a → r ≡ applied Bits32 m top e x y
-  unfolding applied ifEq
-  apply-42 a r h d q = rw (h, ← d) q
+  pub apply-modulo : (a : Answer) (r : Worked) → e ≡ op.modulo → a ≡ modOf 32 x y → r ≡ answered top a → r ≡ applied Bits32 m top e x y
+  unfolding applied operatorOf lineIn operators ifEq
+  apply-modulo a r h d q = rw (h, ← d) q
 
-  pub apply-43 : (v : ℕ) (r : Worked) → e ≡ 43 → v ≡ mulOf 32 x y → r ≡ Value v top → r ≡ applied Bits32 m top e x y
-  unfolding applied ifEq
-  apply-43 v r h d q = rw (h, ← d) q
+  pub apply-mul : (v : ℕ) (r : Worked) → e ≡ op.mul → v ≡ mulOf 32 x y → r ≡ Value v top → r ≡ applied Bits32 m top e x y
+  unfolding applied operatorOf lineIn operators ifEq
+  apply-mul v r h d q = rw (h, ← d) q
 
-  pub apply-44 : (v : ℕ) (r : Worked) → e ≡ 44 → v ≡ notOf 32 x → r ≡ Value v top → r ≡ applied Bits32 m top e x y
-  unfolding applied ifEq
-  apply-44 v r h d q = rw (h, ← d) q
+  pub apply-not : (v : ℕ) (r : Worked) → e ≡ op.not → v ≡ notOf 32 x → r ≡ Value v top → r ≡ applied Bits32 m top e x y
+  unfolding applied operatorOf lineIn operators ifEq
+  apply-not v r h d q = rw (h, ← d) q
 
-  pub apply-45 : (v : ℕ) (r : Worked) → e ≡ 45 → v ≡ orOf 32 x y → r ≡ Value v top → r ≡ applied Bits32 m top e x y
-  unfolding applied ifEq
-  apply-45 v r h d q = rw (h, ← d) q
+  pub apply-or : (v : ℕ) (r : Worked) → e ≡ op.or → v ≡ orOf 32 x y → r ≡ Value v top → r ≡ applied Bits32 m top e x y
+  unfolding applied operatorOf lineIn operators ifEq
+  apply-or v r h d q = rw (h, ← d) q
 
-  pub apply-46 : (a : Answer) (r : Worked) → e ≡ 46 → a ≡ rolOf 32 x y → r ≡ answered top a → r ≡ applied Bits32 m top e x y
-  unfolding applied ifEq
-  apply-46 a r h d q = rw (h, ← d) q
+  pub apply-rol : (a : Answer) (r : Worked) → e ≡ op.rol → a ≡ rolOf 32 x y → r ≡ answered top a → r ≡ applied Bits32 m top e x y
+  unfolding applied operatorOf lineIn operators ifEq
+  apply-rol a r h d q = rw (h, ← d) q
 
-  pub apply-47 : (a : Answer) (r : Worked) → e ≡ 47 → a ≡ rorOf 32 x y → r ≡ answered top a → r ≡ applied Bits32 m top e x y
-  unfolding applied ifEq
-  apply-47 a r h d q = rw (h, ← d) q
+  pub apply-ror : (a : Answer) (r : Worked) → e ≡ op.ror → a ≡ rorOf 32 x y → r ≡ answered top a → r ≡ applied Bits32 m top e x y
+  unfolding applied operatorOf lineIn operators ifEq
+  apply-ror a r h d q = rw (h, ← d) q
 
-  pub apply-48 : (a : Answer) (r : Worked) → e ≡ 48 → a ≡ shlOf 32 x y → r ≡ answered top a → r ≡ applied Bits32 m top e x y
-  unfolding applied ifEq
-  apply-48 a r h d q = rw (h, ← d) q
+  pub apply-shl : (a : Answer) (r : Worked) → e ≡ op.shl → a ≡ shlOf 32 x y → r ≡ answered top a → r ≡ applied Bits32 m top e x y
+  unfolding applied operatorOf lineIn operators ifEq
+  apply-shl a r h d q = rw (h, ← d) q
 
-  pub apply-49 : (a : Answer) (r : Worked) → e ≡ 49 → a ≡ bsrOf 32 x y → r ≡ answered top a → r ≡ applied Bits32 m top e x y
-  unfolding applied ifEq
-  apply-49 a r h d q = rw (h, ← d) q
+  pub apply-shr : (a : Answer) (r : Worked) → e ≡ op.shr → a ≡ bsrOf 32 x y → r ≡ answered top a → r ≡ applied Bits32 m top e x y
+  unfolding applied operatorOf lineIn operators ifEq
+  apply-shr a r h d q = rw (h, ← d) q
 
-  pub apply-50 : (v : ℕ) (r : Worked) → e ≡ 50 → v ≡ subOf 32 x y → r ≡ Value v top → r ≡ applied Bits32 m top e x y
-  unfolding applied ifEq
-  apply-50 v r h d q = rw (h, ← d) q
+  pub apply-sub : (v : ℕ) (r : Worked) → e ≡ op.sub → v ≡ subOf 32 x y → r ≡ Value v top → r ≡ applied Bits32 m top e x y
+  unfolding applied operatorOf lineIn operators ifEq
+  apply-sub v r h d q = rw (h, ← d) q
 
-  pub apply-51 : (v : ℕ) (r : Worked) → (e ≡ 33 → ⊥) → (e ≡ 34 → ⊥) → (e ≡ 35 → ⊥) → (e ≡ 36 → ⊥) → (e ≡ 37 → ⊥) → (e ≡ 38 → ⊥)
-      → (e ≡ 39 → ⊥) → (e ≡ 40 → ⊥) → (e ≡ 41 → ⊥) → (e ≡ 42 → ⊥) → (e ≡ 43 → ⊥) → (e ≡ 44 → ⊥)
-      → (e ≡ 45 → ⊥) → (e ≡ 46 → ⊥) → (e ≡ 47 → ⊥) → (e ≡ 48 → ⊥) → (e ≡ 49 → ⊥) → (e ≡ 50 → ⊥)
-      → v ≡ xorOf 32 x y → r ≡ Value v top → r ≡ applied Bits32 m top e x y
-  unfolding applied ifEq
-  apply-51 v r p33 p34 p35 p36 p37 p38 p39 p40 p41 p42 p43 p44 p45 p46 p47 p48 p49 p50 d q =
-      rw (
-        ne-eqb e 33 p33,
-        ne-eqb e 34 p34,
-        ne-eqb e 35 p35,
-        ne-eqb e 36 p36,
-        ne-eqb e 37 p37,
-        ne-eqb e 38 p38,
-        ne-eqb e 39 p39,
-        ne-eqb e 40 p40,
-        ne-eqb e 41 p41,
-        ne-eqb e 42 p42,
-        ne-eqb e 43 p43,
-        ne-eqb e 44 p44,
-        ne-eqb e 45 p45,
-        ne-eqb e 46 p46,
-        ne-eqb e 47 p47,
-        ne-eqb e 48 p48,
-        ne-eqb e 49 p49,
-        ne-eqb e 50 p50,
-        ← d,
-      ) q
+  pub apply-xor : (v : ℕ) (r : Worked) → e ≡ op.xor → v ≡ xorOf 32 x y → r ≡ Value v top → r ≡ applied Bits32 m top e x y
+  unfolding applied operatorOf lineIn operators ifEq
+  apply-xor v r h d q = rw (h, ← d) q
 
-pub ruleset apply-ways = (apply-33, apply-34, apply-35, apply-36, apply-37, apply-38, apply-39, apply-40, apply-41, apply-42, apply-43, apply-44, apply-45, apply-46, apply-47, apply-48, apply-49, apply-50, apply-51)
+  pub apply-other : (r : Worked)
+      → (e ≡ op.add → ⊥) → (e ≡ op.and → ⊥) → (e ≡ op.asr → ⊥) → (e ≡ op.autoBytes → ⊥) → (e ≡ op.autoWords → ⊥)
+      → (e ≡ op.bsr → ⊥) → (e ≡ op.div → ⊥) → (e ≡ op.getByte → ⊥) → (e ≡ op.getWord → ⊥) → (e ≡ op.modulo → ⊥)
+      → (e ≡ op.mul → ⊥) → (e ≡ op.not → ⊥) → (e ≡ op.or → ⊥) → (e ≡ op.rol → ⊥) → (e ≡ op.ror → ⊥)
+      → (e ≡ op.shl → ⊥) → (e ≡ op.shr → ⊥) → (e ≡ op.sub → ⊥) → (e ≡ op.xor → ⊥)
+      → r ≡ Value 0 top → r ≡ applied Bits32 m top e x y
+  unfolding applied operators Every
+  apply-other r p33 p34 p35 p36 p37 p38 p39 p40 p41 p42 p43 p44 p45 p46 p47 p48 p49 p50 p51 q =
+      q
+      ∙ ap (λ (o : Operator). o .result Bits32 m top x y)
+      (sym
+      (operator-none e
+      (p33, (p34, (p35, (p36, (p37, (p38, (p39, (p40, (p41, (p42, (p43, (p44, (p45, (p46, (p47, (p48, (p49, (p50, (p51, tt)))))))))))))))))))))
+
+pub ruleset apply-ways = (apply-add, apply-and, apply-asr, apply-auto-bytes, apply-auto-words, apply-bsr, apply-div, apply-get-byte, apply-get-word, apply-modulo, apply-mul, apply-not, apply-or, apply-rol, apply-ror, apply-shl, apply-shr, apply-sub, apply-xor, apply-other)
 
 -- ---- expressions
 

@@ -10,12 +10,14 @@ ghost use mathlib.Core.Path.{_≡_};
 ghost use mathlib.Core.List.{[], _∷_};
 ghost use Prim.Native.Nat.{_+_, _≤_, _<_};
 ghost use lib.ListN.{length};
+ghost use Rattle.base_limits.specs.Limits.{memoryBytes};
 ghost use Rattle.base_limits.specs.declared.Width.the-variants.{Bits32};
 ghost use Rattle.vm_definitions.specs.declared.Worked.the-variants.{Value};
 ghost use Rattle.vm_definitions.specs.Access.{byteAddress, wordAddress, byteGood, wordGood, loadOf};
 ghost use Rattle.vm_definitions.specs.Operands.{numberIn, fetchOf, readOf};
 ghost use Rattle.lang_words.specs.Words.{leastOperands};
-ghost use Rattle.vm_definitions.specs.Expressions.{reserved, answered, fetched, byteOf, applied, evalOf, testHolds};
+ghost use Rattle.vm_definitions.specs.Expressions.{evalOf, testHolds};
+ghost use Rattle.vm_definitions.specs.Operators.{reserved, answered, fetched, byteOf, applied};
 
 // The address of a byte: base and offset.
 pub fn byte_address(b: u32, o: u32) -> u32
@@ -28,7 +30,7 @@ pub fn byte_address(b: u32, o: u32) -> u32
 pub fn word_address(b: u32, o: u32) -> u32
     ensures { λ r. ⌜ r ≡ wordAddress Bits32 b o ⌝ }
 {
-    ((b as u64 + 4 * o as u64) % 4294967296) as u32
+    base_word::add(b, base_word::mul(4, o))
 }
 
 // Whether n bytes of memory have the byte at a.
@@ -105,7 +107,7 @@ pub fn read_operand(st: &[u32], s: u32, m: &[u8], o: Operand) -> Read
 
 // Auto memory: so many bytes behind the auto top, of n bytes of memory.
 pub fn reserve(n: usize, top: u32, bytes: u64) -> Worked
-    requires { ⌜ (n ≤ 65536) × (bytes < 17179869184) ⌝ }
+    requires { ⌜ (n ≤ memoryBytes) × (bytes < 17179869184) ⌝ }
     ensures { λ r. ⌜ r ≡ reserved Bits32 n top bytes ⌝ }
 {
     let at = (top as u64 + 3) / 4 * 4;
@@ -160,7 +162,7 @@ fn byte_at(m: &[u8], top: u32, a: u32) -> Worked
 
 // Operator e of x, and of y where it takes two.
 pub fn apply(e: u32, x: u32, y: u32, m: &[u8], top: u32) -> Worked
-    requires { ⌜ length (now m) ≤ 65536 ⌝ }
+    requires { ⌜ length (now m) ≤ memoryBytes ⌝ }
     ensures { λ r. ⌜ r ≡ applied Bits32 (now (m .entry)) top e x y ⌝ }
 {
     match e {
@@ -182,7 +184,8 @@ pub fn apply(e: u32, x: u32, y: u32, m: &[u8], top: u32) -> Worked
         Operator::SHL => from_answer(top, base_word::shl(x, y)),
         Operator::SHR => from_answer(top, base_word::bsr(x, y)),
         Operator::SUB => with_top(base_word::sub(x, y), top),
-        _ => with_top(base_word::xor(x, y), top),
+        Operator::XOR => with_top(base_word::xor(x, y), top),
+        _ => with_top(0, top),
     }
 }
 
@@ -198,7 +201,7 @@ fn least_operands(e: u32) -> u32
 
 // An expression of kind e over operands a and b.
 pub fn eval(e: u32, a: Operand, b: Operand, st: &[u32], s: u32, m: &[u8], top: u32) -> Worked
-    requires { ⌜ length (now m) ≤ 65536 ⌝ }
+    requires { ⌜ length (now m) ≤ memoryBytes ⌝ }
     ensures { λ r. ⌜ r ≡ evalOf Bits32 (now (st .entry)) s (now (m .entry)) top e (a ∷ b ∷ []) ⌝ }
 {
     let f = read_operand(st, s, m, a);

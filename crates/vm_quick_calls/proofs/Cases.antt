@@ -101,29 +101,30 @@ module _ (t : List ℕ) (c p k b : ℕ) (e : b ≡ rowAt t p .b) where
 
 pub ruleset callees = (callee-fits, callee-other)
 
-module _ (t : List ℕ) (size n k : ℕ) (e : k ≡ rowAt t n .kind) where
-  pub local-bare : k ≡ 11 → true ≡ callsLocal (rowAt t) size n
-  unfolding callsLocal ifEq
-  local-bare h = rw (← e, h)
-
-  module _ (x : ℕ) (n11 : k ≡ 11 → ⊥) (q : x ≡ rowAt t n .expr) where
+module _ (t : List ℕ) (size n : ℕ) where
+  module _ (x : ℕ) (q : x ≡ rowAt t n .expr) where
     pub local-none : (x ≡ 2 → ⊥) → false ≡ callsLocal (rowAt t) size n
     unfolding callsLocal ifEq
-    local-none h = rw (← e, ne-eqb k 11 n11, ← q, ne-eqb x 2 h)
+    local-none h = rw (← q, ne-eqb x 2 h)
 
-    module _ (a : ℕ) (h : x ≡ 2) (p : a ≡ rowAt t n .a) where
+    module _ (h : x ≡ 2) (k a : ℕ) (e : k ≡ rowAt t n .kind) (p : a ≡ rowAt t n .a) where
+      pub local-bare : k ≡ 11 → true ≡ callsLocal (rowAt t) size n
+      unfolding callsLocal ifEq
+      local-bare z = rw (← q, h, ← e, z)
+
       pub local-let : k ≡ 5 → ltb a size ≡ callsLocal (rowAt t) size n
       unfolding callsLocal ifEq
-      local-let z = rw (← e, z, ← q, h, ← p)
+      local-let z = rw (← q, h, ← e, z, ← p)
 
       pub local-set : k ≡ 6 → ltb a size ≡ callsLocal (rowAt t) size n
       unfolding callsLocal ifEq
-      local-set z = rw (← e, z, ← q, h, ← p)
+      local-set z = rw (← q, h, ← e, z, ← p)
 
-      pub local-other : (k ≡ 5 → ⊥) → (k ≡ 6 → ⊥) → false ≡ callsLocal (rowAt t) size n
+      pub local-other : (k ≡ 11 → ⊥) → (k ≡ 5 → ⊥) → (k ≡ 6 → ⊥) → false ≡ callsLocal (rowAt t) size n
       unfolding callsLocal ifEq
-      local-other y z = rw (← e, ne-eqb k 11 n11, ← q, h, ne-eqb k 5 y, ne-eqb k 6 z)
+      local-other w y z = rw (← q, h, ← e, ne-eqb k 11 w, ne-eqb k 5 y, ne-eqb k 6 z)
 
+module _ (t : List ℕ) (size n k : ℕ) (e : k ≡ rowAt t n .kind) where
   pub any-return : (x : ℕ) → k ≡ 13 → x ≡ rowAt t n .expr → eqb x 2 ≡ callsAny (rowAt t) size n
   unfolding callsAny ifEq
   any-return x h q = rw (← e, h, ← q)
@@ -206,17 +207,22 @@ module _ (t : List ℕ) (c d size : ℕ) (st : List ℕ) (s : ℕ) (m : List ℕ
 
 pub ruleset calling = (transfer-many, transfer-past, transfer-none, transfer-enters)
 
-module _ (t : List ℕ) (c d size : ℕ) (st : List ℕ) (s : ℕ) (m : List ℕ) (n top : ℕ) (h : top ≡ getD st (s + 2) 0) where
-  pub tail-high : length m < top → transferred Stays st ≡ tailTransfer t c d size st s m n
-  unfolding tailTransfer ifLt
-  tail-high l = rw (← h, lt-ltb (length m) top l)
+module _ (t : List ℕ) (c d size : ℕ) (st : List ℕ) (s : ℕ) (m : List ℕ) (n x : ℕ) (f : x ≡ rowAt t n .expr) where
+  pub tail-other : (x ≡ 2 → ⊥) → transferred Stays st ≡ tailTransfer t c d size st s m n
+  unfolding tailTransfer ifEq
+  tail-other q = rw (← f, ne-eqb x 2 q)
 
-  pub tail-calls : (call below : ℕ) (r : Transfer) (st′ : List ℕ) → call ≡ getD st s 0 → below ≡ getD st (s + 1) 0 → top ≤ length m
-      → transferred r st′ ≡ callTransfer t c d size st s m n s call below top → transferred r st′ ≡ tailTransfer t c d size st s m n
-  unfolding tailTransfer ifLt
-  tail-calls call below r st′ e g l q = rw (← h, le-ltb (length m) top l, ← e, ← g) q
+  module _ (z : x ≡ 2) (top : ℕ) (h : top ≡ getD st (s + 2) 0) where
+    pub tail-high : length m < top → transferred Stays st ≡ tailTransfer t c d size st s m n
+    unfolding tailTransfer ifLt ifEq
+    tail-high l = rw (← f, z, ← h, lt-ltb (length m) top l)
 
-pub ruleset tailing = (tail-high, tail-calls)
+    pub tail-calls : (call below : ℕ) (r : Transfer) (st′ : List ℕ) → call ≡ getD st s 0 → below ≡ getD st (s + 1) 0 → top ≤ length m
+        → transferred r st′ ≡ callTransfer t c d size st s m n s call below top → transferred r st′ ≡ tailTransfer t c d size st s m n
+    unfolding tailTransfer ifLt ifEq
+    tail-calls call below r st′ e g l q = rw (← f, z, ← h, le-ltb (length m) top l, ← e, ← g) q
+
+pub ruleset tailing = (tail-other, tail-high, tail-calls)
 
 -- ---- returns
 

@@ -12,6 +12,7 @@ use Rattle.base_prelude.specs.Choice.{ifLt, ifEq, ifTrue}
 use Rattle.base_prelude.proofs.Choice.{true-false, either, either-eq, either-true}
 use Rattle.base_limits.specs.declared.Width.the-variants.{Bits32}
 use Rattle.base_limits.specs.declared.Machine.{Machine}
+use Rattle.base_limits.specs.Record.{mark, movedTo}
 use Rattle.prog_tables.specs.Tests.{both, oneOf, given, someOf}
 use Rattle.prog_tables.specs.Statement.{Row, hasExpression, isTest, isOperator, isCall, expressionUses, usedBy, operandAt, slots, rowFrom, rowAt}
 use Rattle.prog_tables.specs.Nesting.{isListed, hasTarget}
@@ -21,8 +22,8 @@ use Rattle.vm_definitions.specs.Access.{storeFrom}
 use Rattle.vm_definitions.specs.Operands as machine
 use Rattle.vm_definitions.specs.Operands.{Words, bad, withWord, readAll, onRead}
 use Rattle.vm_definitions.specs.Expressions.{evalOf}
-use Rattle.vm_definitions.specs.Frames.{mark, frameWords, isFirst, isReturnCall, isReturn, isCalling, calledFrom, headGood, passesOn, leavesGood, rowsLeft, resumptionOf}
-use Rattle.vm_definitions.specs.Step.{Effect, leaves, movedTo, argumentsOf, callBy, callOf, tailCallBy, handedTo, handedBy, returned, returnOf, workedOf, effectOf}
+use Rattle.vm_definitions.specs.Frames.{frameWords, isFirst, isReturnCall, isReturn, isCalling, calledFrom, headGood, passesOn, leavesGood, rowsLeft, resumptionOf}
+use Rattle.vm_definitions.specs.Step.{Effect, leaves, argumentsOf, callBy, callOf, tailCallBy, handedTo, handedBy, returned, returnOf, workedOf, effectOf}
 use Rattle.vm_definitions.specs.Lent.{world}
 use Rattle.vm_definitions.specs.declared.Resumption.the-variants.{Caller}
 use Rattle.vm_definitions.specs.declared.Broken.the-variants.{No}
@@ -112,13 +113,13 @@ module _ (t : List ℕ) (c d n size : ℕ) (sized : sizeAt (rowAt t) c n ≡ siz
     calling : isCalling row ≡ true
     tail : eqb (row .kind) 12 ≡ false
 
-  row-11 : row .kind ≡ 11 → Calling
+  row-11 : row .kind ≡ 11 → row .expr ≡ 2 → Calling
   unfolding kindFault targetFault hasTarget sizeFault wordFault addressFault isListed hasExpression isTest isCall isReturn isCalling hasWord usedBy ifLt ifEq ifTrue
-  row-11 q =
+  row-11 q e =
       record {
         call =
             record {
-              kinds = rw q;
+              kinds = rw (q, e);
               targets = rw q;
               sizes = rw q;
               words = rw q;
@@ -200,11 +201,11 @@ module _ (t : List ℕ) (c d n size : ℕ) (sized : sizeAt (rowAt t) c n ≡ siz
         tail = rw q;
       }
 
-  row-12 : row .kind ≡ 12 → CallRow
+  row-12 : row .kind ≡ 12 → row .expr ≡ 2 → CallRow
   unfolding kindFault targetFault hasTarget sizeFault wordFault addressFault isListed hasExpression isTest isCall isReturn isCalling hasWord usedBy ifLt ifEq ifTrue
-  row-12 q =
+  row-12 q e =
       record {
-        kinds = rw q;
+        kinds = rw (q, e);
         targets = rw q;
         sizes = rw q;
         words = rw q;
@@ -225,14 +226,14 @@ module _ (t : List ℕ) (c d n size : ℕ) (sized : sizeAt (rowAt t) c n ≡ siz
   local-row : callsLocal (rowAt t) size n ≡ true → LocalRow
   unfolding callsLocal
   local-row =
-      either-eq (λ (b : Bool). b ≡ true → LocalRow) (row .kind) 11 true _ (λ q e. record { call = row-11 q; stays = rw q })
-      (λ n11. either-eq (λ (b : Bool). b ≡ true → LocalRow) (row .expr) 2 _ false
-      (λ x. either-eq (λ (b : Bool). b ≡ true → LocalRow) (row .kind) 5 (ltb (row .a) size) _
+      either-eq (λ (b : Bool). b ≡ true → LocalRow) (row .expr) 2 _ false
+      (λ x. either-eq (λ (b : Bool). b ≡ true → LocalRow) (row .kind) 11 true _ (λ q e. record { call = row-11 q x; stays = rw q })
+      (λ n11. either-eq (λ (b : Bool). b ≡ true → LocalRow) (row .kind) 5 (ltb (row .a) size) _
       (λ q e. record { call = row-5 q x (ltb-true (row .a) size e); stays = rw q })
       (λ n5. either-eq (λ (b : Bool). b ≡ true → LocalRow) (row .kind) 6 (ltb (row .a) size) false
       (λ q e. record { call = row-6 q x (ltb-true (row .a) size e); stays = rw q })
-      (λ n6 e. true-false (sym e))))
-      (λ x e. true-false (sym e)))
+      (λ n6 e. true-false (sym e)))))
+      (λ x e. true-false (sym e))
 
   any-row : callsAny (rowAt t) size n ≡ true → Calling
   unfolding callsAny
@@ -329,12 +330,12 @@ module _ (t : List ℕ) (c g d size : ℕ) (r : Machine) (st m : List ℕ) where
           stack = store-length st (r .used) _;
         }
 
-    went-tail : here .kind ≡ 12 → getD st (s + 2) 0 ≤ length m → here .count ≤ 8 → (z : ℕ) → Callee (rowAt t) c (here .callee) (here .count) z → (vs : List ℕ)
+    went-tail : here .kind ≡ 12 → here .expr ≡ 2 → getD st (s + 2) 0 ≤ length m → here .count ≤ 8 → (z : ℕ) → Callee (rowAt t) c (here .callee) (here .count) z → (vs : List ℕ)
         → Each size d st s m (take (here .count) (slots t (n * 27))) vs → s + z ≤ length st
         → Moved (suc (here .callee)) s (s + z) (getD st (s + 2) 0) (storeFrom st s (frameWords (getD st s 0) (getD st (s + 1) 0) (getD st (s + 2) 0) vs z))
     unfolding effectOf tailCallBy argumentsOf isCalling isReturn isTest hasExpression ifTrue ifEq ifLt
-    went-tail q k l z e vs o b =
-        let x = row-12 t c d n size sized q in
+    went-tail q f k l z e vs o b =
+        let x = row-12 t c d n size sized q f in
         record {
           fine =
               call-fine t c g d size r st m h below own (x .line) (call-good t c d n size sized z x l e (o .good)) (x .calls) (e .function .below)
@@ -371,8 +372,10 @@ module _ (t : List ℕ) (c g d size : ℕ) (r : Machine) (st m : List ℕ) where
     right-tail : here .kind ≡ 12 → Right (tailTransfer t c d size st s m n)
     unfolding tailTransfer
     right-tail q =
-        either Right (length m) (getD st (s + 2) 0) (transferred Stays st) _ (λ l. same)
-        (λ l. right-call s (getD st s 0) (getD st (s + 1) 0) (getD st (s + 2) 0) (went-tail q l))
+        either-eq Right (here .expr) 2 _ (transferred Stays st)
+        (λ x. either Right (length m) (getD st (s + 2) 0) (transferred Stays st) _ (λ l. same)
+        (λ l. right-call s (getD st s 0) (getD st (s + 1) 0) (getD st (s + 2) 0) (went-tail q x l)))
+        (λ x. same)
 
     -- ---- returns
 

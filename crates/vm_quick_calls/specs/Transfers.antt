@@ -8,8 +8,8 @@ use lib.Dec.{ltb, eqb}
 use lib.ListN.{getD, length, set, take}
 use Rattle.base_prelude.specs.Choice.{ifLt, ifEq, ifTrue}
 use Rattle.lang_kinds.specs.Kinds as kind
-use Rattle.prog_tables.specs.StatementRow as row
-use Rattle.prog_tables.specs.Layout.{statementRow, noExpression, callExpression, operandSlots}
+use Rattle.prog_tables.specs.Layout.{noExpression, callExpression, operandSlots}
+use Rattle.prog_tables.specs.Places.{placeOf, slotPlace}
 use Rattle.prog_tables.specs.Statement.{Row, operandAt, slots, rowAt}
 use Rattle.prog_tables.specs.Faults.{operandFault}
 use Rattle.prog_tables.specs.declared.Operand.{Operand}
@@ -36,7 +36,7 @@ transferred x st = record { move = x; stack = st }
 unfoldable pub goodFrom : List ℕ → ℕ → ℕ → ℕ → ℕ → ℕ → Bool
 goodFrom t at size d zero i = true
 goodFrom t at size d (suc left) i =
-    ifTrue (operandFault size d (operandAt t (at + row.operands + i * 2))) false (goodFrom t at size d left (suc i))
+    ifTrue (operandFault size d (operandAt t (slotPlace at i))) false (goodFrom t at size d left (suc i))
 
 -- the frame size of function p, where it has k parameters; else 0
 unfoldable pub calleeSize : (ℕ → Row) → ℕ → ℕ → ℕ → ℕ
@@ -45,8 +45,10 @@ calleeSize f c p k = ifEq (f p .b) k (sizeOf f c p) 0
 -- a bare call; `let` and `set` of a local with a call, whose word is in the frame
 unfoldable pub callsLocal : (ℕ → Row) → ℕ → ℕ → Bool
 callsLocal f size n =
-    ifEq (f n .kind) kind.call true
-    (ifEq (f n .expr) callExpression (ifEq (f n .kind) kind.letLocal (ltb (f n .a) size) (ifEq (f n .kind) kind.set (ltb (f n .a) size) false)) false)
+    ifEq (f n .expr) callExpression
+    (ifEq (f n .kind) kind.call true
+    (ifEq (f n .kind) kind.letLocal (ltb (f n .a) size) (ifEq (f n .kind) kind.set (ltb (f n .a) size) false)))
+    false
 
 -- one of these, or `return call`
 unfoldable pub callsAny : (ℕ → Row) → ℕ → ℕ → Bool
@@ -57,7 +59,7 @@ unfoldable pub callGood : List ℕ → ℕ → ℕ → ℕ → ℕ → Bool
 callGood t c d size p =
     ifLt operandSlots (rowAt t p .count) false
     (ifEq (calleeSize (rowAt t) c (rowAt t p .callee) (rowAt t p .count)) 0 false
-    (ifTrue (callsLocal (rowAt t) size p) (goodFrom t (p * statementRow) size d (rowAt t p .count) 0) false))
+    (ifTrue (callsLocal (rowAt t) size p) (goodFrom t (placeOf p) size d (rowAt t p .count) 0) false))
 
 -- ---- calls
 
@@ -76,7 +78,7 @@ module _ (t : List ℕ) (d size : ℕ) (st : List ℕ) (s : ℕ) (m : List ℕ) 
 
   -- row n calls function p with k arguments; the new frame of z words starts at a place
   unfoldable pub entered : Transferred
-  entered = ifLt (length st) (at + z) (transferred Stays st) (enteredBy (goodAll size d st s m (take k (slots t (n * statementRow)))))
+  entered = ifLt (length st) (at + z) (transferred Stays st) (enteredBy (goodAll size d st s m (take k (slots t (placeOf n)))))
 
 -- row n calls its function, whose frame starts at a place
 unfoldable pub callTransfer : List ℕ → ℕ → ℕ → ℕ → List ℕ → ℕ → List ℕ → ℕ → ℕ → ℕ → ℕ → ℕ → Transferred
@@ -90,8 +92,10 @@ callTransfer t c d size st s m n at call below top =
 -- `tail-call` at row n: the new frame has the head of the frame in use, and its auto top of entry is restored
 unfoldable pub tailTransfer : List ℕ → ℕ → ℕ → ℕ → List ℕ → ℕ → List ℕ → ℕ → Transferred
 tailTransfer t c d size st s m n =
-    ifLt (length m) (topAtEntry st s) (transferred Stays st)
-    (callTransfer t c d size st s m n s (returnsTo st s) (callerFrame st s) (topAtEntry st s))
+    ifEq (rowAt t n .expr) callExpression
+    (ifLt (length m) (topAtEntry st s) (transferred Stays st)
+    (callTransfer t c d size st s m n s (returnsTo st s) (callerFrame st s) (topAtEntry st s)))
+    (transferred Stays st)
 
 -- ---- returns
 
@@ -99,7 +103,7 @@ tailTransfer t c d size st s m n =
 unfoldable pub resultOf : List ℕ → ℕ → ℕ → List ℕ → ℕ → List ℕ → ℕ → ℕ → Worked
 resultOf t d size st s m n top =
     ifEq (rowAt t n .kind) kind.endFunction (Value 0 0)
-    (ifEq (rowAt t n .kind) kind.return (ifEq (rowAt t n .expr) noExpression (Value 0 0) (goodWork t (n * statementRow) size d st s m top)) (Stop 0))
+    (ifEq (rowAt t n .kind) kind.return (ifEq (rowAt t n .expr) noExpression (Value 0 0) (goodWork t (placeOf n) size d st s m top)) (Stop 0))
 
 -- a value for the call at row p, whose frame is at a place; the auto top of entry is restored
 unfoldable pub resumed : (ℕ → Row) → List ℕ → ℕ → ℕ → ℕ → ℕ → ℕ → Transferred

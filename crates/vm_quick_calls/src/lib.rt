@@ -1,18 +1,20 @@
 // Calls and returns, each taken with few tests. What is not taken is left to the exact step.
+use base_limits::Machine;
 use lang_kinds::Kind;
 use prog_tables::ExpressionKind;
 use prog_tables::OperandKind;
-use prog_tables::StatementRow;
 use prog_tables::Table;
 use vm_definitions::Read;
 use vm_definitions::Worked;
 ghost use mathlib.Core.Path.{_≡_};
 ghost use Prim.Native.Nat.{_+_, _*_, _≤_, _<_};
 ghost use lib.ListN.{length, take};
+ghost use Rattle.base_limits.specs.Limits.{wordValues, greatestWord, memoryBytes, stackWords};
 ghost use Rattle.prog_tables.specs.Statement.{operandAt, rowAt, slots};
 ghost use Rattle.prog_tables.specs.Faults.{operandFault};
 ghost use Rattle.vm_calls.specs.Outcomes.{wordsIn};
-ghost use Rattle.prog_tables.specs.Layout.{statementRow};
+ghost use Rattle.prog_tables.specs.Layout.{statementRow, operandSlots};
+ghost use Rattle.prog_tables.specs.Places.{placeOf, slotAt};
 ghost use Rattle.vm_quick_calls.specs.Transfers.{transferred, goodFrom, calleeSize, callsLocal, callsAny, callGood, goodAll, pushed, entered, callTransfer, tailTransfer, resultOf, resumed, handTo, handTransfer, returnTransfer, transferOf};
 
 // What became of a call or a return: the run goes on in another frame, with its words and an auto top; or nothing happened.
@@ -31,8 +33,8 @@ fn is_bad(t: &[u32], i: usize, d: u32, size: u32) -> bool
     requires { ⌜ i + 1 < length (now t) ⌝ }
     ensures { λ r. ⌜ r ≡ operandFault size d (operandAt (now (t .entry)) i) ⌝ }
 {
-    let k = vm_quick_operands::peek(t, i);
-    let v = vm_quick_operands::peek(t, i + 1);
+    let k = prog_tables::word_in(t, i);
+    let v = prog_tables::word_in(t, i + 1);
     match k {
         OperandKind::CONSTANT => false,
         OperandKind::LOCAL => size <= v,
@@ -44,14 +46,22 @@ fn is_bad(t: &[u32], i: usize, d: u32, size: u32) -> bool
     }
 }
 
-// Whether the first k operands of the row at a place are good.
-fn are_good(t: &[u32], at: usize, d: u32, size: u32, k: u32) -> bool
-    requires { ⌜ (at + 27 ≤ length (now t)) × (k ≤ 8) ⌝ }
-    ensures { λ r. ⌜ r ≡ goodFrom (now (t .entry)) at size d k 0 ⌝ }
+// Whether operand i of row n is broken.
+fn is_slot_bad(t: &[u32], n: u32, i: u32, d: u32, size: u32) -> bool
+    requires { ⌜ (placeOf n + statementRow ≤ length (now t)) × (i < operandSlots) ⌝ }
+    ensures { λ r. ⌜ r ≡ operandFault size d (slotAt (now (t .entry)) n i) ⌝ }
+{
+    is_bad(t, prog_tables::slot_place(n, i), d, size)
+}
+
+// Whether the first k operands of row n are good.
+fn are_good(t: &[u32], n: u32, d: u32, size: u32, k: u32) -> bool
+    requires { ⌜ (placeOf n + statementRow ≤ length (now t)) × (k ≤ operandSlots) ⌝ }
+    ensures { λ r. ⌜ r ≡ goodFrom (now (t .entry)) (placeOf n) size d k 0 ⌝ }
 {
     let mut i: u32 = 0;
     while i < k {
-        if is_bad(t, at + StatementRow::OPERANDS + i as usize * 2, d, size) {
+        if is_slot_bad(t, n, i, d, size) {
             return false;
         }
         i += 1;
@@ -74,14 +84,12 @@ fn callee_size(t: &[u32], c: u32, p: u32, k: u32) -> u32
 fn calls_local(t: &[u32], size: u32, n: u32) -> bool
     ensures { λ r. ⌜ r ≡ callsLocal (rowAt (now (t .entry))) size n ⌝ }
 {
-    let k = prog_tables::kind_at(t, n);
-    if k == Kind::CALL {
-        return true;
-    }
     let e = prog_tables::expression_at(t, n);
     if e == ExpressionKind::CALL {
+        let k = prog_tables::kind_at(t, n);
         let a = prog_tables::a_at(t, n);
         return match k {
+            Kind::CALL => true,
             Kind::LET => a < size,
             Kind::SET => a < size,
             _ => false,
@@ -107,22 +115,22 @@ fn is_call_good(t: &[u32], c: u32, d: u32, size: u32, p: u32) -> bool
     ensures { λ r. ⌜ r ≡ callGood (now (t .entry)) c d size p ⌝ }
 {
     let k = prog_tables::count_at(t, p);
-    if 8 < k {
+    if Machine::PARAMETERS < k {
         return false;
     }
     if callee_size(t, c, prog_tables::callee_at(t, p), k) == 0 {
         return false;
     }
     if calls_local(t, size, p) {
-        return are_good(t, p as usize * Table::STATEMENT_ROW, d, size, k);
+        return are_good(t, p, d, size, k);
     }
     false
 }
 
-// The first k arguments of the row at a place, left to right, into words; whether all are good and could be read.
+// The first k arguments of row n, left to right, into words; whether all are good and could be read.
 fn read_arguments(
     t: &[u32],
-    at: usize,
+    n: u32,
     k: u32,
     d: u32,
     size: u32,
@@ -131,15 +139,16 @@ fn read_arguments(
     m: &[u8],
     words: &mut [u32],
 ) -> bool
-    requires { ⌜ (at + 27 ≤ length (now t)) × (k ≤ 8) × (s + size ≤ length (now st)) ⌝ }
-    requires { ⌜ length (now words) ≡ 8 ⌝ }
-    ensures { λ r. ⌜ wordsIn r (now (words .exit)) k ≡ goodAll size d (now (st .entry)) s (now (m .entry)) (take k (slots (now (t .entry)) at)) ⌝ }
+    requires { ⌜ (placeOf n + statementRow ≤ length (now t)) × (k ≤ operandSlots) × (s + size ≤ length (now st)) ⌝ }
+    requires { ⌜ length (now words) ≡ operandSlots ⌝ }
+    ensures { λ r. ⌜ wordsIn r (now (words .exit)) k ≡ goodAll size d (now (st .entry)) s (now (m .entry)) (take k (slots (now (t .entry)) (placeOf n))) ⌝ }
 {
     let mut i: u32 = 0;
     while i < k {
-        let x = vm_quick_operands::read(
+        let x = vm_quick_operands::read_slot(
             t,
-            at + StatementRow::OPERANDS + i as usize * 2,
+            n,
+            i,
             d,
             size,
             st,
@@ -166,7 +175,7 @@ fn push_frame(
     z: u32,
     words: &[u32],
 ) -> Transfer
-    requires { ⌜ (length (now words) ≤ 8) × (at + z < 4294967296) × (p < 4294967295) ⌝ }
+    requires { ⌜ (length (now words) ≤ operandSlots) × (at + z < wordValues) × (p < greatestWord) ⌝ }
     ensures { λ r. ⌜ transferred r (now (st .exit)) ≡ pushed (now (st .entry)) at call below top p z (now (words .entry)) ⌝ }
 {
     vm_memory::build_frame(st, at, call, below, top, words, z);
@@ -195,16 +204,16 @@ fn enter(
     k: u32,
     z: u32,
 ) -> Transfer
-    requires { ⌜ (n * statementRow + statementRow ≤ length (now t)) × (k ≤ 8) × (s + size ≤ length (now st)) × (length (now st) ≤ 16384) × (p < 4294967295) ⌝ }
+    requires { ⌜ (placeOf n + statementRow ≤ length (now t)) × (k ≤ operandSlots) × (s + size ≤ length (now st)) × (length (now st) ≤ stackWords) × (p < greatestWord) ⌝ }
     ensures { λ r. ⌜ transferred r (now (st .exit)) ≡ entered (now (t .entry)) d size (now (st .entry)) s (now (m .entry)) n at call below top p k z ⌝ }
 {
     if st.len() < at as usize + z as usize {
         return Transfer::Stays;
     }
-    let mut words = [0u32; 8];
+    let mut words = [0u32; Table::OPERAND_SLOTS];
     if read_arguments(
         t,
-        n as usize * Table::STATEMENT_ROW,
+        n,
         k,
         d,
         size,
@@ -234,11 +243,11 @@ fn call_at(
     below: u32,
     top: u32,
 ) -> Transfer
-    requires { ⌜ (n < c) × (c * statementRow ≤ length (now t)) × (s + size ≤ length (now st)) × (length (now st) ≤ 16384) ⌝ }
+    requires { ⌜ (n < c) × (c * statementRow ≤ length (now t)) × (s + size ≤ length (now st)) × (length (now st) ≤ stackWords) ⌝ }
     ensures { λ r. ⌜ transferred r (now (st .exit)) ≡ callTransfer (now (t .entry)) c d size (now (st .entry)) s (now (m .entry)) n at call below top ⌝ }
 {
     let k = prog_tables::count_at(t, n);
-    if 8 < k {
+    if Machine::PARAMETERS < k {
         return Transfer::Stays;
     }
     let p = prog_tables::callee_at(t, n);
@@ -263,9 +272,13 @@ fn tail_call(
     m: &[u8],
     n: u32,
 ) -> Transfer
-    requires { ⌜ (n < c) × (c * statementRow ≤ length (now t)) × (s + size ≤ length (now st)) × (length (now st) ≤ 16384) ⌝ }
+    requires { ⌜ (n < c) × (c * statementRow ≤ length (now t)) × (s + size ≤ length (now st)) × (length (now st) ≤ stackWords) ⌝ }
     ensures { λ r. ⌜ transferred r (now (st .exit)) ≡ tailTransfer (now (t .entry)) c d size (now (st .entry)) s (now (m .entry)) n ⌝ }
 {
+    let e = prog_tables::expression_at(t, n);
+    if e != ExpressionKind::CALL {
+        return Transfer::Stays;
+    }
     let i = s as usize;
     let call = prog_tables::word_at(st, i);
     let below = prog_tables::word_at(st, i + 1);
@@ -280,7 +293,7 @@ fn tail_call(
 
 // The value that row n returns.
 fn result(t: &[u32], d: u32, size: u32, st: &[u32], s: u32, m: &[u8], n: u32, top: u32) -> Worked
-    requires { ⌜ (n * statementRow + statementRow ≤ length (now t)) × (s + size ≤ length (now st)) × (length (now m) ≤ 65536) ⌝ }
+    requires { ⌜ (placeOf n + statementRow ≤ length (now t)) × (s + size ≤ length (now st)) × (length (now m) ≤ memoryBytes) ⌝ }
     ensures { λ r. ⌜ r ≡ resultOf (now (t .entry)) d size (now (st .entry)) s (now (m .entry)) n top ⌝ }
 {
     let k = prog_tables::kind_at(t, n);
@@ -294,7 +307,7 @@ fn result(t: &[u32], d: u32, size: u32, st: &[u32], s: u32, m: &[u8], n: u32, to
         }
         return vm_quick_operands::work(
             t,
-            n as usize * Table::STATEMENT_ROW,
+            n,
             d,
             size,
             st,
@@ -308,7 +321,7 @@ fn result(t: &[u32], d: u32, size: u32, st: &[u32], s: u32, m: &[u8], n: u32, to
 
 // A value for the call at row p, whose frame is at a place; back is the auto top restored.
 fn resume(t: &[u32], st: &mut [u32], s: u32, v: u32, p: u32, caller: u32, back: u32) -> Transfer
-    requires { ⌜ p < 4294967295 ⌝ }
+    requires { ⌜ p < greatestWord ⌝ }
     ensures { λ r. ⌜ transferred r (now (st .exit)) ≡ resumed (rowAt (now (t .entry))) (now (st .entry)) s v p caller back ⌝ }
 {
     let k = prog_tables::kind_at(t, p);
@@ -342,7 +355,7 @@ fn hand_to(
     p: u32,
     z: u32,
 ) -> Transfer
-    requires { ⌜ (p < c) × (c < 4294967296) × (c * statementRow ≤ length (now t)) ⌝ }
+    requires { ⌜ (p < c) × (c < wordValues) × (c * statementRow ≤ length (now t)) ⌝ }
     ensures { λ r. ⌜ transferred r (now (st .exit)) ≡ handTo (now (t .entry)) c d (now (st .entry)) s m v p z ⌝ }
 {
     let at = s as usize;
@@ -388,7 +401,7 @@ fn give_back(
     n: u32,
     top: u32,
 ) -> Transfer
-    requires { ⌜ (n < c) × (c * statementRow ≤ length (now t)) × (s + size ≤ length (now st)) × (length (now m) ≤ 65536) ⌝ }
+    requires { ⌜ (n < c) × (c * statementRow ≤ length (now t)) × (s + size ≤ length (now st)) × (length (now m) ≤ memoryBytes) ⌝ }
     ensures { λ r. ⌜ transferred r (now (st .exit)) ≡ returnTransfer (now (t .entry)) c d size (now (st .entry)) s (now (m .entry)) n top ⌝ }
 {
     let x = result(t, d, size, st, s, m, n, top);
@@ -412,7 +425,7 @@ pub fn take_transfer(
     n: u32,
     top: u32,
 ) -> Transfer
-    requires { ⌜ (c * statementRow ≤ length (now t)) × (s + size ≤ length (now st)) × (length (now st) ≤ 16384) × (length (now m) ≤ 65536) ⌝ }
+    requires { ⌜ (c * statementRow ≤ length (now t)) × (s + size ≤ length (now st)) × (length (now st) ≤ stackWords) × (length (now m) ≤ memoryBytes) ⌝ }
     ensures { λ r. ⌜ transferred r (now (st .exit)) ≡ transferOf (now (t .entry)) c g d size (now (st .entry)) s used (now (m .entry)) n top ⌝ }
 {
     if c <= n {

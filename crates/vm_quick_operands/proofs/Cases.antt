@@ -14,11 +14,11 @@ use Rattle.prog_tables.specs.Layout.{plain}
 use Rattle.prog_tables.specs.Statement.{expressionUses, operandOf, operandAt, rowFrom, rowAt}
 use Rattle.prog_tables.specs.Faults.{operandFault}
 use Rattle.vm_definitions.specs.Operands.{isAt, numberIn, fetchOf, readOf, onRead}
-use Rattle.vm_definitions.specs.Expressions.{applied}
 use Rattle.vm_definitions.specs.declared.Read.{Read}
 use Rattle.vm_definitions.specs.declared.Read.the-variants.{Got, Bad}
 use Rattle.vm_definitions.specs.declared.Worked.{Worked}
 use Rattle.vm_definitions.specs.declared.Worked.the-variants.{Value, Stop}
+use Rattle.vm_definitions.specs.Operators.{applied}
 use Rattle.vm_quick_operands.specs.Fast.{goodRead, oneRead, twoRead, goodWork, sizeOf}
 
 -- ---- operands

@@ -19,11 +19,12 @@ use Rattle.prog_tables.specs.Faults.{expressionListed, inFunction, sizeAt, oper
 use Rattle.prog_tables.specs.declared.Operand.{Operand}
 use Rattle.lang_words.specs.Words.{leastOperands}
 use Rattle.vm_definitions.specs.Operands.{readOf, onRead}
-use Rattle.vm_definitions.specs.Expressions.{fetched, applied, evalOf}
+use Rattle.vm_definitions.specs.Expressions.{evalOf}
 use Rattle.vm_definitions.specs.declared.Read.{Read}
 use Rattle.vm_definitions.specs.declared.Read.the-variants.{Got, Bad}
 use Rattle.vm_definitions.specs.declared.Worked.{Worked}
 use Rattle.vm_definitions.specs.declared.Worked.the-variants.{Value, Stop}
+use Rattle.vm_definitions.specs.Operators.{fetched, applied}
 use Rattle.vm_quick_operands.specs.Fast.{goodRead, oneRead, twoRead, goodWork, sizeOf}
 
 pub bad-got : {P : Type 0} (x : ℕ) → Bad ≡ Got x → P

@@ -7,17 +7,17 @@ use lib.ListN.{getD}
 use Rattle.base_prelude.specs.Choice.{ifLt, ifEq, ifTrue}
 use Rattle.base_limits.specs.declared.Width.the-variants.{Bits32}
 use Rattle.lang_kinds.specs.Kinds as kind
-use Rattle.prog_tables.specs.StatementRow as row
 use Rattle.prog_tables.specs.Layout.{plain, frameHead}
+use Rattle.prog_tables.specs.Places.{exprFrom, firstPlace, secondPlace}
 use Rattle.prog_tables.specs.Statement.{Row, expressionUses, operandAt}
 use Rattle.prog_tables.specs.Faults.{operandFault}
 use Rattle.prog_tables.specs.declared.Operand.{Operand}
 use Rattle.vm_definitions.specs.Operands.{Words, words, bad, withWord, readOf, onRead}
-use Rattle.vm_definitions.specs.Expressions.{applied}
 use Rattle.vm_definitions.specs.declared.Read.{Read}
 use Rattle.vm_definitions.specs.declared.Read.the-variants.{Bad}
 use Rattle.vm_definitions.specs.declared.Worked.{Worked}
 use Rattle.vm_definitions.specs.declared.Worked.the-variants.{Value, Stop}
+use Rattle.vm_definitions.specs.Operators.{applied}
 
 -- an operand's word in the frame at s, where the operand is good: the frame has this size, the data d bytes
 unfoldable pub goodRead : ℕ → ℕ → List ℕ → ℕ → List ℕ → Operand → Read
@@ -32,19 +32,19 @@ readEach rd (o ∷ os) = onRead (rd o) bad (λ v. withWord v (readEach rd os))
 module _ (t : List ℕ) (at size d : ℕ) (st : List ℕ) (s : ℕ) (m : List ℕ) (top : ℕ) where
   unfoldable pub oneRead : ℕ → Worked
   oneRead e =
-      onRead (goodRead size d st s m (operandAt t (at + row.operands))) (Stop 32)
+      onRead (goodRead size d st s m (operandAt t (firstPlace at))) (Stop 32)
       (λ x. ifEq e plain (Value x top) (applied Bits32 m top e x 0))
 
   unfoldable pub twoRead : ℕ → Worked
   twoRead e =
-      onRead (goodRead size d st s m (operandAt t (at + row.operands))) (Stop 32)
-      (λ x. onRead (goodRead size d st s m (operandAt t (at + row.second))) (Stop 32) (applied Bits32 m top e x))
+      onRead (goodRead size d st s m (operandAt t (firstPlace at))) (Stop 32)
+      (λ x. onRead (goodRead size d st s m (operandAt t (secondPlace at))) (Stop 32) (applied Bits32 m top e x))
 
   -- by the number of its operands; a call has none here
   unfoldable pub goodWork : Worked
   goodWork =
-      ifEq (expressionUses (getD t (at + row.expr) 0) 0) 1 (oneRead (getD t (at + row.expr) 0))
-      (ifEq (expressionUses (getD t (at + row.expr) 0) 0) 2 (twoRead (getD t (at + row.expr) 0)) (Stop 0))
+      ifEq (expressionUses (exprFrom t at) 0) 1 (oneRead (exprFrom t at))
+      (ifEq (expressionUses (exprFrom t at) 0) 2 (twoRead (exprFrom t at)) (Stop 0))
 
 -- the frame size of the good `function` row g of c rows; 0 where it is none
 unfoldable pub sizeOf : (ℕ → Row) → ℕ → ℕ → ℕ

@@ -14,6 +14,7 @@ use Rattle.base_prelude.proofs.Choice.{true-false, either, either-eq, either-tr
 use Rattle.base_limits.specs.declared.Width.the-variants.{Bits32}
 use Rattle.base_limits.specs.declared.State.the-variants.{Running}
 use Rattle.base_limits.specs.declared.Machine.{Machine}
+use Rattle.base_limits.specs.Record.{goingOn}
 use Rattle.base_word.specs.Bytes.{wordBytes}
 use Rattle.prog_tables.specs.Tests.{both, oneOf, given, some, someOf}
 use Rattle.prog_tables.specs.Statement.{Row, hasExpression, isTest, isCall, expressionUses, usedBy, operandOf, operandAt, slots, rowFrom, rowAt}
@@ -25,7 +26,7 @@ use Rattle.vm_definitions.specs.Operands as machine
 use Rattle.vm_definitions.specs.Operands.{withWord, isAt, numberIn, readOf, readAll, onRead}
 use Rattle.vm_definitions.specs.Expressions.{evalOf, testHolds, operandNo}
 use Rattle.vm_definitions.specs.Frames.{isReturn, isCalling, headGood}
-use Rattle.vm_definitions.specs.Step.{Effect, leaves, goingOn, keeps, stores, goesTo, blockOf, endBlockOf, testOf, assigned, assignedAt, setAtOf, setByteBy, setWordBy, argumentsOf, workedOf, effectOf}
+use Rattle.vm_definitions.specs.Step.{Effect, leaves, keeps, stores, goesTo, blockOf, endBlockOf, testOf, assigned, assignedAt, setAtOf, setByteBy, setWordBy, argumentsOf, workedOf, effectOf}
 use Rattle.vm_definitions.specs.Lent.{world}
 use Rattle.vm_definitions.specs.declared.Read.{Read}
 use Rattle.vm_definitions.specs.declared.Read.the-variants.{Got, Bad}

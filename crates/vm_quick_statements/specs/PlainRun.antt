@@ -11,8 +11,8 @@ use Rattle.base_prelude.specs.Choice.{ifLt, ifEq, ifTrue}
 use Rattle.base_limits.specs.declared.Width.the-variants.{Bits32}
 use Rattle.base_word.specs.Bytes.{wordBytes}
 use Rattle.lang_kinds.specs.Kinds as kind
-use Rattle.prog_tables.specs.StatementRow as row
-use Rattle.prog_tables.specs.Layout.{statementRow, frameHead, addressOperand}
+use Rattle.prog_tables.specs.Layout.{frameHead, addressOperand}
+use Rattle.prog_tables.specs.Places.{placeOf, kindFrom, funcFrom, aFrom, bFrom, addressKind, addressPlace, firstPlace, secondPlace, thirdPlace}
 use Rattle.prog_tables.specs.Statement.{isTest, operandAt}
 use Rattle.vm_definitions.specs.Access.{byteAddress, wordAddress, byteGood, wordGood, storeFrom}
 use Rattle.vm_definitions.specs.Operands.{onRead}
@@ -39,49 +39,49 @@ taken x st m = record { move = x; stack = st; memory = m }
 
 -- row a of c rows is a row of function g
 unfoldable pub aimed : List ℕ → ℕ → ℕ → ℕ → Bool
-aimed t c g a = ifLt a c (eqb (getD t (a * statementRow + row.func) 0) g) false
+aimed t c g a = ifLt a c (eqb (funcFrom t (placeOf a)) g) false
 
 -- `goto` and `else` at row n
 unfoldable pub quickJump : List ℕ → ℕ → ℕ → ℕ → ℕ → Move
-quickJump t c g n top = ifTrue (aimed t c g (getD t (n * statementRow + row.a) 0)) (To (getD t (n * statementRow + row.a) 0) top) Stays
+quickJump t c g n top = ifTrue (aimed t c g (aFrom t (placeOf n))) (To (aFrom t (placeOf n)) top) Stays
 
 -- ---- blocks
 
 -- `block` at row n: its words lie behind the head of the frame
 unfoldable pub quickBlock : List ℕ → ℕ → List ℕ → ℕ → List ℕ → ℕ → ℕ → Taken
 quickBlock t size st s m n top =
-    ifLt (getD t (n * statementRow + row.a) 0) frameHead (taken Stays st m)
-    (ifLt (getD t (n * statementRow + row.a) 0 + getD t (n * statementRow + row.b) 0) size
-    (taken (To (suc n) top) (storeFrom st (s + getD t (n * statementRow + row.a) 0) (top ∷ replicate (getD t (n * statementRow + row.b) 0) 0)) m)
+    ifLt (aFrom t (placeOf n)) frameHead (taken Stays st m)
+    (ifLt (aFrom t (placeOf n) + bFrom t (placeOf n)) size
+    (taken (To (suc n) top) (storeFrom st (s + aFrom t (placeOf n)) (top ∷ replicate (bFrom t (placeOf n)) 0)) m)
     (taken Stays st m))
 
 -- `end block`: the auto top that it restores is within m bytes of memory
 unfoldable pub quickEnd : List ℕ → ℕ → List ℕ → ℕ → ℕ → ℕ → Move
 quickEnd t size st s m n =
-    ifLt (getD t (n * statementRow + row.a) 0) size
-    (ifLt m (getD st (s + getD t (n * statementRow + row.a) 0) 0) Stays (To (suc n) (getD st (s + getD t (n * statementRow + row.a) 0) 0)))
+    ifLt (aFrom t (placeOf n)) size
+    (ifLt m (getD st (s + aFrom t (placeOf n)) 0) Stays (To (suc n) (getD st (s + aFrom t (placeOf n)) 0)))
     Stays
 
 -- ---- operands of the row whose first word is at a place
 
 unfoldable pub threeRead : List ℕ → ℕ → ℕ → ℕ → List ℕ → ℕ → List ℕ → Three
 threeRead t at d size st s m =
-    onRead (goodRead size d st s m (operandAt t (at + row.operands))) Unread
-    (λ x. onRead (goodRead size d st s m (operandAt t (at + row.second))) Unread
-    (λ y. onRead (goodRead size d st s m (operandAt t (at + row.third))) Unread (λ z. All x y z)))
+    onRead (goodRead size d st s m (operandAt t (firstPlace at))) Unread
+    (λ x. onRead (goodRead size d st s m (operandAt t (secondPlace at))) Unread
+    (λ y. onRead (goodRead size d st s m (operandAt t (thirdPlace at))) Unread (λ z. All x y z)))
 
 -- ---- statements at row n of table t, in the frame at s
 
 module _ (t : List ℕ) (d size : ℕ) (st : List ℕ) (s : ℕ) (m : List ℕ) (n top : ℕ) where
   unfoldable pub assignedBy : Worked → Taken
-  assignedBy (Value v end) = taken (To (suc n) end) (set st (s + getD t (n * statementRow + row.a) 0) v) m
+  assignedBy (Value v end) = taken (To (suc n) end) (set st (s + aFrom t (placeOf n)) v) m
   assignedBy (Stop k) = taken Stays st m
 
   -- `let` and `set` of a local: the word lies behind the head of the frame
   unfoldable pub quickAssign : Taken
   quickAssign =
-      ifLt (getD t (n * statementRow + row.a) 0) frameHead (taken Stays st m)
-      (ifLt (getD t (n * statementRow + row.a) 0) size (assignedBy (goodWork t (n * statementRow) size d st s m top)) (taken Stays st m))
+      ifLt (aFrom t (placeOf n)) frameHead (taken Stays st m)
+      (ifLt (aFrom t (placeOf n)) size (assignedBy (goodWork t (placeOf n) size d st s m top)) (taken Stays st m))
 
   unfoldable pub byteBy : Three → Taken
   byteBy (All base offset value) =
@@ -92,7 +92,7 @@ module _ (t : List ℕ) (d size : ℕ) (st : List ℕ) (s : ℕ) (m : List ℕ) 
 
   -- `set-byte`
   unfoldable pub quickByte : Taken
-  quickByte = byteBy (threeRead t (n * statementRow) d size st s m)
+  quickByte = byteBy (threeRead t (placeOf n) d size st s m)
 
   unfoldable pub wordBy : Three → Taken
   wordBy (All base offset value) =
@@ -103,7 +103,7 @@ module _ (t : List ℕ) (d size : ℕ) (st : List ℕ) (s : ℕ) (m : List ℕ) 
 
   -- `set-word`
   unfoldable pub quickWord : Taken
-  quickWord = wordBy (threeRead t (n * statementRow) d size st s m)
+  quickWord = wordBy (threeRead t (placeOf n) d size st s m)
 
   unfoldable pub storedBy : ℕ → Worked → Taken
   storedBy a (Value v end) = taken (To (suc n) end) st (storeFrom m a (wordBytes 4 v))
@@ -111,23 +111,23 @@ module _ (t : List ℕ) (d size : ℕ) (st : List ℕ) (s : ℕ) (m : List ℕ) 
 
   -- `set @` with its address
   unfoldable pub storedAt : ℕ → Taken
-  storedAt a = storedBy a (goodWork t (n * statementRow) size d st s m top)
+  storedAt a = storedBy a (goodWork t (placeOf n) size d st s m top)
 
   -- `set @`: its address is no `@` operand itself
   unfoldable pub quickAt : Taken
   quickAt =
-      ifLt addressOperand (getD t (n * statementRow + row.address) 0) (taken Stays st m)
-      (onRead (goodRead size d st s m (operandAt t (n * statementRow + row.address))) (taken Stays st m)
+      ifLt addressOperand (addressKind t (placeOf n)) (taken Stays st m)
+      (onRead (goodRead size d st s m (operandAt t (addressPlace (placeOf n)))) (taken Stays st m)
       (λ a. ifTrue (wordGood Bits32 (length m) a) (storedAt a) (taken Stays st m)))
 
 module _ (t : List ℕ) (c g d size : ℕ) (st : List ℕ) (s : ℕ) (m : List ℕ) (n top : ℕ) where
   -- a test of kind k
   unfoldable pub quickTest : ℕ → Taken
   quickTest k =
-      ifTrue (aimed t c g (getD t (n * statementRow + row.a) 0))
-      (onRead (goodRead size d st s m (operandAt t (n * statementRow + row.operands))) (taken Stays st m)
-      (λ x. onRead (goodRead size d st s m (operandAt t (n * statementRow + row.second))) (taken Stays st m)
-      (λ y. taken (To (ifTrue (testHolds Bits32 k x y) (suc n) (getD t (n * statementRow + row.a) 0)) top) st m)))
+      ifTrue (aimed t c g (aFrom t (placeOf n)))
+      (onRead (goodRead size d st s m (operandAt t (firstPlace (placeOf n)))) (taken Stays st m)
+      (λ x. onRead (goodRead size d st s m (operandAt t (secondPlace (placeOf n)))) (taken Stays st m)
+      (λ y. taken (To (ifTrue (testHolds Bits32 k x y) (suc n) (aFrom t (placeOf n))) top) st m)))
       (taken Stays st m)
 
   -- the statement of kind k: jumps and `end if`
@@ -158,11 +158,11 @@ module _ (t : List ℕ) (c g d size : ℕ) (st : List ℕ) (s : ℕ) (m : List �
       (quickStores k)))))
 
   unfoldable pub quickForm : Taken
-  quickForm = quickKind (getD t (n * statementRow) 0)
+  quickForm = quickKind (kindFrom t (placeOf n))
 
   -- the statement at row n, where that is one of c rows and a row of function g
   unfoldable pub quickStep : Taken
-  quickStep = ifLt n c (ifEq (getD t (n * statementRow + row.func) 0) g quickForm (taken Stays st m)) (taken Stays st m)
+  quickStep = ifLt n c (ifEq (funcFrom t (placeOf n)) g quickForm (taken Stays st m)) (taken Stays st m)
 
 -- ---- the plain run
 

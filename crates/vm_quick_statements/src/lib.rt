@@ -1,7 +1,6 @@
 // A plain run: statements inside one frame that neither call nor return, each taken with few tests. What is not taken is left to the exact step.
 use lang_kinds::Kind;
 use prog_tables::OperandKind;
-use prog_tables::StatementRow;
 use prog_tables::Table;
 use vm_definitions::Read;
 use vm_definitions::Worked;
@@ -9,10 +8,12 @@ ghost use mathlib.Core.Path.{_≡_};
 ghost use mathlib.Core.List.{_∷_};
 ghost use Prim.Native.Nat.{suc, _+_, _*_, _≤_, _<_};
 ghost use lib.ListN.{length, replicate};
+ghost use Rattle.base_limits.specs.Limits.{wordValues, greatestWord, memoryBytes};
 ghost use Rattle.base_prelude.specs.Choice.{ifTrue};
 ghost use Rattle.base_limits.specs.declared.Width.the-variants.{Bits32};
 ghost use Rattle.vm_definitions.specs.Access.{storeFrom};
 ghost use Rattle.prog_tables.specs.Layout.{statementRow};
+ghost use Rattle.prog_tables.specs.Places.{placeOf};
 ghost use Rattle.vm_definitions.specs.Expressions.{testHolds};
 ghost use Rattle.vm_quick_statements.specs.declared.Move.the-variants.{To};
 ghost use Rattle.vm_quick_statements.specs.PlainRun.{taken, endedWith, aimed, quickAssign, quickTest, quickJump, quickBlock, quickEnd, threeRead, quickByte, quickWord, storedAt, quickAt, quickForm, quickStep, plainRunOf};
@@ -32,18 +33,17 @@ pub struct PlainRun {
 
 // `let` and `set` of a local, without a call; the head of the frame is not written.
 fn assign(t: &[u32], d: u32, size: u32, st: &mut [u32], s: u32, m: &[u8], n: u32, top: u32) -> Move
-    requires { ⌜ (n < 4294967295) × (n * statementRow + statementRow ≤ length (now t)) × (s + size ≤ length (now st)) × (length (now m) ≤ 65536) ⌝ }
+    requires { ⌜ (n < greatestWord) × (placeOf n + statementRow ≤ length (now t)) × (s + size ≤ length (now st)) × (length (now m) ≤ memoryBytes) ⌝ }
     ensures { λ r. ⌜ taken r (now (st .exit)) (now (m .entry)) ≡ quickAssign (now (t .entry)) d size (now (st .entry)) s (now (m .entry)) n top ⌝ }
 {
-    let at = n as usize * Table::STATEMENT_ROW;
-    let a = vm_quick_operands::peek(t, at + StatementRow::A);
+    let a = prog_tables::a_in(t, n);
     if a < Table::FRAME_HEAD {
         return Move::Stays;
     }
     if size <= a {
         return Move::Stays;
     }
-    let x = vm_quick_operands::work(t, at, d, size, st, s, m, top);
+    let x = vm_quick_operands::work(t, n, d, size, st, s, m, top);
     match x {
         Worked::Value { word, top: end } => {
             vm_memory::put(st, s as usize + a as usize, word);
@@ -62,7 +62,7 @@ fn is_aimed(t: &[u32], c: u32, g: u32, a: u32) -> bool
     ensures { λ r. ⌜ r ≡ aimed (now (t .entry)) c g a ⌝ }
 {
     if a < c {
-        return vm_quick_operands::peek(t, a as usize * Table::STATEMENT_ROW + StatementRow::FUNC)
+        return prog_tables::func_in(t, a)
             == g;
     }
     false
@@ -70,7 +70,7 @@ fn is_aimed(t: &[u32], c: u32, g: u32, a: u32) -> bool
 
 // Where a test of kind k at row n goes with two words; a is its target.
 fn branch(n: u32, top: u32, k: u32, a: u32, x: u32, y: u32) -> Move
-    requires { ⌜ n < 4294967295 ⌝ }
+    requires { ⌜ n < greatestWord ⌝ }
     ensures { λ r. ⌜ r ≡ To (ifTrue (testHolds Bits32 k x y) (suc n) a) top ⌝ }
 {
     if vm_operands::test(k, x, y) {
@@ -96,17 +96,16 @@ fn test(
     top: u32,
     k: u32,
 ) -> Move
-    requires { ⌜ (n < 4294967295) × (n * statementRow + statementRow ≤ length (now t)) × (s + size ≤ length (now st)) × (c * statementRow ≤ length (now t)) ⌝ }
+    requires { ⌜ (n < greatestWord) × (placeOf n + statementRow ≤ length (now t)) × (s + size ≤ length (now st)) × (c * statementRow ≤ length (now t)) ⌝ }
     ensures { λ r. ⌜ taken r (now (st .entry)) (now (m .entry)) ≡ quickTest (now (t .entry)) c g d size (now (st .entry)) s (now (m .entry)) n top k ⌝ }
 {
-    let at = n as usize * Table::STATEMENT_ROW;
-    let a = vm_quick_operands::peek(t, at + StatementRow::A);
+    let a = prog_tables::a_in(t, n);
     if is_aimed(t, c, g, a) {
-        let f = vm_quick_operands::read(t, at + StatementRow::OPERANDS, d, size, st, s, m);
+        let f = vm_quick_operands::read_first(t, n, d, size, st, s, m);
         let Read::Got(x) = f else {
             return Move::Stays;
         };
-        let h = vm_quick_operands::read(t, at + StatementRow::SECOND, d, size, st, s, m);
+        let h = vm_quick_operands::read_second(t, n, d, size, st, s, m);
         let Read::Got(y) = h else {
             return Move::Stays;
         };
@@ -117,10 +116,10 @@ fn test(
 
 // `goto` and `else`.
 fn jump(t: &[u32], c: u32, g: u32, n: u32, top: u32) -> Move
-    requires { ⌜ (n * statementRow + statementRow ≤ length (now t)) × (c * statementRow ≤ length (now t)) ⌝ }
+    requires { ⌜ (placeOf n + statementRow ≤ length (now t)) × (c * statementRow ≤ length (now t)) ⌝ }
     ensures { λ r. ⌜ r ≡ quickJump (now (t .entry)) c g n top ⌝ }
 {
-    let a = vm_quick_operands::peek(t, n as usize * Table::STATEMENT_ROW + StatementRow::A);
+    let a = prog_tables::a_in(t, n);
     if is_aimed(t, c, g, a) {
         return Move::To { next: a, top: top };
     }
@@ -138,12 +137,11 @@ fn open_block(st: &mut [u32], at: usize, top: u32, lets: u32)
 
 // `block`.
 fn enter_block(t: &[u32], size: u32, st: &mut [u32], s: u32, m: &[u8], n: u32, top: u32) -> Move
-    requires { ⌜ (n < 4294967295) × (n * statementRow + statementRow ≤ length (now t)) ⌝ }
+    requires { ⌜ (n < greatestWord) × (placeOf n + statementRow ≤ length (now t)) ⌝ }
     ensures { λ r. ⌜ taken r (now (st .exit)) (now (m .entry)) ≡ quickBlock (now (t .entry)) size (now (st .entry)) s (now (m .entry)) n top ⌝ }
 {
-    let at = n as usize * Table::STATEMENT_ROW;
-    let a = vm_quick_operands::peek(t, at + StatementRow::A);
-    let b = vm_quick_operands::peek(t, at + StatementRow::B);
+    let a = prog_tables::a_in(t, n);
+    let b = prog_tables::b_in(t, n);
     if a < Table::FRAME_HEAD {
         return Move::Stays;
     }
@@ -159,10 +157,10 @@ fn enter_block(t: &[u32], size: u32, st: &mut [u32], s: u32, m: &[u8], n: u32, t
 
 // `end block`.
 fn leave_block(t: &[u32], size: u32, st: &[u32], s: u32, m: usize, n: u32) -> Move
-    requires { ⌜ (n < 4294967295) × (n * statementRow + statementRow ≤ length (now t)) × (s + size ≤ length (now st)) ⌝ }
+    requires { ⌜ (n < greatestWord) × (placeOf n + statementRow ≤ length (now t)) × (s + size ≤ length (now st)) ⌝ }
     ensures { λ r. ⌜ r ≡ quickEnd (now (t .entry)) size (now (st .entry)) s m n ⌝ }
 {
-    let a = vm_quick_operands::peek(t, n as usize * Table::STATEMENT_ROW + StatementRow::A);
+    let a = prog_tables::a_in(t, n);
     if size <= a {
         return Move::Stays;
     }
@@ -183,19 +181,19 @@ pub enum Three {
 }
 
 // The first three operands of the row at a place, left to right.
-fn read_three(t: &[u32], at: usize, d: u32, size: u32, st: &[u32], s: u32, m: &[u8]) -> Three
-    requires { ⌜ (at + 27 ≤ length (now t)) × (s + size ≤ length (now st)) ⌝ }
-    ensures { λ r. ⌜ r ≡ threeRead (now (t .entry)) at d size (now (st .entry)) s (now (m .entry)) ⌝ }
+fn read_three(t: &[u32], n: u32, d: u32, size: u32, st: &[u32], s: u32, m: &[u8]) -> Three
+    requires { ⌜ (placeOf n + statementRow ≤ length (now t)) × (s + size ≤ length (now st)) ⌝ }
+    ensures { λ r. ⌜ r ≡ threeRead (now (t .entry)) (placeOf n) d size (now (st .entry)) s (now (m .entry)) ⌝ }
 {
-    let f = vm_quick_operands::read(t, at + StatementRow::OPERANDS, d, size, st, s, m);
+    let f = vm_quick_operands::read_first(t, n, d, size, st, s, m);
     let Read::Got(base) = f else {
         return Three::Unread;
     };
-    let g = vm_quick_operands::read(t, at + StatementRow::SECOND, d, size, st, s, m);
+    let g = vm_quick_operands::read_second(t, n, d, size, st, s, m);
     let Read::Got(offset) = g else {
         return Three::Unread;
     };
-    let h = vm_quick_operands::read(t, at + StatementRow::THIRD, d, size, st, s, m);
+    let h = vm_quick_operands::read_third(t, n, d, size, st, s, m);
     let Read::Got(value) = h else {
         return Three::Unread;
     };
@@ -217,10 +215,10 @@ fn set_byte(
     n: u32,
     top: u32,
 ) -> Move
-    requires { ⌜ (n < 4294967295) × (n * statementRow + statementRow ≤ length (now t)) × (s + size ≤ length (now st)) ⌝ }
+    requires { ⌜ (n < greatestWord) × (placeOf n + statementRow ≤ length (now t)) × (s + size ≤ length (now st)) ⌝ }
     ensures { λ r. ⌜ taken r (now (st .entry)) (now (m .exit)) ≡ quickByte (now (t .entry)) d size (now (st .entry)) s (now (m .entry)) n top ⌝ }
 {
-    let x = read_three(t, n as usize * Table::STATEMENT_ROW, d, size, st, s, m);
+    let x = read_three(t, n, d, size, st, s, m);
     let Three::All {
         base,
         offset,
@@ -251,10 +249,10 @@ fn set_word(
     n: u32,
     top: u32,
 ) -> Move
-    requires { ⌜ (n < 4294967295) × (n * statementRow + statementRow ≤ length (now t)) × (s + size ≤ length (now st)) ⌝ }
+    requires { ⌜ (n < greatestWord) × (placeOf n + statementRow ≤ length (now t)) × (s + size ≤ length (now st)) ⌝ }
     ensures { λ r. ⌜ taken r (now (st .entry)) (now (m .exit)) ≡ quickWord (now (t .entry)) d size (now (st .entry)) s (now (m .entry)) n top ⌝ }
 {
-    let x = read_three(t, n as usize * Table::STATEMENT_ROW, d, size, st, s, m);
+    let x = read_three(t, n, d, size, st, s, m);
     let Three::All {
         base,
         offset,
@@ -286,10 +284,10 @@ fn store_at(
     top: u32,
     a: u32,
 ) -> Move
-    requires { ⌜ (n < 4294967295) × (n * statementRow + statementRow ≤ length (now t)) × (s + size ≤ length (now st)) × (length (now m) ≤ 65536) × (a + 4 ≤ length (now m)) ⌝ }
+    requires { ⌜ (n < greatestWord) × (placeOf n + statementRow ≤ length (now t)) × (s + size ≤ length (now st)) × (length (now m) ≤ memoryBytes) × (a + 4 ≤ length (now m)) ⌝ }
     ensures { λ r. ⌜ taken r (now (st .entry)) (now (m .exit)) ≡ storedAt (now (t .entry)) d size (now (st .entry)) s (now (m .entry)) n top a ⌝ }
 {
-    let x = vm_quick_operands::work(t, n as usize * Table::STATEMENT_ROW, d, size, st, s, m, top);
+    let x = vm_quick_operands::work(t, n, d, size, st, s, m, top);
     match x {
         Worked::Value { word, top: end } => {
             vm_memory::put_word(m, a, word);
@@ -304,15 +302,14 @@ fn store_at(
 
 // `set @` without a call.
 fn set_at(t: &[u32], d: u32, size: u32, st: &[u32], s: u32, m: &mut [u8], n: u32, top: u32) -> Move
-    requires { ⌜ (n < 4294967295) × (n * statementRow + statementRow ≤ length (now t)) × (s + size ≤ length (now st)) × (length (now m) ≤ 65536) ⌝ }
+    requires { ⌜ (n < greatestWord) × (placeOf n + statementRow ≤ length (now t)) × (s + size ≤ length (now st)) × (length (now m) ≤ memoryBytes) ⌝ }
     ensures { λ r. ⌜ taken r (now (st .entry)) (now (m .exit)) ≡ quickAt (now (t .entry)) d size (now (st .entry)) s (now (m .entry)) n top ⌝ }
 {
-    let at = n as usize * Table::STATEMENT_ROW;
-    let k = vm_quick_operands::peek(t, at + StatementRow::ADDRESS);
+    let k = prog_tables::address_kind_in(t, n);
     if OperandKind::ADDRESS < k {
         return Move::Stays;
     }
-    let f = vm_quick_operands::read(t, at + StatementRow::ADDRESS, d, size, st, s, m);
+    let f = vm_quick_operands::read_address(t, n, d, size, st, s, m);
     let Read::Got(a) = f else {
         return Move::Stays;
     };
@@ -335,10 +332,10 @@ fn take_form(
     n: u32,
     top: u32,
 ) -> Move
-    requires { ⌜ (n < c) × (c < 4294967296) × (c * statementRow ≤ length (now t)) × (s + size ≤ length (now st)) × (length (now m) ≤ 65536) ⌝ }
+    requires { ⌜ (n < c) × (c < wordValues) × (c * statementRow ≤ length (now t)) × (s + size ≤ length (now st)) × (length (now m) ≤ memoryBytes) ⌝ }
     ensures { λ r. ⌜ taken r (now (st .exit)) (now (m .exit)) ≡ quickForm (now (t .entry)) c g d size (now (st .entry)) s (now (m .entry)) n top ⌝ }
 {
-    let k = vm_quick_operands::peek(t, n as usize * Table::STATEMENT_ROW);
+    let k = prog_tables::kind_in(t, n);
     if prog_tables::is_test(k) {
         return test(t, c, g, d, size, st, s, m, n, top, k);
     }
@@ -374,13 +371,13 @@ fn take(
     n: u32,
     top: u32,
 ) -> Move
-    requires { ⌜ (c < 4294967296) × (c * statementRow ≤ length (now t)) × (s + size ≤ length (now st)) × (length (now m) ≤ 65536) ⌝ }
+    requires { ⌜ (c < wordValues) × (c * statementRow ≤ length (now t)) × (s + size ≤ length (now st)) × (length (now m) ≤ memoryBytes) ⌝ }
     ensures { λ r. ⌜ taken r (now (st .exit)) (now (m .exit)) ≡ quickStep (now (t .entry)) c g d size (now (st .entry)) s (now (m .entry)) n top ⌝ }
 {
     if c <= n {
         return Move::Stays;
     }
-    let own = vm_quick_operands::peek(t, n as usize * Table::STATEMENT_ROW + StatementRow::FUNC);
+    let own = prog_tables::func_in(t, n);
     if own == g {
         return take_form(t, c, g, d, size, st, s, m, n, top);
     }
@@ -401,7 +398,7 @@ pub fn run_plain(
     n: u32,
     top: u32,
 ) -> PlainRun
-    requires { ⌜ (c * statementRow ≤ length (now t)) × (s + size ≤ length (now st)) × (length (now m) ≤ 65536) ⌝ }
+    requires { ⌜ (c * statementRow ≤ length (now t)) × (s + size ≤ length (now st)) × (length (now m) ≤ memoryBytes) ⌝ }
     ensures { λ r. ⌜ endedWith r (now (st .exit)) (now (m .exit)) ≡ plainRunOf (now (t .entry)) c g d size s budget (now (st .entry)) (now (m .entry)) n top ⌝ }
 {
     let mut next = n;

@@ -16,6 +16,7 @@ use Rattle.base_limits.specs.declared.Width.the-variants.{Bits32}
 use Rattle.base_limits.specs.declared.State.{State}
 use Rattle.base_limits.specs.declared.State.the-variants.{Running, Finished, Stopped}
 use Rattle.base_limits.specs.declared.Machine.{Machine}
+use Rattle.base_limits.specs.Record.{movedTo}
 use Rattle.prog_tables.specs.Statement.{Row, rowAt}
 use Rattle.prog_tables.specs.Label.{Tables, rows}
 use Rattle.prog_tables.specs.Faults.{countFault}
@@ -31,7 +32,6 @@ use Rattle.vm_definitions.specs.declared.Broken.{Broken}
 use Rattle.vm_definitions.specs.declared.Broken.the-variants.{No, At, Somewhere}
 use Rattle.vm_calls.specs.Outcomes as outcomes
 use Rattle.vm_statements.specs.Ready.{Ready}
-use Rattle.vm_definitions.specs.Step.{movedTo}
 use Rattle.vm_guard.specs.FrameInUse.{goodFrameSize}
 use Rattle.vm_quick_statements.specs.PlainRun.{endedWith, plainRunOf}
 use Rattle.vm_quick_statements.specs.declared.PlainRun.{PlainRun}

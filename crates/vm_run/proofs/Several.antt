@@ -12,9 +12,10 @@ use Rattle.base_limits.specs.declared.Width.the-variants.{Bits32}
 use Rattle.base_limits.specs.declared.State.{State}
 use Rattle.base_limits.specs.declared.State.the-variants.{Running, Finished, Stopped}
 use Rattle.base_limits.specs.declared.Machine.{Machine}
+use Rattle.base_limits.specs.Record.{goingOn, movedTo}
 use Rattle.prog_tables.specs.Statement.{Row, rowAt}
 use Rattle.vm_definitions.specs.Frames.{isFirst, calledFrom, headGood}
-use Rattle.vm_definitions.specs.Step.{World, After, Effect, stops, leaves, goingOn, movedTo, idle, guarded, effected, counting, effectOf}
+use Rattle.vm_definitions.specs.Step.{World, After, Effect, stops, leaves, idle, guarded, effected, counting, effectOf}
 use Rattle.vm_definitions.specs.Lent.{world}
 use Rattle.vm_definitions.specs.declared.Broken.{Broken}
 use Rattle.vm_definitions.specs.declared.Broken.the-variants.{No, At, Somewhere}

@@ -6,8 +6,9 @@ use mathlib.Core.List.{List}
 use lib.ListN.{length}
 use Rattle.base_prelude.specs.Choice.{ifLt, ifEq, ifTrue}
 use Rattle.base_limits.specs.declared.Machine.{Machine}
+use Rattle.base_limits.specs.Record.{movedTo}
 use Rattle.prog_tables.specs.Statement.{Row, rowAt}
-use Rattle.vm_definitions.specs.Step.{World, After, movedTo}
+use Rattle.vm_definitions.specs.Step.{World, After}
 use Rattle.vm_definitions.specs.Lent.{world}
 use Rattle.vm_definitions.specs.declared.Broken.the-variants.{No}
 use Rattle.vm_guard.specs.FrameInUse.{goodFrameSize}

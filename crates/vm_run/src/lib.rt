@@ -7,9 +7,11 @@ use vm_quick_calls::Transfer;
 ghost use mathlib.Core.Path.{_≡_};
 ghost use Prim.Native.Nat.{_+_, _*_, _≤_, _<_};
 ghost use lib.ListN.{length};
+ghost use Rattle.base_limits.specs.Limits.{memoryBytes, stackWords};
 ghost use Rattle.base_limits.specs.declared.Width.the-variants.{Bits32};
+ghost use Rattle.base_limits.specs.Record.{movedTo};
 ghost use Rattle.prog_tables.specs.Statement.{rowAt};
-ghost use Rattle.vm_definitions.specs.Step.{movedTo, stepOf, runOf};
+ghost use Rattle.vm_definitions.specs.Step.{stepOf, runOf};
 ghost use Rattle.vm_definitions.specs.Lent.{tablesOf, world, left};
 ghost use Rattle.prog_tables.specs.Layout.{statementRow};
 ghost use Rattle.vm_run.specs.Within.{givenBack, isRunning, takenStep, withinStep, withinRun};
@@ -71,20 +73,6 @@ fn usable_size(t: &[u32], c: u32, m: usize, q: Machine, st: &[u32]) -> u32
     0
 }
 
-// The record at another statement of its frame, and in another frame.
-fn moved(r: Machine, next: u32, frame: u32, used: u32, top: u32) -> Machine
-    ensures { λ q. ⌜ q ≡ movedTo r next frame used top ⌝ }
-{
-    let state = r.state;
-    Machine {
-        state: state,
-        next: next,
-        frame: frame,
-        used: used,
-        top: top,
-    }
-}
-
 // The statement that a plain run of so many steps ends at: a call or a return, or else the exact step where there was none before it.
 fn end_plain(
     t: &[u32],
@@ -97,7 +85,7 @@ fn end_plain(
     st: &mut [u32],
     m: &mut [u8],
 ) -> Outcome
-    requires { ⌜ (c * statementRow ≤ length (now t)) × (r .frame + size ≤ length (now st)) × (length (now st) ≤ 16384) × (length (now m) ≤ 65536) × (count < 18446744073709551615) ⌝ }
+    requires { ⌜ (c * statementRow ≤ length (now t)) × (r .frame + size ≤ length (now st)) × (length (now st) ≤ stackWords) × (length (now m) ≤ memoryBytes) × (count < 18446744073709551615) ⌝ }
     ensures { λ o. ⌜ left o (now (st .exit)) (now (m .exit)) ≡ plainRunEnd (now (t .entry)) c d g size count (world r (now (st .entry)) (now (m .entry))) ⌝ }
 {
     let y = vm_quick_calls::take_transfer(t, c, g, d, size, st, r.frame, r.used, m, r.next, r.top);
@@ -108,7 +96,7 @@ fn end_plain(
             used,
             top,
         } => Outcome {
-            machine: moved(r, next, frame, used, top),
+            machine: Machine::moved(r, next, frame, used, top),
             count: count + 1,
             broken: Broken::No,
         },
@@ -136,13 +124,13 @@ fn advance_in_frame(
     st: &mut [u32],
     m: &mut [u8],
 ) -> Outcome
-    requires { ⌜ (c * statementRow ≤ length (now t)) × (r .frame + size ≤ length (now st)) × (length (now st) ≤ 16384) × (length (now m) ≤ 65536) ⌝ }
+    requires { ⌜ (c * statementRow ≤ length (now t)) × (r .frame + size ≤ length (now st)) × (length (now st) ≤ stackWords) × (length (now m) ≤ memoryBytes) ⌝ }
     ensures { λ o. ⌜ left o (now (st .exit)) (now (m .exit)) ≡ stepsInFrame (now (t .entry)) c d size budget (world r (now (st .entry)) (now (m .entry))) ⌝ }
 {
     let g = prog_tables::func_at(t, r.next);
     let x = vm_quick_statements::run_plain(t, c, g, d, size, budget, st, r.frame, m, r.next, r.top);
     let count = x.count;
-    let q = moved(r, x.next, r.frame, r.used, x.top);
+    let q = Machine::moved(r, x.next, r.frame, r.used, x.top);
     if count < budget {
         return end_plain(t, c, g, d, size, q, count, st, m);
     }

@@ -15,17 +15,17 @@ use borrow.Author.Tests.{eq-eqb, ne-eqb, lt-ltb, le-ltb, le-leb, lt-leb, ltb-tru
 use Rattle.base_prelude.specs.Choice.{pick, ifLt, ifEq, ifTrue}
 use Rattle.base_prelude.specs.Lists.{sameList}
 use Rattle.base_prelude.proofs.Choice.{true-false, ifLt-yes, ifLt-no}
-use Rattle.base_limits.specs.Fresh.{freshOf}
 use Rattle.base_limits.specs.declared.Machine.{Machine}
 use Rattle.base_limits.specs.declared.Width.{Width}
 use Rattle.base_limits.specs.declared.Width.the-variants.{Bits32}
+use Rattle.base_limits.specs.Record.{freshOf, mark}
 use Rattle.prog_tables.specs.Tests.{both, oneOf, someBelow, firstFrom}
 use Rattle.prog_tables.specs.Statement.{Row, rowAt}
 use Rattle.prog_tables.specs.Label.{Tables, labelAt, labelsOf, isData, isFunctionLabel}
 use Rattle.prog_tables.specs.Faults.{rowFault, labelFault, countFault}
 use Rattle.vm_counts.proofs.Cases.{count-any}
 use Rattle.vm_definitions.specs.Access.{storeFrom}
-use Rattle.vm_definitions.specs.Frames.{mark, frameWords}
+use Rattle.vm_definitions.specs.Frames.{frameWords}
 use Rattle.vm_definitions.specs.Broken.{lower, lowest, orElse, numbersBelow, startBroken}
 use Rattle.vm_definitions.specs.Step.{World}
 use Rattle.vm_definitions.specs.Start.{exportsAs, exportOf, startAnswer, startWorld, startBy, begunBy, startOf, startLeaves}

@@ -8,8 +8,8 @@ use lib.ListN.{length, take}
 use Rattle.base_prelude.specs.Choice.{ifEq, ifTrue}
 use Rattle.base_limits.specs.Limits.{stackWords}
 use Rattle.base_limits.specs.Width.{memoryLimit}
-use Rattle.base_limits.specs.Fresh.{freshOf}
 use Rattle.base_limits.specs.declared.Width.{Width}
+use Rattle.base_limits.specs.Record.{freshOf, mark}
 use Rattle.lang_kinds.specs.Kinds as kind
 use Rattle.prog_tables.specs.Layout.{placeLabel}
 use Rattle.prog_tables.specs.Tests.{both, oneOf, someBelow}
@@ -17,7 +17,7 @@ use Rattle.prog_tables.specs.Statement.{Row}
 use Rattle.prog_tables.specs.Label.{Tables, rows, labelsOf, isData, isFunctionLabel}
 use Rattle.prog_tables.specs.Faults.{rowFault, labelFault}
 use Rattle.vm_definitions.specs.Access.{storeFrom}
-use Rattle.vm_definitions.specs.Frames.{mark, frameWords}
+use Rattle.vm_definitions.specs.Frames.{frameWords}
 use Rattle.vm_definitions.specs.Broken.{orElse, lowest, numbersBelow}
 use Rattle.vm_definitions.specs.Step.{World}
 use Rattle.vm_definitions.specs.Start.{startOf, startLeaves}

@@ -10,6 +10,7 @@ use vm_definitions::Started;
 ghost use mathlib.Core.Path.{_≡_};
 ghost use Prim.Native.Nat.{_+_, _*_, _≤_, _<_, min};
 ghost use lib.ListN.{length, take, drop};
+ghost use Rattle.base_limits.specs.Limits.{wordValues, greatestWord};
 ghost use Rattle.base_prelude.specs.Lists.{sameList};
 ghost use Rattle.base_limits.specs.declared.Width.the-variants.{Bits32};
 ghost use Rattle.prog_tables.specs.Tests.{someBelow};
@@ -198,13 +199,13 @@ fn open(
     st: &mut [u32],
     m: &mut [u8],
 ) -> Machine
-    requires { ⌜ g < 4294967295 ⌝ }
-    requires { ⌜ length (now args) < 4294967296 ⌝ }
+    requires { ⌜ g < greatestWord ⌝ }
+    requires { ⌜ length (now args) < wordValues ⌝ }
     requires { ⌜ d ≤ length (now m) ⌝ }
     requires { ⌜ d ≤ length (now bytes) ⌝ }
     ensures { λ r. ⌜ world r (now (st .exit)) (now (m .exit)) ≡ begunAt Bits32 g size d (now (bytes .entry)) (now (args .entry)) (now (st .entry)) (now (m .entry)) ⌝ }
 {
-    vm_memory::build_frame(st, 0, 4294967295, 4294967295, d, args, size);
+    vm_memory::build_frame(st, 0, Machine::MARK, Machine::MARK, d, args, size);
     vm_memory::put_bytes(m, bytes, d);
     Machine::fresh(g + 1, size, d)
 }
@@ -220,8 +221,8 @@ fn fit(
     st: &mut [u32],
     m: &mut [u8],
 ) -> Opening
-    requires { ⌜ g < 4294967295 ⌝ }
-    requires { ⌜ length (now args) < 4294967296 ⌝ }
+    requires { ⌜ g < greatestWord ⌝ }
+    requires { ⌜ length (now args) < wordValues ⌝ }
     requires { ⌜ d ≤ length (now bytes) ⌝ }
     ensures { λ r. ⌜ opened r (now (st .exit)) (now (m .exit)) ≡ fittedOf Bits32 g size d (now (bytes .entry)) (now (args .entry)) (world machine (now (st .entry)) (now (m .entry))) ⌝ }
 {
@@ -231,7 +232,7 @@ fn fit(
             answer: Started::Refused(22),
         };
     }
-    if 65536 < m.len() {
+    if Machine::MEMORY_BYTES < m.len() {
         return Opening {
             machine: machine,
             answer: Started::Refused(22),
@@ -243,7 +244,7 @@ fn fit(
             answer: Started::Refused(23),
         };
     }
-    if 16384 < st.len() {
+    if Machine::STACK_WORDS < st.len() {
         return Opening {
             machine: machine,
             answer: Started::Refused(23),
@@ -267,7 +268,7 @@ fn enter(
     st: &mut [u32],
     m: &mut [u8],
 ) -> Opening
-    requires { ⌜ g < 4294967295 ⌝ }
+    requires { ⌜ g < greatestWord ⌝ }
     requires { ⌜ d ≤ length (now bytes) ⌝ }
     ensures { λ r. ⌜ opened r (now (st .exit)) (now (m .exit)) ≡ enteredOf Bits32 (rowAt (now (t .entry))) g d (now (bytes .entry)) (now (args .entry)) (world machine (now (st .entry)) (now (m .entry))) ⌝ }
 {

@@ -12,6 +12,7 @@ use Rattle.base_prelude.specs.Choice.{ifLt, ifEq, ifTrue}
 use Rattle.base_prelude.proofs.Choice.{true-false, either}
 use Rattle.base_limits.specs.declared.Width.the-variants.{Bits32}
 use Rattle.base_limits.specs.declared.Machine.{Machine}
+use Rattle.base_limits.specs.Record.{goingOn, movedTo, stopped}
 use Rattle.base_word.specs.Bytes.{wordBytes}
 use Rattle.prog_tables.specs.Tests.{both}
 use Rattle.prog_tables.specs.Statement.{Row, hasExpression, isTest, isCall, usedBy, operandAt, slots, rowFrom, rowAt}
@@ -22,7 +23,7 @@ use Rattle.vm_definitions.specs.Operands as machine
 use Rattle.vm_definitions.specs.Operands.{Words, bad, withWord, numberIn, readOf, onRead, readAll}
 use Rattle.vm_definitions.specs.Expressions.{testHolds, operandNo}
 use Rattle.vm_definitions.specs.Frames.{isCalling}
-use Rattle.vm_definitions.specs.Step.{Effect, goingOn, movedTo, keeps, stores, goesTo, blockOf, endBlockOf, testOf, assigned, assignedAt, setAtOf, setByteBy, setWordBy, argumentsOf, returned, workedOf, effectOf, effected, stopped}
+use Rattle.vm_definitions.specs.Step.{Effect, keeps, stores, goesTo, blockOf, endBlockOf, testOf, assigned, assignedAt, setAtOf, setByteBy, setWordBy, argumentsOf, returned, workedOf, effectOf, effected}
 use Rattle.vm_definitions.specs.Lent.{world, left}
 use Rattle.vm_definitions.specs.declared.Outcome.{Outcome}
 use Rattle.vm_definitions.specs.declared.Read.{Read}

@@ -11,11 +11,12 @@ use borrow.Author.Tests.{eq-eqb, ne-eqb}
 use Rattle.base_prelude.specs.Choice.{ifEq, ifTrue}
 use Rattle.base_limits.specs.declared.Width.the-variants.{Bits32}
 use Rattle.base_limits.specs.declared.Machine.{Machine}
+use Rattle.base_limits.specs.Record.{goingOn}
 use Rattle.prog_tables.specs.Tests.{both, oneOf}
 use Rattle.prog_tables.specs.Statement.{Row, hasExpression, isTest, rowAt}
 use Rattle.vm_definitions.specs.Access.{storeFrom}
 use Rattle.vm_definitions.specs.Frames.{isCalling}
-use Rattle.vm_definitions.specs.Step.{Effect, goingOn, keeps, goesTo, blockOf, endBlockOf, testOf, setAtOf, effectOf, effected}
+use Rattle.vm_definitions.specs.Step.{Effect, keeps, goesTo, blockOf, endBlockOf, testOf, setAtOf, effectOf, effected}
 use Rattle.vm_definitions.specs.Lent.{world, left}
 use Rattle.vm_definitions.specs.declared.Outcome.{Outcome}
 use Rattle.vm_calls.specs.Outcomes.{oneStep, after, calling, atCalling, tailCalling, handing, assigning, settingByte, settingWord}

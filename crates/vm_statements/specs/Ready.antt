@@ -6,6 +6,7 @@ use mathlib.Core.List.{List}
 use Prim.Native.Nat.{ℕ, suc, _<_, _≤_}
 use lib.ListN.{length}
 use Rattle.base_prelude.specs.Choice.{ifTrue}
+use Rattle.base_limits.specs.Limits.{memoryBytes, stackWords}
 use Rattle.base_limits.specs.declared.Width.the-variants.{Bits32}
 use Rattle.base_limits.specs.declared.Machine.{Machine}
 use Rattle.prog_tables.specs.Statement.{Row, hasExpression, isCall}
@@ -20,8 +21,8 @@ pub record Ready (f : ℕ → Row) (c : ℕ) (r : Machine) (st : List ℕ) (m : 
   pub listed : hasExpression (f (r .next) .kind) ≡ true → expressionListed (f (r .next) .kind) (f (r .next) .expr) ≡ true
   pub callee : isCall (f (r .next) .kind) (f (r .next) .expr) ≡ true → f (r .next) .callee < c
   pub leaves : isReturn (f (r .next)) ≡ true → leavesGood Bits32 f c m st (suc (r .frame)) (r .frame) ≡ true
-  pub stack : length st ≤ 16384
-  pub memory : m ≤ 65536
+  pub stack : length st ≤ stackWords
+  pub memory : m ≤ memoryBytes
 
 -- `let` and `set` of a local: a call, or an expression
 abbrev pub settingLocal : Meaning

@@ -10,22 +10,25 @@ ghost use mathlib.Core.Bool.{true};
 ghost use mathlib.Core.List.{[], _∷_};
 ghost use Prim.Native.Nat.{suc, _+_, _*_, _≤_, _<_};
 ghost use lib.ListN.{length, getD, take, replicate};
+ghost use Rattle.base_limits.specs.Limits.{greatestWord, memoryBytes};
 ghost use Rattle.base_prelude.specs.Choice.{ifTrue};
 ghost use Rattle.base_limits.specs.declared.Width.the-variants.{Bits32};
+ghost use Rattle.base_limits.specs.Record.{goingOn};
+ghost use Rattle.lang_kinds.specs.Kinds as kind;
 ghost use Rattle.prog_tables.specs.Statement.{rowAt, slots, isTest, hasExpression};
 ghost use Rattle.vm_definitions.specs.Access.{storeFrom};
 ghost use Rattle.vm_definitions.specs.Operands.{numberIn, readAll};
 ghost use Rattle.vm_definitions.specs.Expressions.{testHolds};
-ghost use Rattle.vm_definitions.specs.Step.{goingOn, testOf, setAtOf, effectOf};
+ghost use Rattle.vm_definitions.specs.Step.{testOf, setAtOf, effectOf};
 ghost use Rattle.vm_definitions.specs.Lent.{left};
-ghost use Rattle.prog_tables.specs.Layout.{statementRow};
+ghost use Rattle.prog_tables.specs.Places.{placeOf};
 ghost use Rattle.vm_calls.specs.Outcomes.{oneStep, after, assigning, settingByte, settingWord, Expressed};
 ghost use Rattle.vm_statements.specs.Three.{threeWords};
 ghost use Rattle.vm_statements.specs.Ready.{Ready, settingLocal, assigningAt, returning};
 
 // `block`: the auto top is saved, the block's words are zeroed.
 fn enter_block(t: &[u32], r: Machine, st: &mut [u32]) -> Outcome
-    requires { ⌜ r .next < 4294967295 ⌝ }
+    requires { ⌜ r .next < greatestWord ⌝ }
     ensures { λ o. ⌜ (o ≡ oneStep (goingOn r (suc (r .next)) (r .top))) × (now (st .exit) ≡ storeFrom (now (st .entry)) (r .frame + rowAt (now (t .entry)) (r .next) .a) (r .top ∷ replicate (rowAt (now (t .entry)) (r .next) .b) 0)) ⌝ }
 {
     let n = r.next;
@@ -41,7 +44,7 @@ fn enter_block(t: &[u32], r: Machine, st: &mut [u32]) -> Outcome
 
 // `end block`: the auto top is restored.
 fn leave_block(t: &[u32], r: Machine, st: &[u32]) -> Outcome
-    requires { ⌜ r .next < 4294967295 ⌝ }
+    requires { ⌜ r .next < greatestWord ⌝ }
     ensures { λ o. ⌜ o ≡ oneStep (goingOn r (suc (r .next)) (getD (now (st .entry)) (r .frame + rowAt (now (t .entry)) (r .next) .a) 0)) ⌝ }
 {
     let n = r.next;
@@ -53,7 +56,7 @@ fn leave_block(t: &[u32], r: Machine, st: &[u32]) -> Outcome
 
 // Where a test of kind k goes with two words.
 fn branch(t: &[u32], r: Machine, k: u32, x: u32, y: u32) -> Outcome
-    requires { ⌜ r .next < 4294967295 ⌝ }
+    requires { ⌜ r .next < greatestWord ⌝ }
     ensures { λ o. ⌜ o ≡ oneStep (goingOn r (ifTrue (testHolds Bits32 k x y) (suc (r .next)) (rowAt (now (t .entry)) (r .next) .a)) (r .top)) ⌝ }
 {
     let n = r.next;
@@ -66,16 +69,16 @@ fn branch(t: &[u32], r: Machine, k: u32, x: u32, y: u32) -> Outcome
 
 // A test: its operands left to right.
 fn run_test(t: &[u32], c: u32, r: Machine, k: u32, st: &[u32], m: &[u8]) -> Outcome
-    requires { ⌜ (r .next < 4294967295) × (k ≡ rowAt (now t) (r .next) .kind) × (isTest k ≡ true) ⌝ }
+    requires { ⌜ (r .next < greatestWord) × (k ≡ rowAt (now t) (r .next) .kind) × (isTest k ≡ true) ⌝ }
     ensures { λ o. ⌜ left o (now (st .entry)) (now (m .entry)) ≡ after testOf (now (t .entry)) c r (now (st .entry)) (now (m .entry)) ⌝ }
 {
     let n = r.next;
     let s = r.frame;
-    let f = vm_operands::read_operand(st, s, m, vm_calls::slot_at(t, n, 0));
+    let f = vm_operands::read_operand(st, s, m, prog_tables::slot_at(t, n, 0));
     let Read::Got(x) = f else {
         return vm_calls::stop(r, 32);
     };
-    let g = vm_operands::read_operand(st, s, m, vm_calls::slot_at(t, n, 1));
+    let g = vm_operands::read_operand(st, s, m, prog_tables::slot_at(t, n, 1));
     let Read::Got(y) = g else {
         return vm_calls::stop(r, 32);
     };
@@ -84,7 +87,7 @@ fn run_test(t: &[u32], c: u32, r: Machine, k: u32, st: &[u32], m: &[u8]) -> Outc
 
 // `let` and `set` of a local, without a call.
 fn assign(t: &[u32], c: u32, r: Machine, st: &mut [u32], m: &[u8]) -> Outcome
-    requires { ⌜ (r .next < 4294967295) × (Expressed (rowAt (now t) (r .next))) × (length (now m) ≤ 65536) ⌝ }
+    requires { ⌜ (r .next < greatestWord) × (Expressed (rowAt (now t) (r .next))) × (length (now m) ≤ memoryBytes) ⌝ }
     ensures { λ o. ⌜ left o (now (st .exit)) (now (m .entry)) ≡ after assigning (now (t .entry)) c r (now (st .entry)) (now (m .entry)) ⌝ }
 {
     let n = r.next;
@@ -102,7 +105,7 @@ fn assign(t: &[u32], c: u32, r: Machine, st: &mut [u32], m: &[u8]) -> Outcome
 
 // `let` and `set` of a local.
 fn set_local(t: &[u32], c: u32, r: Machine, st: &mut [u32], m: &[u8]) -> Outcome
-    requires { ⌜ (Ready (rowAt (now t)) c r (now st) (length (now m))) × (hasExpression (rowAt (now t) (r .next) .kind) ≡ true) × (rowAt (now t) (r .next) .kind < 8) ⌝ }
+    requires { ⌜ (Ready (rowAt (now t)) c r (now st) (length (now m))) × (hasExpression (rowAt (now t) (r .next) .kind) ≡ true) × (rowAt (now t) (r .next) .kind < kind.setByte) ⌝ }
     ensures { λ o. ⌜ left o (now (st .exit)) (now (m .entry)) ≡ after settingLocal (now (t .entry)) c r (now (st .entry)) (now (m .entry)) ⌝ }
 {
     let n = r.next;
@@ -115,7 +118,7 @@ fn set_local(t: &[u32], c: u32, r: Machine, st: &mut [u32], m: &[u8]) -> Outcome
 
 // `set @` without a call, a being its address.
 fn assign_word(t: &[u32], c: u32, r: Machine, a: u32, st: &[u32], m: &mut [u8]) -> Outcome
-    requires { ⌜ (r .next < 4294967295) × (Expressed (rowAt (now t) (r .next))) × (length (now m) ≤ 65536) × (a + 4 ≤ length (now m)) × (a ≡ numberIn (now st) (r .frame) (rowAt (now t) (r .next) .address)) ⌝ }
+    requires { ⌜ (r .next < greatestWord) × (Expressed (rowAt (now t) (r .next))) × (length (now m) ≤ memoryBytes) × (a + 4 ≤ length (now m)) × (a ≡ numberIn (now st) (r .frame) (rowAt (now t) (r .next) .address)) ⌝ }
     ensures { λ o. ⌜ left o (now (st .entry)) (now (m .exit)) ≡ after assigningAt (now (t .entry)) c r (now (st .entry)) (now (m .entry)) ⌝ }
 {
     let n = r.next;
@@ -131,7 +134,7 @@ fn assign_word(t: &[u32], c: u32, r: Machine, a: u32, st: &[u32], m: &mut [u8]) 
 
 // `set @` without a call: its address is judged first.
 fn assign_at(t: &[u32], c: u32, r: Machine, st: &[u32], m: &mut [u8]) -> Outcome
-    requires { ⌜ (r .next < 4294967295) × (Expressed (rowAt (now t) (r .next))) × (length (now m) ≤ 65536) ⌝ }
+    requires { ⌜ (r .next < greatestWord) × (Expressed (rowAt (now t) (r .next))) × (length (now m) ≤ memoryBytes) ⌝ }
     ensures { λ o. ⌜ left o (now (st .entry)) (now (m .exit)) ≡ after setAtOf (now (t .entry)) c r (now (st .entry)) (now (m .entry)) ⌝ }
 {
     let n = r.next;
@@ -164,17 +167,17 @@ pub enum Three {
 
 // The three operands of row n, left to right.
 fn read_three(t: &[u32], n: u32, st: &[u32], s: u32, m: &[u8]) -> Three
-    ensures { λ x. ⌜ threeWords x ≡ readAll Bits32 (now (st .entry)) s (now (m .entry)) (take 3 (slots (now (t .entry)) (n * statementRow))) ⌝ }
+    ensures { λ x. ⌜ threeWords x ≡ readAll Bits32 (now (st .entry)) s (now (m .entry)) (take 3 (slots (now (t .entry)) (placeOf n))) ⌝ }
 {
-    let f = vm_operands::read_operand(st, s, m, vm_calls::slot_at(t, n, 0));
+    let f = vm_operands::read_operand(st, s, m, prog_tables::slot_at(t, n, 0));
     let Read::Got(base) = f else {
         return Three::Unread;
     };
-    let g = vm_operands::read_operand(st, s, m, vm_calls::slot_at(t, n, 1));
+    let g = vm_operands::read_operand(st, s, m, prog_tables::slot_at(t, n, 1));
     let Read::Got(offset) = g else {
         return Three::Unread;
     };
-    let h = vm_operands::read_operand(st, s, m, vm_calls::slot_at(t, n, 2));
+    let h = vm_operands::read_operand(st, s, m, prog_tables::slot_at(t, n, 2));
     let Read::Got(value) = h else {
         return Three::Unread;
     };
@@ -187,7 +190,7 @@ fn read_three(t: &[u32], n: u32, st: &[u32], s: u32, m: &[u8]) -> Three
 
 // `set-byte`: base, offset and value are read before the address is judged.
 fn set_byte(t: &[u32], c: u32, r: Machine, st: &[u32], m: &mut [u8]) -> Outcome
-    requires { ⌜ (r .next < 4294967295) × (rowAt (now t) (r .next) .kind ≡ 8) ⌝ }
+    requires { ⌜ (r .next < greatestWord) × (rowAt (now t) (r .next) .kind ≡ kind.setByte) ⌝ }
     ensures { λ o. ⌜ left o (now (st .entry)) (now (m .exit)) ≡ after settingByte (now (t .entry)) c r (now (st .entry)) (now (m .entry)) ⌝ }
 {
     let n = r.next;
@@ -212,7 +215,7 @@ fn set_byte(t: &[u32], c: u32, r: Machine, st: &[u32], m: &mut [u8]) -> Outcome
 
 // `set-word`: base, offset and value are read before the address is judged.
 fn set_word(t: &[u32], c: u32, r: Machine, st: &[u32], m: &mut [u8]) -> Outcome
-    requires { ⌜ (r .next < 4294967295) × (rowAt (now t) (r .next) .kind ≡ 9) ⌝ }
+    requires { ⌜ (r .next < greatestWord) × (rowAt (now t) (r .next) .kind ≡ kind.setWord) ⌝ }
     ensures { λ o. ⌜ left o (now (st .entry)) (now (m .exit)) ≡ after settingWord (now (t .entry)) c r (now (st .entry)) (now (m .entry)) ⌝ }
 {
     let n = r.next;
@@ -274,7 +277,7 @@ fn jump(t: &[u32], r: Machine) -> Outcome
 
 // `end if`.
 fn pass(r: Machine) -> Outcome
-    requires { ⌜ r .next < 4294967295 ⌝ }
+    requires { ⌜ r .next < greatestWord ⌝ }
     ensures { λ o. ⌜ o ≡ oneStep (goingOn r (suc (r .next)) (r .top)) ⌝ }
 {
     let n = r.next;

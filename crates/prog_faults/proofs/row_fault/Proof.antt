@@ -6,10 +6,8 @@ use Rattle.prog_faults.proofs.row_fault.Statement.{statement}
 use Rattle.prog_faults.proofs.row_fault.Tie as tie
 use Rattle.prog_faults.proofs.row_fault.Reads as reads
 use Rattle.prog_faults.proofs.row_fault.Lts as lts
-use Rattle.prog_faults.proofs.call_fault.Reads as call-fault-reads
 use Rattle.prog_faults.proofs.local_fault.Reads as local-fault-reads
 use Rattle.prog_faults.proofs.operands_fault.Reads as operands-fault-reads
-use Rattle.prog_faults.proofs.return_fault.Reads as return-fault-reads
 use Rattle.prog_faults.proofs.set_at_fault.Reads as set-at-fault-reads
 use Rattle.prog_faults.proofs.size_fault.Reads as size-fault-reads
 use Rattle.prog_faults.proofs.target_fault.Reads as target-fault-reads
@@ -58,14 +56,14 @@ operands-fault-requires-2 c κs = search needs
 target-fault-requires : tie.Need-target-fault-requires
 target-fault-requires c κs = search needs
 
-call-fault-requires : tie.Need-call-fault-requires
-call-fault-requires c κs = search needs
+expression-fault-requires : tie.Need-expression-fault-requires
+expression-fault-requires c κs = search needs
 
-call-fault-requires-2 : tie.Need-call-fault-requires-2
-call-fault-requires-2 c κs = search needs
+expression-fault-requires-2 : tie.Need-expression-fault-requires-2
+expression-fault-requires-2 c κs = search needs
 
-return-fault-requires : tie.Need-return-fault-requires
-return-fault-requires c κs = search needs
+expression-fault-requires-3 : tie.Need-expression-fault-requires-3
+expression-fault-requires-3 c κs = search needs
 
 target-fault-requires-2 : tie.Need-target-fault-requires-2
 target-fault-requires-2 c κs = search needs
@@ -158,9 +156,9 @@ row-fault-spec =
     operands-fault-requires
     operands-fault-requires-2
     target-fault-requires
-    call-fault-requires
-    call-fault-requires-2
-    return-fault-requires
+    expression-fault-requires
+    expression-fault-requires-2
+    expression-fault-requires-3
     target-fault-requires-2
     target-fault-requires-3
     returns-2

@@ -17,6 +17,9 @@ slice-aggregate-has-word c = search needs
 has-word-requires : tie.Need-has-word-requires
 has-word-requires c κs = search needs
 
+moved-requires : tie.Need-moved-requires
+moved-requires c κs = search needs
+
 returns : tie.Need-returns
 returns c =
     search pokes
@@ -26,6 +29,9 @@ slice-aggregate-has-word-2 c = search needs
 
 has-word-requires-2 : tie.Need-has-word-requires-2
 has-word-requires-2 c κs = search needs
+
+moved-requires-2 : tie.Need-moved-requires-2
+moved-requires-2 c κs = search needs
 
 returns-2 : tie.Need-returns-2
 returns-2 c =
@@ -37,6 +43,9 @@ slice-aggregate-has-word-3 c = search needs
 has-word-requires-3 : tie.Need-has-word-requires-3
 has-word-requires-3 c κs = search needs
 
+moved-requires-3 : tie.Need-moved-requires-3
+moved-requires-3 c κs = search needs
+
 returns-3 : tie.Need-returns-3
 returns-3 c =
     search pokes
@@ -46,6 +55,9 @@ slice-aggregate-has-word-4 c = search needs
 
 has-word-requires-4 : tie.Need-has-word-requires-4
 has-word-requires-4 c κs = search needs
+
+moved-requires-4 : tie.Need-moved-requires-4
+moved-requires-4 c κs = search needs
 
 returns-4 : tie.Need-returns-4
 returns-4 c =
@@ -63,14 +75,18 @@ poke-number-spec =
     narrow-requires
     slice-aggregate-has-word
     has-word-requires
+    moved-requires
     returns
     slice-aggregate-has-word-2
     has-word-requires-2
+    moved-requires-2
     returns-2
     slice-aggregate-has-word-3
     has-word-requires-3
+    moved-requires-3
     returns-3
     slice-aggregate-has-word-4
     has-word-requires-4
+    moved-requires-4
     returns-4
     returns-5)

@@ -7,7 +7,6 @@ use Rattle.vm_calls.proofs.enter.Tie as tie
 use Rattle.vm_calls.proofs.enter.Reads as reads
 use Rattle.vm_calls.proofs.enter.Lts as lts
 use Rattle.vm_calls.proofs.count_one.Reads as count-one-reads
-use Rattle.vm_calls.proofs.move_to.Reads as move-to-reads
 use Rattle.vm_memory.proofs.build_frame.Reads as build-frame-reads
 
 sub-build-frame : tie.Need-sub-build-frame
@@ -22,14 +21,14 @@ part-build-frame-end c = search needs
 build-frame-requires : tie.Need-build-frame-requires
 build-frame-requires c κs = search needs
 
-add-move-to : tie.Need-add-move-to
-add-move-to c = search needs
+add-moved : tie.Need-add-moved
+add-moved c = search needs
 
-add-move-to-2 : tie.Need-add-move-to-2
-add-move-to-2 c = search needs
+add-moved-2 : tie.Need-add-moved-2
+add-moved-2 c = search needs
 
-move-to-requires : tie.Need-move-to-requires
-move-to-requires c κs = search needs
+moved-requires : tie.Need-moved-requires
+moved-requires c κs = search needs
 
 count-one-requires : tie.Need-count-one-requires
 count-one-requires c κs = search needs
@@ -49,9 +48,9 @@ enter-spec =
     part-build-frame-start
     part-build-frame-end
     build-frame-requires
-    add-move-to
-    add-move-to-2
-    move-to-requires
+    add-moved
+    add-moved-2
+    moved-requires
     count-one-requires
     same-length
     returns)

@@ -1,21 +1,17 @@
-use Rattle.vm_definitions.specs.Step.{ended}
-use Rattle.vm_definitions.specs.Frames.{mark}
-use native.Mathlib.Omega.{arith}
-use mathlib.Core.Path.{_≡_, refl, sym, _∙_, ap, subst}
+-- `vm_calls::finish` meets its contract.
+-- Assumes nothing.
 use borrow.Author.Needs.{needs}
 use Rattle.vm_calls.proofs.finish.Statement.{statement}
 use Rattle.vm_calls.proofs.finish.Tie as tie
-use Rattle.vm_calls.proofs.finish.Reads as reads
-use Rattle.vm_calls.proofs.finish.Lts as lts
-use Rattle.vm_calls.proofs.count_one.Reads as count-one-reads
+
+ended-requires : tie.Need-ended-requires
+ended-requires c κs = search needs
 
 count-one-requires : tie.Need-count-one-requires
 count-one-requires c κs = search needs
 
 returns : tie.Need-returns
-unfolding ended mark
-returns c =
-    cc
+returns c = cc
 
 pub finish-spec : {M : Type 1} → statement M
-finish-spec = tie.close (tie.spec count-one-requires returns)
+finish-spec = tie.close (tie.spec ended-requires count-one-requires returns)

@@ -8,7 +8,6 @@ use Rattle.vm_calls.proofs.hand_back.Reads as reads
 use Rattle.vm_calls.proofs.hand_back.Lts as lts
 use Rattle.vm_calls.proofs.finish.Reads as finish-reads
 use Rattle.vm_calls.proofs.hand_to.Reads as hand-to-reads
-use Rattle.vm_calls.proofs.move_to.Reads as move-to-reads
 use Rattle.vm_guard.proofs.resumption.Reads as resumption-reads
 
 resumption-requires : tie.Need-resumption-requires
@@ -23,12 +22,12 @@ finish-requires c κs = search needs
 enum-known-way-2 : tie.Need-enum-known-way-2
 enum-known-way-2 c = search needs
 
-add-move-to : tie.Need-add-move-to
-add-move-to c =
+add-moved : tie.Need-add-moved
+add-moved c =
     omega (arith, resumed-low _ _ _ _ _ _ _ _ _ _ (c .before .before .before .before .before .before .before .before .pre) (c .before .before .before .resumption .ensures) (c .before .way2 .given .1))
 
-move-to-requires : tie.Need-move-to-requires
-move-to-requires c κs = search needs
+moved-requires : tie.Need-moved-requires
+moved-requires c κs = search needs
 
 hand-to-requires : tie.Need-hand-to-requires
 hand-to-requires c κs = search needs
@@ -58,8 +57,8 @@ hand-back-spec =
     enum-known-way
     finish-requires
     enum-known-way-2
-    add-move-to
-    move-to-requires
+    add-moved
+    moved-requires
     hand-to-requires
     same-length
     returns

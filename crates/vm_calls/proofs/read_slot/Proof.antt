@@ -5,7 +5,6 @@ use Rattle.vm_calls.proofs.read_slot.Statement.{statement}
 use Rattle.vm_calls.proofs.read_slot.Tie as tie
 use Rattle.vm_calls.proofs.read_slot.Reads as reads
 use Rattle.vm_calls.proofs.read_slot.Lts as lts
-use Rattle.vm_calls.proofs.slot_at.Reads as slot-at-reads
 use Rattle.vm_operands.proofs.read_operand.Reads as read-operand-reads
 
 slot-at-requires : tie.Need-slot-at-requires

@@ -1,16 +1,14 @@
+-- `vm_calls::stop` meets its contract.
+-- Assumes nothing.
 use borrow.Author.Needs.{needs}
-use Rattle.vm_definitions.specs.Step.{stopped}
-use native.Mathlib.Omega.{arith}
-use mathlib.Core.Path.{_≡_, refl, sym, _∙_, ap, subst}
 use Rattle.vm_calls.proofs.stop.Statement.{statement}
 use Rattle.vm_calls.proofs.stop.Tie as tie
-use Rattle.vm_calls.proofs.stop.Reads as reads
-use Rattle.vm_calls.proofs.stop.Lts as lts
+
+stopped-requires : tie.Need-stopped-requires
+stopped-requires c κs = search needs
 
 returns : tie.Need-returns
-unfolding stopped
-returns c =
-    refl
+returns c = cc
 
 pub stop-spec : {M : Type 1} → statement M
-stop-spec = tie.close (tie.spec returns)
+stop-spec = tie.close (tie.spec stopped-requires returns)

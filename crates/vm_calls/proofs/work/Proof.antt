@@ -6,7 +6,6 @@ use Rattle.vm_calls.proofs.work.Statement.{statement}
 use Rattle.vm_calls.proofs.work.Tie as tie
 use Rattle.vm_calls.proofs.work.Reads as reads
 use Rattle.vm_calls.proofs.work.Lts as lts
-use Rattle.vm_calls.proofs.slot_at.Reads as slot-at-reads
 use Rattle.vm_operands.proofs.eval.Reads as eval-reads
 use Rattle.prog_tables.proofs.expression_at.Reads as expression-at-reads
 

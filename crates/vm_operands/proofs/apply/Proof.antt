@@ -143,6 +143,9 @@ xor-requires c κs = search needs
 with-top-requires-7 : tie.Need-with-top-requires-7
 with-top-requires-7 c κs = search needs
 
+with-top-requires-8 : tie.Need-with-top-requires-8
+with-top-requires-8 c κs = search needs
+
 returns : tie.Need-returns
 returns c =
     search apply-ways
@@ -219,6 +222,10 @@ returns-19 : tie.Need-returns-19
 returns-19 c =
     search apply-ways
 
+returns-20 : tie.Need-returns-20
+returns-20 c =
+    search apply-ways
+
 pub apply-spec : {M : Type 1} → statement M
 apply-spec =
     tie.close
@@ -261,6 +268,7 @@ apply-spec =
     with-top-requires-6
     xor-requires
     with-top-requires-7
+    with-top-requires-8
     returns
     returns-2
     returns-3
@@ -279,4 +287,5 @@ apply-spec =
     returns-16
     returns-17
     returns-18
-    returns-19)
+    returns-19
+    returns-20)

@@ -1,4 +1,4 @@
-use Rattle.vm_definitions.specs.Expressions.{fetched}
+use Rattle.vm_definitions.specs.Operators.{fetched}
 use native.Mathlib.Omega.{arith}
 use mathlib.Core.Path.{_≡_, refl, sym, _∙_, ap, subst}
 use borrow.Author.Needs.{needs}

@@ -4,20 +4,15 @@ use mathlib.Core.Path.{_≡_, refl, sym, _∙_, ap, subst}
 use borrow.Author.Needs.{needs}
 use Rattle.vm_quick_operands.proofs.read.Statement.{statement}
 use Rattle.vm_quick_operands.proofs.read.Tie as tie
-use Rattle.vm_quick_operands.proofs.read.Reads as reads
-use Rattle.vm_quick_operands.proofs.read.Lts as lts
-use Rattle.vm_quick_operands.proofs.local.Reads as local-reads
-use Rattle.vm_quick_operands.proofs.peek.Reads as peek-reads
-use Rattle.vm_operands.proofs.fetch.Reads as fetch-reads
 
-peek-requires : tie.Need-peek-requires
-peek-requires c κs = search needs
+word-in-requires : tie.Need-word-in-requires
+word-in-requires c κs = search needs
 
-add-peek : tie.Need-add-peek
-add-peek c = search needs
+add-word-in : tie.Need-add-word-in
+add-word-in c = search needs
 
-peek-requires-2 : tie.Need-peek-requires-2
-peek-requires-2 c κs = search needs
+word-in-requires-2 : tie.Need-word-in-requires-2
+word-in-requires-2 c κs = search needs
 
 local-requires : tie.Need-local-requires
 local-requires c κs = search needs
@@ -82,9 +77,9 @@ pub read-spec : {M : Type 1} → statement M
 read-spec =
     tie.close
     (tie.spec
-    peek-requires
-    add-peek
-    peek-requires-2
+    word-in-requires
+    add-word-in
+    word-in-requires-2
     local-requires
     returns
     returns-2

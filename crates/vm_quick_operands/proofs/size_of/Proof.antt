@@ -4,31 +4,19 @@ use mathlib.Core.Path.{_≡_, refl, sym, _∙_, ap, subst}
 use borrow.Author.Needs.{needs}
 use Rattle.vm_quick_operands.proofs.size_of.Statement.{statement}
 use Rattle.vm_quick_operands.proofs.size_of.Tie as tie
-use Rattle.vm_quick_operands.proofs.size_of.Reads as reads
-use Rattle.vm_quick_operands.proofs.size_of.Lts as lts
-use Rattle.vm_quick_operands.proofs.peek.Reads as peek-reads
 
 returns : tie.Need-returns
 returns c =
     search sizing
 
-mul-at : tie.Need-mul-at
-mul-at c = search needs
+kind-in-requires : tie.Need-kind-in-requires
+kind-in-requires c κs = search needs
 
-peek-requires : tie.Need-peek-requires
-peek-requires c κs = search needs
+a-in-requires : tie.Need-a-in-requires
+a-in-requires c κs = search needs
 
-add-peek : tie.Need-add-peek
-add-peek c = search needs
-
-peek-requires-2 : tie.Need-peek-requires-2
-peek-requires-2 c κs = search needs
-
-add-peek-2 : tie.Need-add-peek-2
-add-peek-2 c = search needs
-
-peek-requires-3 : tie.Need-peek-requires-3
-peek-requires-3 c κs = search needs
+b-in-requires : tie.Need-b-in-requires
+b-in-requires c κs = search needs
 
 cast-if3 : tie.Need-cast-if3
 cast-if3 c = search needs
@@ -56,12 +44,9 @@ size-of-spec =
     tie.close
     (tie.spec
     returns
-    mul-at
-    peek-requires
-    add-peek
-    peek-requires-2
-    add-peek-2
-    peek-requires-3
+    kind-in-requires
+    a-in-requires
+    b-in-requires
     cast-if3
     cast-if3-2
     add-if3

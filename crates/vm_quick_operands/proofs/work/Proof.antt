@@ -4,18 +4,9 @@ use mathlib.Core.Path.{_≡_, refl, sym, _∙_, ap, subst}
 use borrow.Author.Needs.{needs}
 use Rattle.vm_quick_operands.proofs.work.Statement.{statement}
 use Rattle.vm_quick_operands.proofs.work.Tie as tie
-use Rattle.vm_quick_operands.proofs.work.Reads as reads
-use Rattle.vm_quick_operands.proofs.work.Lts as lts
-use Rattle.vm_quick_operands.proofs.peek.Reads as peek-reads
-use Rattle.vm_quick_operands.proofs.work_one.Reads as work-one-reads
-use Rattle.vm_quick_operands.proofs.work_two.Reads as work-two-reads
-use Rattle.prog_tables.proofs.expression_uses.Reads as expression-uses-reads
 
-add-peek : tie.Need-add-peek
-add-peek c = search needs
-
-peek-requires : tie.Need-peek-requires
-peek-requires c κs = search needs
+expression-in-requires : tie.Need-expression-in-requires
+expression-in-requires c κs = search needs
 
 expression-uses-requires : tie.Need-expression-uses-requires
 expression-uses-requires c κs = search needs
@@ -42,8 +33,7 @@ pub work-spec : {M : Type 1} → statement M
 work-spec =
     tie.close
     (tie.spec
-    add-peek
-    peek-requires
+    expression-in-requires
     expression-uses-requires
     work-one-requires
     returns

@@ -4,16 +4,9 @@ use mathlib.Core.Path.{_≡_, refl, sym, _∙_, ap, subst}
 use borrow.Author.Needs.{needs}
 use Rattle.vm_quick_operands.proofs.work_one.Statement.{statement}
 use Rattle.vm_quick_operands.proofs.work_one.Tie as tie
-use Rattle.vm_quick_operands.proofs.work_one.Reads as reads
-use Rattle.vm_quick_operands.proofs.work_one.Lts as lts
-use Rattle.vm_quick_operands.proofs.read.Reads as read-reads
-use Rattle.vm_operands.proofs.apply.Reads as apply-reads
 
-add-read : tie.Need-add-read
-add-read c = search needs
-
-read-requires : tie.Need-read-requires
-read-requires c κs = search needs
+read-first-requires : tie.Need-read-first-requires
+read-first-requires c κs = search needs
 
 enum-known-f : tie.Need-enum-known-f
 enum-known-f c = search needs
@@ -40,8 +33,7 @@ pub work-one-spec : {M : Type 1} → statement M
 work-one-spec =
     tie.close
     (tie.spec
-    add-read
-    read-requires
+    read-first-requires
     enum-known-f
     enum-told
     returns

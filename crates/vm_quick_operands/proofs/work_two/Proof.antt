@@ -4,16 +4,9 @@ use mathlib.Core.Path.{_≡_, refl, sym, _∙_, ap, subst}
 use borrow.Author.Needs.{needs}
 use Rattle.vm_quick_operands.proofs.work_two.Statement.{statement}
 use Rattle.vm_quick_operands.proofs.work_two.Tie as tie
-use Rattle.vm_quick_operands.proofs.work_two.Reads as reads
-use Rattle.vm_quick_operands.proofs.work_two.Lts as lts
-use Rattle.vm_quick_operands.proofs.read.Reads as read-reads
-use Rattle.vm_operands.proofs.apply.Reads as apply-reads
 
-add-read : tie.Need-add-read
-add-read c = search needs
-
-read-requires : tie.Need-read-requires
-read-requires c κs = search needs
+read-first-requires : tie.Need-read-first-requires
+read-first-requires c κs = search needs
 
 enum-known-f : tie.Need-enum-known-f
 enum-known-f c = search needs
@@ -25,11 +18,8 @@ returns : tie.Need-returns
 returns c =
     search twos
 
-add-read-2 : tie.Need-add-read-2
-add-read-2 c = search needs
-
-read-requires-2 : tie.Need-read-requires-2
-read-requires-2 c κs = search needs
+read-second-requires : tie.Need-read-second-requires
+read-second-requires c κs = search needs
 
 enum-known-g : tie.Need-enum-known-g
 enum-known-g c = search needs
@@ -52,13 +42,11 @@ pub work-two-spec : {M : Type 1} → statement M
 work-two-spec =
     tie.close
     (tie.spec
-    add-read
-    read-requires
+    read-first-requires
     enum-known-f
     enum-told
     returns
-    add-read-2
-    read-requires-2
+    read-second-requires
     enum-known-g
     enum-told-2
     returns-2

@@ -4,20 +4,9 @@ use mathlib.Core.Path.{_≡_, refl, sym, _∙_, ap, subst}
 use borrow.Author.Needs.{needs}
 use Rattle.vm_quick_statements.proofs.assign.Statement.{statement}
 use Rattle.vm_quick_statements.proofs.assign.Tie as tie
-use Rattle.vm_quick_statements.proofs.assign.Reads as reads
-use Rattle.vm_quick_statements.proofs.assign.Lts as lts
-use Rattle.vm_quick_operands.proofs.peek.Reads as peek-reads
-use Rattle.vm_quick_operands.proofs.work.Reads as work-reads
-use Rattle.vm_memory.proofs.put.Reads as put-reads
 
-mul-at : tie.Need-mul-at
-mul-at c = search needs
-
-add-peek : tie.Need-add-peek
-add-peek c = search needs
-
-peek-requires : tie.Need-peek-requires
-peek-requires c κs = search needs
+a-in-requires : tie.Need-a-in-requires
+a-in-requires c κs = search needs
 
 returns : tie.Need-returns
 returns c =
@@ -42,8 +31,8 @@ add-put c = search needs
 put-requires : tie.Need-put-requires
 put-requires c κs = search needs
 
-add-t25 : tie.Need-add-t25
-add-t25 c = search needs
+add-t23 : tie.Need-add-t23
+add-t23 c = search needs
 
 enum-told : tie.Need-enum-told
 enum-told c = search needs
@@ -66,9 +55,7 @@ pub assign-spec : {M : Type 1} → statement M
 assign-spec =
     tie.close
     (tie.spec
-    mul-at
-    add-peek
-    peek-requires
+    a-in-requires
     returns
     returns-2
     work-requires
@@ -76,7 +63,7 @@ assign-spec =
     cast-put
     add-put
     put-requires
-    add-t25
+    add-t23
     enum-told
     same-length
     returns-3

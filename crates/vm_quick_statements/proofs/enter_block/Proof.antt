@@ -4,25 +4,12 @@ use mathlib.Core.Path.{_≡_, refl, sym, _∙_, ap, subst}
 use borrow.Author.Needs.{needs}
 use Rattle.vm_quick_statements.proofs.enter_block.Statement.{statement}
 use Rattle.vm_quick_statements.proofs.enter_block.Tie as tie
-use Rattle.vm_quick_statements.proofs.enter_block.Reads as reads
-use Rattle.vm_quick_statements.proofs.enter_block.Lts as lts
-use Rattle.vm_quick_operands.proofs.peek.Reads as peek-reads
-use Rattle.vm_quick_statements.proofs.open_block.Reads as open-block-reads
 
-mul-at : tie.Need-mul-at
-mul-at c = search needs
+a-in-requires : tie.Need-a-in-requires
+a-in-requires c κs = search needs
 
-add-peek : tie.Need-add-peek
-add-peek c = search needs
-
-peek-requires : tie.Need-peek-requires
-peek-requires c κs = search needs
-
-add-peek-2 : tie.Need-add-peek-2
-add-peek-2 c = search needs
-
-peek-requires-2 : tie.Need-peek-requires-2
-peek-requires-2 c κs = search needs
+b-in-requires : tie.Need-b-in-requires
+b-in-requires c κs = search needs
 
 returns : tie.Need-returns
 returns c =
@@ -50,8 +37,8 @@ add-open-block c = search needs
 open-block-requires : tie.Need-open-block-requires
 open-block-requires c κs = search needs
 
-add-t22 : tie.Need-add-t22
-add-t22 c = search needs
+add-t21 : tie.Need-add-t21
+add-t21 c = search needs
 
 same-length : tie.Need-same-length
 same-length c = search needs
@@ -64,11 +51,8 @@ pub enter-block-spec : {M : Type 1} → statement M
 enter-block-spec =
     tie.close
     (tie.spec
-    mul-at
-    add-peek
-    peek-requires
-    add-peek-2
-    peek-requires-2
+    a-in-requires
+    b-in-requires
     returns
     cast-if2
     cast-if2-2
@@ -77,6 +61,6 @@ enter-block-spec =
     cast-open-block
     add-open-block
     open-block-requires
-    add-t22
+    add-t21
     same-length
     returns-3)

@@ -4,18 +4,9 @@ use mathlib.Core.Path.{_≡_, refl, sym, _∙_, ap, subst}
 use borrow.Author.Needs.{needs}
 use Rattle.vm_quick_statements.proofs.is_aimed.Statement.{statement}
 use Rattle.vm_quick_statements.proofs.is_aimed.Tie as tie
-use Rattle.vm_quick_statements.proofs.is_aimed.Reads as reads
-use Rattle.vm_quick_statements.proofs.is_aimed.Lts as lts
-use Rattle.vm_quick_operands.proofs.peek.Reads as peek-reads
 
-mul-peek : tie.Need-mul-peek
-mul-peek c = search needs
-
-add-peek : tie.Need-add-peek
-add-peek c = search needs
-
-peek-requires : tie.Need-peek-requires
-peek-requires c κs = search needs
+func-in-requires : tie.Need-func-in-requires
+func-in-requires c κs = search needs
 
 returns : tie.Need-returns
 returns c =
@@ -26,4 +17,4 @@ returns-2 c =
     search aiming
 
 pub is-aimed-spec : {M : Type 1} → statement M
-is-aimed-spec = tie.close (tie.spec mul-peek add-peek peek-requires returns returns-2)
+is-aimed-spec = tie.close (tie.spec func-in-requires returns returns-2)

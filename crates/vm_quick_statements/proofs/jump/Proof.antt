@@ -4,19 +4,9 @@ use mathlib.Core.Path.{_≡_, refl, sym, _∙_, ap, subst}
 use borrow.Author.Needs.{needs}
 use Rattle.vm_quick_statements.proofs.jump.Statement.{statement}
 use Rattle.vm_quick_statements.proofs.jump.Tie as tie
-use Rattle.vm_quick_statements.proofs.jump.Reads as reads
-use Rattle.vm_quick_statements.proofs.jump.Lts as lts
-use Rattle.vm_quick_operands.proofs.peek.Reads as peek-reads
-use Rattle.vm_quick_statements.proofs.is_aimed.Reads as is-aimed-reads
 
-mul-peek : tie.Need-mul-peek
-mul-peek c = search needs
-
-add-peek : tie.Need-add-peek
-add-peek c = search needs
-
-peek-requires : tie.Need-peek-requires
-peek-requires c κs = search needs
+a-in-requires : tie.Need-a-in-requires
+a-in-requires c κs = search needs
 
 is-aimed-requires : tie.Need-is-aimed-requires
 is-aimed-requires c κs = search needs
@@ -30,5 +20,4 @@ returns-2 c =
     search jumping
 
 pub jump-spec : {M : Type 1} → statement M
-jump-spec =
-    tie.close (tie.spec mul-peek add-peek peek-requires is-aimed-requires returns returns-2)
+jump-spec = tie.close (tie.spec a-in-requires is-aimed-requires returns returns-2)

@@ -4,15 +4,9 @@ use mathlib.Core.Path.{_≡_, refl, sym, _∙_, ap, subst}
 use borrow.Author.Needs.{needs}
 use Rattle.vm_quick_statements.proofs.read_three.Statement.{statement}
 use Rattle.vm_quick_statements.proofs.read_three.Tie as tie
-use Rattle.vm_quick_statements.proofs.read_three.Reads as reads
-use Rattle.vm_quick_statements.proofs.read_three.Lts as lts
-use Rattle.vm_quick_operands.proofs.read.Reads as read-reads
 
-add-read : tie.Need-add-read
-add-read c = search needs
-
-read-requires : tie.Need-read-requires
-read-requires c κs = search needs
+read-first-requires : tie.Need-read-first-requires
+read-first-requires c κs = search needs
 
 enum-known-f : tie.Need-enum-known-f
 enum-known-f c = search needs
@@ -24,11 +18,8 @@ returns : tie.Need-returns
 returns c =
     search threes
 
-add-read-2 : tie.Need-add-read-2
-add-read-2 c = search needs
-
-read-requires-2 : tie.Need-read-requires-2
-read-requires-2 c κs = search needs
+read-second-requires : tie.Need-read-second-requires
+read-second-requires c κs = search needs
 
 enum-known-g : tie.Need-enum-known-g
 enum-known-g c = search needs
@@ -40,11 +31,8 @@ returns-2 : tie.Need-returns-2
 returns-2 c =
     search threes
 
-add-read-3 : tie.Need-add-read-3
-add-read-3 c = search needs
-
-read-requires-3 : tie.Need-read-requires-3
-read-requires-3 c κs = search needs
+read-third-requires : tie.Need-read-third-requires
+read-third-requires c κs = search needs
 
 enum-known-h : tie.Need-enum-known-h
 enum-known-h c = search needs
@@ -64,18 +52,15 @@ pub read-three-spec : {M : Type 1} → statement M
 read-three-spec =
     tie.close
     (tie.spec
-    add-read
-    read-requires
+    read-first-requires
     enum-known-f
     enum-told
     returns
-    add-read-2
-    read-requires-2
+    read-second-requires
     enum-known-g
     enum-told-2
     returns-2
-    add-read-3
-    read-requires-3
+    read-third-requires
     enum-known-h
     enum-told-3
     returns-3

@@ -4,31 +4,16 @@ use mathlib.Core.Path.{_≡_, refl, sym, _∙_, ap, subst}
 use borrow.Author.Needs.{needs}
 use Rattle.vm_quick_statements.proofs.set_at.Statement.{statement}
 use Rattle.vm_quick_statements.proofs.set_at.Tie as tie
-use Rattle.vm_quick_statements.proofs.set_at.Reads as reads
-use Rattle.vm_quick_statements.proofs.set_at.Lts as lts
-use Rattle.vm_quick_operands.proofs.peek.Reads as peek-reads
-use Rattle.vm_quick_operands.proofs.read.Reads as read-reads
-use Rattle.vm_operands.proofs.has_word.Reads as has-word-reads
-use Rattle.vm_quick_statements.proofs.store_at.Reads as store-at-reads
 
-mul-at : tie.Need-mul-at
-mul-at c = search needs
-
-add-peek : tie.Need-add-peek
-add-peek c = search needs
-
-peek-requires : tie.Need-peek-requires
-peek-requires c κs = search needs
+address-kind-in-requires : tie.Need-address-kind-in-requires
+address-kind-in-requires c κs = search needs
 
 returns : tie.Need-returns
 returns c =
     search ats
 
-add-read : tie.Need-add-read
-add-read c = search needs
-
-read-requires : tie.Need-read-requires
-read-requires c κs = search needs
+read-address-requires : tie.Need-read-address-requires
+read-address-requires c κs = search needs
 
 enum-known-f : tie.Need-enum-known-f
 enum-known-f c = search needs
@@ -68,12 +53,9 @@ pub set-at-spec : {M : Type 1} → statement M
 set-at-spec =
     tie.close
     (tie.spec
-    mul-at
-    add-peek
-    peek-requires
+    address-kind-in-requires
     returns
-    add-read
-    read-requires
+    read-address-requires
     enum-known-f
     enum-told
     same-length

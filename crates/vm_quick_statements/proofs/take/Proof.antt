@@ -4,23 +4,13 @@ use mathlib.Core.Path.{_≡_, refl, sym, _∙_, ap, subst}
 use borrow.Author.Needs.{needs}
 use Rattle.vm_quick_statements.proofs.take.Statement.{statement}
 use Rattle.vm_quick_statements.proofs.take.Tie as tie
-use Rattle.vm_quick_statements.proofs.take.Reads as reads
-use Rattle.vm_quick_statements.proofs.take.Lts as lts
-use Rattle.vm_quick_operands.proofs.peek.Reads as peek-reads
-use Rattle.vm_quick_statements.proofs.take_form.Reads as take-form-reads
 
 returns : tie.Need-returns
 returns c =
     search steps
 
-mul-peek : tie.Need-mul-peek
-mul-peek c = search needs
-
-add-peek : tie.Need-add-peek
-add-peek c = search needs
-
-peek-requires : tie.Need-peek-requires
-peek-requires c κs = search needs
+func-in-requires : tie.Need-func-in-requires
+func-in-requires c κs = search needs
 
 take-form-requires : tie.Need-take-form-requires
 take-form-requires c κs = search needs
@@ -44,9 +34,7 @@ take-spec =
     tie.close
     (tie.spec
     returns
-    mul-peek
-    add-peek
-    peek-requires
+    func-in-requires
     take-form-requires
     same-length
     same-length-2

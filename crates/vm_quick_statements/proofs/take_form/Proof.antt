@@ -4,24 +4,9 @@ use mathlib.Core.Path.{_≡_, refl, sym, _∙_, ap, subst}
 use borrow.Author.Needs.{needs}
 use Rattle.vm_quick_statements.proofs.take_form.Statement.{statement}
 use Rattle.vm_quick_statements.proofs.take_form.Tie as tie
-use Rattle.vm_quick_statements.proofs.take_form.Reads as reads
-use Rattle.vm_quick_statements.proofs.take_form.Lts as lts
-use Rattle.vm_quick_operands.proofs.peek.Reads as peek-reads
-use Rattle.vm_quick_statements.proofs.assign.Reads as assign-reads
-use Rattle.vm_quick_statements.proofs.enter_block.Reads as enter-block-reads
-use Rattle.vm_quick_statements.proofs.jump.Reads as jump-reads
-use Rattle.vm_quick_statements.proofs.leave_block.Reads as leave-block-reads
-use Rattle.vm_quick_statements.proofs.set_at.Reads as set-at-reads
-use Rattle.vm_quick_statements.proofs.set_byte.Reads as set-byte-reads
-use Rattle.vm_quick_statements.proofs.set_word.Reads as set-word-reads
-use Rattle.vm_quick_statements.proofs.test.Reads as test-reads
-use Rattle.prog_tables.proofs.is_test.Reads as is-test-reads
 
-mul-peek : tie.Need-mul-peek
-mul-peek c = search needs
-
-peek-requires : tie.Need-peek-requires
-peek-requires c κs = search needs
+kind-in-requires : tie.Need-kind-in-requires
+kind-in-requires c κs = search needs
 
 is-test-requires : tie.Need-is-test-requires
 is-test-requires c κs = search needs
@@ -69,8 +54,8 @@ jump-requires-2 c κs = search needs
 jump-requires-3 : tie.Need-jump-requires-3
 jump-requires-3 c κs = search needs
 
-add-t47 : tie.Need-add-t47
-add-t47 c = search needs
+add-t45 : tie.Need-add-t45
+add-t45 c = search needs
 
 same-length-3 : tie.Need-same-length-3
 same-length-3 c = search needs
@@ -163,8 +148,7 @@ pub take-form-spec : {M : Type 1} → statement M
 take-form-spec =
     tie.close
     (tie.spec
-    mul-peek
-    peek-requires
+    kind-in-requires
     is-test-requires
     test-requires
     same-length
@@ -180,7 +164,7 @@ take-form-spec =
     jump-requires
     jump-requires-2
     jump-requires-3
-    add-t47
+    add-t45
     same-length-3
     same-length-4
     returns-2

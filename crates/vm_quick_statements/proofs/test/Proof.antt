@@ -4,30 +4,15 @@ use mathlib.Core.Path.{_≡_, refl, sym, _∙_, ap, subst}
 use borrow.Author.Needs.{needs}
 use Rattle.vm_quick_statements.proofs.test.Statement.{statement}
 use Rattle.vm_quick_statements.proofs.test.Tie as tie
-use Rattle.vm_quick_statements.proofs.test.Reads as reads
-use Rattle.vm_quick_statements.proofs.test.Lts as lts
-use Rattle.vm_quick_operands.proofs.peek.Reads as peek-reads
-use Rattle.vm_quick_operands.proofs.read.Reads as read-reads
-use Rattle.vm_quick_statements.proofs.branch.Reads as branch-reads
-use Rattle.vm_quick_statements.proofs.is_aimed.Reads as is-aimed-reads
 
-mul-at : tie.Need-mul-at
-mul-at c = search needs
-
-add-peek : tie.Need-add-peek
-add-peek c = search needs
-
-peek-requires : tie.Need-peek-requires
-peek-requires c κs = search needs
+a-in-requires : tie.Need-a-in-requires
+a-in-requires c κs = search needs
 
 is-aimed-requires : tie.Need-is-aimed-requires
 is-aimed-requires c κs = search needs
 
-add-read : tie.Need-add-read
-add-read c = search needs
-
-read-requires : tie.Need-read-requires
-read-requires c κs = search needs
+read-first-requires : tie.Need-read-first-requires
+read-first-requires c κs = search needs
 
 enum-known-f : tie.Need-enum-known-f
 enum-known-f c = search needs
@@ -39,11 +24,8 @@ returns : tie.Need-returns
 returns c =
     search tests
 
-add-read-2 : tie.Need-add-read-2
-add-read-2 c = search needs
-
-read-requires-2 : tie.Need-read-requires-2
-read-requires-2 c κs = search needs
+read-second-requires : tie.Need-read-second-requires
+read-second-requires c κs = search needs
 
 enum-known-h : tie.Need-enum-known-h
 enum-known-h c = search needs
@@ -70,17 +52,13 @@ pub test-spec : {M : Type 1} → statement M
 test-spec =
     tie.close
     (tie.spec
-    mul-at
-    add-peek
-    peek-requires
+    a-in-requires
     is-aimed-requires
-    add-read
-    read-requires
+    read-first-requires
     enum-known-f
     enum-told
     returns
-    add-read-2
-    read-requires-2
+    read-second-requires
     enum-known-h
     enum-told-2
     returns-2

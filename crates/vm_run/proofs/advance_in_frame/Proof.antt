@@ -7,7 +7,6 @@ use Rattle.vm_run.proofs.advance_in_frame.Tie as tie
 use Rattle.vm_run.proofs.advance_in_frame.Reads as reads
 use Rattle.vm_run.proofs.advance_in_frame.Lts as lts
 use Rattle.vm_run.proofs.end_plain.Reads as end-plain-reads
-use Rattle.vm_run.proofs.moved.Reads as moved-reads
 use Rattle.vm_quick_statements.proofs.run_plain.Reads as run-plain-reads
 use Rattle.prog_tables.proofs.func_at.Reads as func-at-reads
 

@@ -6,7 +6,6 @@ use Rattle.vm_run.proofs.end_plain.Statement.{statement}
 use Rattle.vm_run.proofs.end_plain.Tie as tie
 use Rattle.vm_run.proofs.end_plain.Reads as reads
 use Rattle.vm_run.proofs.end_plain.Lts as lts
-use Rattle.vm_run.proofs.moved.Reads as moved-reads
 use Rattle.vm_run.proofs.step_within.Reads as step-within-reads
 use Rattle.vm_quick_calls.proofs.take_transfer.Reads as take-transfer-reads
 

@@ -6,7 +6,6 @@ use Rattle.vm_statements.proofs.read_three.Statement.{statement}
 use Rattle.vm_statements.proofs.read_three.Tie as tie
 use Rattle.vm_statements.proofs.read_three.Reads as reads
 use Rattle.vm_statements.proofs.read_three.Lts as lts
-use Rattle.vm_calls.proofs.slot_at.Reads as slot-at-reads
 use Rattle.vm_operands.proofs.read_operand.Reads as read-operand-reads
 
 slot-at-requires : tie.Need-slot-at-requires

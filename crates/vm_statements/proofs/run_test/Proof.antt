@@ -6,7 +6,6 @@ use Rattle.vm_statements.proofs.run_test.Statement.{statement}
 use Rattle.vm_statements.proofs.run_test.Tie as tie
 use Rattle.vm_statements.proofs.run_test.Reads as reads
 use Rattle.vm_statements.proofs.run_test.Lts as lts
-use Rattle.vm_calls.proofs.slot_at.Reads as slot-at-reads
 use Rattle.vm_calls.proofs.stop.Reads as stop-reads
 use Rattle.vm_operands.proofs.read_operand.Reads as read-operand-reads
 use Rattle.vm_statements.proofs.branch.Reads as branch-reads

@@ -1,9 +1,9 @@
 -- `base_limits::Machine::fresh` meets its contract.
 -- Assumes nothing.
 use mathlib.Core.Path.{refl}
-use Rattle.base_limits.specs.Fresh.{freshOf}
 use Rattle.base_limits.proofs.Machine.fresh.Statement.{statement}
 use Rattle.base_limits.proofs.Machine.fresh.Tie as tie
+use Rattle.base_limits.specs.Record.{freshOf}
 
 returns : tie.Need-returns
 unfolding freshOf
