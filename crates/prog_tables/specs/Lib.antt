@@ -6,6 +6,7 @@ pub mod Tests
 pub mod Statement
 pub mod Label
 pub mod Nesting
+pub mod Program
 pub mod Frames
 pub mod Faults
 pub mod WellFormed

@@ -15,6 +15,7 @@ use Rattle.base_limits.specs.declared.Machine.{Machine}
 use Rattle.prog_tables.specs.Tests.{both, oneOf, given, all, some}
 use Rattle.prog_tables.specs.Statement.{Row, isCall}
 use Rattle.prog_tables.specs.Label.{Tables, rows}
+use Rattle.prog_tables.specs.Program.{Program, programFrom}
 use Rattle.prog_tables.specs.Frames.{frameDepth}
 use Rattle.prog_tables.specs.Faults.{inFunction, sizeAt, rowFault, countFault, tablesFault}
 use Rattle.prog_tables.specs.WellFormed.{WellFormed}
@@ -82,7 +83,16 @@ unfolding Low lowest
 lowest-none p c k [] a = refl
 lowest-none p c k (i ∷ is) a = ifTrue-no (lower i (lowest p is)) (lowest p is) (k i (a .0)) ∙ lowest-none p c k is (a .1)
 
-module _ (w : Width) (f : ℕ → Row) (c : ℕ) where
+module _ (prog : Program) where
+  abbrev w : Width
+  w = prog .width
+
+  abbrev f : ℕ → Row
+  f = prog .rows
+
+  abbrev c : ℕ
+  c = prog .count
+
   in-low : (n : ℕ) → inFunction f c n ≡ true → f n .func < c
   unfolding inFunction
   in-low n e = ltb-true _ _ (both-left (ltb (f n .func) c) (eqb (f (f n .func) .kind) 1) e)
@@ -103,7 +113,7 @@ module _ (w : Width) (f : ℕ → Row) (c : ℕ) where
         ),
       )
 
-  pub used-low : (r : Machine) (st : List ℕ) → Low c (rowsUsed w f c r st)
+  pub used-low : (r : Machine) (st : List ℕ) → Low c (rowsUsed prog r st)
   unfolding rowsUsed
   used-low r st =
       either (Low c) (r .next) c _ []
@@ -117,18 +127,18 @@ module _ (w : Width) (f : ℕ → Row) (c : ℕ) where
       (λ e. left-low st (suc (r .frame)) (r .frame)) (λ e. low-none c)))))
       (λ h. low-none c)
 
-module _ (t : Tables) (ok : WellFormed t) where
-  count-sound : countFault t ≡ false
+module _ (w : Width) (t : Tables) (ok : WellFormed (programFrom w t)) where
+  count-sound : countFault (programFrom w t) ≡ false
   unfolding tablesFault some
-  count-sound = not-first (countFault t) _ (tables-sound t ok)
+  count-sound = not-first (countFault (programFrom w t)) _ (tables-sound w t ok)
 
   next-sound : (n : ℕ) → n < t .count → (rows t n .kind ≡ 1 → ⊥) → nextBad (rows t) (t .count) n ≡ false
   unfolding nextBad
-  next-sound n h q = neither (eqb (rows t n .kind) 1) (not (inFunction (rows t) (t .count) n)) (ne-eqb _ _ q) (ap not (function-sound t ok n h))
+  next-sound n h q = neither (eqb (rows t n .kind) 1) (not (inFunction (rows t) (t .count) n)) (ne-eqb _ _ q) (ap not (function-sound w t ok n h))
 
 -- ---- the guard
 
-module _ (w : Width) (t : Tables) (ok : WellFormed t) (e : Entry) (es : Ledger) (x : World) (i : Invariant w t e es x) where
+module _ (w : Width) (t : Tables) (ok : WellFormed (programFrom w t)) (e : Entry) (es : Ledger) (x : World) (i : Invariant w t e es x) where
   frame-ends : frameEnds (rows t) (t .count) (x .machine) (length (x .stack)) ≡ true
   unfolding frameEnds
   frame-ends =
@@ -139,12 +149,12 @@ module _ (w : Width) (t : Tables) (ok : WellFormed t) (e : Entry) (es : Ledger) 
   -- the auto top that an `end block` restores
   saved-top : rows t (x .machine .next) .kind ≡ 4 → getD (x .stack) (x .machine .frame + rows t (x .machine .next) .a) 0 ≤ length (x .memory)
   saved-top k =
-      let d = end-facts t ok (x .machine .next) (i .frame .within) k in
+      let d = end-facts w t ok (x .machine .next) (i .frame .within) k in
       subst (λ (a : ℕ). getD (x .stack) (x .machine .frame + a) 0 ≤ length (x .memory)) (sym (d .word))
       (i .frame .blocks (rows t (x .machine .next) .scope) (omega (arith, d .before, i .frame .within)) (d .is-block)
-      (around-self (rows t) (t .count) (sound.ok t ok) frameDepth (rows t (x .machine .next) .scope)))
+      (around-self (rows t) (t .count) (sound.ok w t ok) frameDepth (rows t (x .machine .next) .scope)))
 
-  pub record-good : recordGood w (rows t) (t .count) (length (x .memory)) (x .machine) (x .stack) ≡ true
+  pub record-good : recordGood (programFrom w t) (length (x .memory)) (x .machine) (x .stack) ≡ true
   unfolding recordGood
   record-good =
       all-cons _ _ (lt-ltb _ _ (i .frame .within))
@@ -161,19 +171,19 @@ module _ (w : Width) (t : Tables) (ok : WellFormed t) (e : Entry) (es : Ledger) 
       all-none))))))))
 
   row-good : (n : ℕ) → n < t .count
-      → oneOf (rowFault (rows t) (t .count) (t .dataLength) n) (both (eqb n (x .machine .next)) (nextBad (rows t) (t .count) n)) ≡ false
+      → oneOf (rowFault (programFrom w t) n) (both (eqb n (x .machine .next)) (nextBad (rows t) (t .count) n)) ≡ false
   row-good n h =
-      neither (rowFault (rows t) (t .count) (t .dataLength) n) (both (eqb n (x .machine .next)) (nextBad (rows t) (t .count) n)) (row-sound t ok n h)
+      neither (rowFault (programFrom w t) n) (both (eqb n (x .machine .next)) (nextBad (rows t) (t .count) n)) (row-sound w t ok n h)
       (both-false (eqb n (x .machine .next)) (nextBad (rows t) (t .count) n)
-      (λ q. next-sound t ok n h (λ (k : rows t n .kind ≡ 1). i .frame .inside (ap (λ (p : ℕ). rows t p .kind) (sym (eqb-true _ _ q)) ∙ k))))
+      (λ q. next-sound w t ok n h (λ (k : rows t n .kind ≡ 1). i .frame .inside (ap (λ (p : ℕ). rows t p .kind) (sym (eqb-true _ _ q)) ∙ k))))
 
-  pub gate-open : stepBroken w t (x .machine) (x .stack) (length (x .memory)) ≡ No
+  pub gate-open : stepBroken (programFrom w t) (x .machine) (x .stack) (length (x .memory)) ≡ No
   unfolding stepBroken orElse
   gate-open =
-      ifTrue-no Somewhere _ (count-sound t ok)
-      ∙ ap (λ (b : Broken). orElse b (ifTrue (recordGood w (rows t) (t .count) (length (x .memory)) (x .machine) (x .stack)) No Somewhere))
-      (lowest-none (λ (n : ℕ). oneOf (rowFault (rows t) (t .count) (t .dataLength) n) (both (eqb n (x .machine .next)) (nextBad (rows t) (t .count) n))) (t .count) row-good
-      (rowsUsed w (rows t) (t .count) (x .machine) (x .stack)) (used-low w (rows t) (t .count) (x .machine) (x .stack)))
+      ifTrue-no Somewhere _ (count-sound w t ok)
+      ∙ ap (λ (b : Broken). orElse b (ifTrue (recordGood (programFrom w t) (length (x .memory)) (x .machine) (x .stack)) No Somewhere))
+      (lowest-none (λ (n : ℕ). oneOf (rowFault (programFrom w t) n) (both (eqb n (x .machine .next)) (nextBad (rows t) (t .count) n))) (t .count) row-good
+      (rowsUsed (programFrom w t) (x .machine) (x .stack)) (used-low (programFrom w t) (x .machine) (x .stack)))
       ∙ ifTrue-yes No Somewhere record-good
 
   -- ---- returns
@@ -183,17 +193,17 @@ module _ (w : Width) (t : Tables) (ok : WellFormed t) (e : Entry) (es : Ledger) 
       (resumptionOf w (rows t) (t .count) (x .stack) (suc (x .machine .frame)) (x .machine .frame))
   invariant-resumed = resumed w t ok (length (x .memory)) (x .stack) e es (suc (x .machine .frame)) (x .machine .frame) (i .under) (i .frame .top) (omega arith)
 
-  handed-safe : (v : ℕ) (p : Ledger) (l : Resumption) → Resumed w t (length (x .memory)) (x .stack) p l → effectStop (handedBy w (rows t) (t .count) x v l) ≡ 0
+  handed-safe : (v : ℕ) (p : Ledger) (l : Resumption) → Resumed w t (length (x .memory)) (x .stack) p l → effectStop (handedBy (programFrom w t) x v l) ≡ 0
   unfolding handedBy handedTo effectStop
-  handed-safe v p l (ends top d h q) = subst (λ (k : Resumption). effectStop (handedBy w (rows t) (t .count) x v k) ≡ 0) (sym d) refl
+  handed-safe v p l (ends top d h q) = subst (λ (k : Resumption). effectStop (handedBy (programFrom w t) x v k) ≡ 0) (sym d) refl
   handed-safe v p l (to-caller d ds c s u top y q z) =
-      subst (λ (k : Resumption). effectStop (handedBy w (rows t) (t .count) x v k) ≡ 0) (sym q)
+      subst (λ (k : Resumption). effectStop (handedBy (programFrom w t) x v k) ≡ 0) (sym q)
       (either-eq (λ (k : Effect). effectStop k ≡ 0) (rows t c .kind) 7 _ _
       (λ k. ap effectStop (ifTrue-yes _ (stops 32) (y .address k)))
       (λ k. either-eq (λ (a : Effect). effectStop a ≡ 0) (rows t c .kind) 11 _ _ (λ a. refl) (λ a. refl)))
 
   pub hand-safe : (v : ℕ)
-      → effectStop (handedBy w (rows t) (t .count) x v (resumptionOf w (rows t) (t .count) (x .stack) (suc (x .machine .frame)) (x .machine .frame))) ≡ 0
+      → effectStop (handedBy (programFrom w t) x v (resumptionOf w (rows t) (t .count) (x .stack) (suc (x .machine .frame)) (x .machine .frame))) ≡ 0
   hand-safe v = handed-safe v _ _ invariant-resumed
 
   -- the frame it comes out in ends where this one starts, or before

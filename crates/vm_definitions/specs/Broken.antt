@@ -8,12 +8,11 @@ use lib.ListN.{getD, length}
 use Rattle.base_prelude.specs.Choice.{ifLt, ifTrue}
 use Rattle.base_limits.specs.Limits.{stackWords}
 use Rattle.base_limits.specs.Width.{memoryLimit}
-use Rattle.base_limits.specs.declared.Width.{Width}
 use Rattle.base_limits.specs.declared.Machine.{Machine}
 use Rattle.lang_kinds.specs.Kinds as kind
 use Rattle.prog_tables.specs.Tests.{both, oneOf, given, all, someBelow}
 use Rattle.prog_tables.specs.Statement.{Row, isCall}
-use Rattle.prog_tables.specs.Label.{Tables, rows, labelsOf}
+use Rattle.prog_tables.specs.Program.{Program}
 use Rattle.prog_tables.specs.Faults.{inFunction, sizeAt, rowFault, labelFault, countFault}
 use Rattle.vm_definitions.specs.Frames.{topAtEntry, isReturn, headGood, leavesGood, rowsLeft}
 use Rattle.vm_definitions.specs.declared.Broken.{Broken}
@@ -48,38 +47,39 @@ unfoldable pub frameEnds : (ℕ → Row) → ℕ → Machine → ℕ → Bool
 frameEnds f c r s = both (eqb (r .frame + sizeAt f c (r .next)) (r .used)) (leb (r .used) s)
 
 -- the rows that a step uses: the statement, its function, the function it calls, those of the frames it leaves
-unfoldable pub rowsUsed : Width → (ℕ → Row) → ℕ → Machine → List ℕ → List ℕ
-rowsUsed w f c r st =
-    ifLt (r .next) c
+unfoldable pub rowsUsed : Program → Machine → List ℕ → List ℕ
+rowsUsed p r st =
+    ifLt (r .next) (p .count)
     (r .next
-    ∷ (ifTrue (inFunction f c (r .next)) (f (r .next) .func ∷ []) []
-    ++ (ifTrue (both (isCall (f (r .next) .kind) (f (r .next) .expr)) (ltb (f (r .next) .callee) c)) (f (r .next) .callee ∷ []) []
-    ++ ifTrue (both (isReturn (f (r .next))) (frameEnds f c r (length st))) (rowsLeft w f c st (suc (r .frame)) (r .frame)) [])))
+    ∷ (ifTrue (inFunction (p .rows) (p .count) (r .next)) (p .rows (r .next) .func ∷ []) []
+    ++ (ifTrue (both (isCall (p .rows (r .next) .kind) (p .rows (r .next) .expr)) (ltb (p .rows (r .next) .callee) (p .count)))
+    (p .rows (r .next) .callee ∷ []) []
+    ++ ifTrue (both (isReturn (p .rows (r .next))) (frameEnds (p .rows) (p .count) r (length st)))
+    (rowsLeft (p .width) (p .rows) (p .count) st (suc (r .frame)) (r .frame)) [])))
     []
 
 -- the record, its frames, and the lent stack and memory: m bytes
-unfoldable pub recordGood : Width → (ℕ → Row) → ℕ → ℕ → Machine → List ℕ → Bool
-recordGood w f c m r st =
+unfoldable pub recordGood : Program → ℕ → Machine → List ℕ → Bool
+recordGood p m r st =
     all
-    (ltb (r .next) c
-    ∷ frameEnds f c r (length st)
+    (ltb (r .next) (p .count)
+    ∷ frameEnds (p .rows) (p .count) r (length st)
     ∷ leb (r .top) m
-    ∷ leb m (memoryLimit w)
+    ∷ leb m (memoryLimit (p .width))
     ∷ leb (length st) stackWords
-    ∷ headGood w f c st (r .frame)
-    ∷ given (eqb (f (r .next) .kind) kind.endBlock) (leb (getD st (r .frame + f (r .next) .a) 0) m)
-    ∷ given (eqb (f (r .next) .kind) kind.tailCall) (leb (topAtEntry st (r .frame)) m)
-    ∷ given (isReturn (f (r .next))) (leavesGood w f c m st (suc (r .frame)) (r .frame))
+    ∷ headGood (p .width) (p .rows) (p .count) st (r .frame)
+    ∷ given (eqb (p .rows (r .next) .kind) kind.endBlock) (leb (getD st (r .frame + p .rows (r .next) .a) 0) m)
+    ∷ given (eqb (p .rows (r .next) .kind) kind.tailCall) (leb (topAtEntry st (r .frame)) m)
+    ∷ given (isReturn (p .rows (r .next))) (leavesGood (p .width) (p .rows) (p .count) m st (suc (r .frame)) (r .frame))
     ∷ [])
 
 -- 35 of a step
-unfoldable pub stepBroken : Width → Tables → Machine → List ℕ → ℕ → Broken
-stepBroken w t r st m =
-    ifTrue (countFault t) Somewhere
+unfoldable pub stepBroken : Program → Machine → List ℕ → ℕ → Broken
+stepBroken p r st m =
+    ifTrue (countFault p) Somewhere
     (orElse
-    (lowest (λ i. oneOf (rowFault (rows t) (t .count) (t .dataLength) i) (both (eqb i (r .next)) (nextBad (rows t) (t .count) i)))
-    (rowsUsed w (rows t) (t .count) r st))
-    (ifTrue (recordGood w (rows t) (t .count) m r st) No Somewhere))
+    (lowest (λ i. oneOf (rowFault p i) (both (eqb i (r .next)) (nextBad (p .rows) (p .count) i))) (rowsUsed p r st))
+    (ifTrue (recordGood p m r st) No Somewhere))
 
 -- ---- a start: "Start reads all rows"
 
@@ -89,8 +89,8 @@ numbersBelow zero = []
 numbersBelow (suc n) = n ∷ numbersBelow n
 
 -- 35 of a start, d bytes of data being lent
-unfoldable pub startBroken : Tables → ℕ → Broken
-startBroken t d =
-    ifTrue (oneOf (countFault t) (ltb d (t .dataLength))) Somewhere
-    (orElse (lowest (rowFault (rows t) (t .count) (t .dataLength)) (numbersBelow (t .count)))
-    (ifTrue (someBelow (λ i. labelFault (rows t) (t .count) (t .dataLength) (labelsOf t i)) (t .labelCount)) Somewhere No))
+unfoldable pub startBroken : Program → ℕ → Broken
+startBroken p d =
+    ifTrue (oneOf (countFault p) (ltb d (p .dataLength))) Somewhere
+    (orElse (lowest (rowFault p) (numbersBelow (p .count)))
+    (ifTrue (someBelow (λ i. labelFault p (p .labels i)) (p .labelCount)) Somewhere No))
