@@ -56,3 +56,7 @@ lentProgram t c l k d =
       statementsPast = false;
       labelsPast = false;
     }
+
+-- the statements alone
+abbrev pub rowsAlone : List ℕ → ℕ → Program
+rowsAlone t c = lentProgram t c [] 0 0

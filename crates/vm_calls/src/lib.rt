@@ -16,6 +16,7 @@ ghost use Prim.Native.Nat.{suc, _+_, _*_, _≤_, _<_, min};
 ghost use lib.ListN.{length, take};
 ghost use Rattle.base_limits.specs.declared.Width.the-variants.{Bits32};
 ghost use Rattle.prog_tables.specs.Statement.{rowAt, slots, operandAt};
+ghost use Rattle.prog_tables.specs.Program.{rowsAlone};
 ghost use Rattle.vm_definitions.specs.Operands.{readAll};
 ghost use Rattle.vm_definitions.specs.Access.{storeFrom};
 ghost use Rattle.vm_definitions.specs.Frames.{returnsTo, callerFrame, topAtEntry, frameWords, leavesGood};
@@ -111,7 +112,7 @@ pub fn slot_at(t: &[u32], n: u32, i: u32) -> Operand
 // The value of the row's expression, which is no call.
 pub fn work(t: &[u32], c: u32, r: Machine, st: &[u32], m: &[u8]) -> Worked
     requires { ⌜ (Expressed (rowAt (now t) (r .next))) × (length (now m) ≤ 65536) ⌝ }
-    ensures { λ x. ⌜ x ≡ workedOf Bits32 (rowAt (now (t .entry))) c (world r (now (st .entry)) (now (m .entry))) ⌝ }
+    ensures { λ x. ⌜ x ≡ workedOf (rowsAlone (now (t .entry)) c) (world r (now (st .entry)) (now (m .entry))) ⌝ }
 {
     let n = r.next;
     let s = r.frame;

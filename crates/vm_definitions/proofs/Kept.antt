@@ -287,7 +287,7 @@ module _ (w : Width) (t : Tables) (good : WellFormed (programFrom w t)) (e : Ent
       store-before (x .stack) (x .machine .frame + rows t (x .machine .next) .a) (x .machine .top ∷ replicate (rows t (x .machine .next) .b) 0) j (omega (arith, low)))
     where
       low : 3 + rows t (rows t (x .machine .next) .func) .b ≤ rows t (x .machine .next) .a
-      low = block-low t good (x .machine .next) (i .frame .within) k
+      low = block-low w t good (x .machine .next) (i .frame .within) k
 
       own : rows t (rows t (x .machine .next) .func) .a ≡ rows t (e .func) .a
       own = ap (λ (y : ℕ). rows t y .a) (i .frame .func)
@@ -355,6 +355,6 @@ module _ (w : Width) (t : Tables) (good : WellFormed (programFrom w t)) (e : Ent
             blocks = λ b g q d.
                 i .frame .blocks b g q
                 (around-outside (rows t) b (rows t (x .machine .next) .scope) (end-facts w t good (x .machine .next) (i .frame .within) k .is-block)
-                (frame-shallow t good (rows t (x .machine .next) .scope) below)
+                (frame-shallow w t good (rows t (x .machine .next) .scope) below)
                 (ap (encloses (rows t) frameDepth b) (sym (next-end-block w t good (x .machine .next) (i .frame .within) no-end k)) ∙ d));
           }

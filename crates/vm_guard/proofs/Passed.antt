@@ -14,12 +14,13 @@ use Rattle.base_limits.specs.declared.Width.{Width}
 use Rattle.base_limits.specs.declared.Width.the-variants.{Bits32}
 use Rattle.base_limits.specs.declared.Machine.{Machine}
 use Rattle.prog_tables.specs.Tests.{both, oneOf, given, all, some}
-use Rattle.prog_tables.specs.Statement.{Row, hasExpression, isCall}
-use Rattle.prog_tables.specs.Label.{Tables, rows}
+use Rattle.prog_tables.specs.Statement.{Row, rowAt, hasExpression, isCall}
+use Rattle.prog_tables.specs.Program.{Program, programFrom, lentProgram}
 use Rattle.prog_tables.specs.Nesting.{isListed}
-use Rattle.prog_tables.specs.Faults.{expressionListed, inFunction, sizeAt, kindFault, targetFault, calleeFault, rowFault, countFault}
+use Rattle.prog_tables.specs.Faults.{expressionListed, inFunction, sizeAt, kindFault, targetFault, calleeFault, sizeFault, wordFault, operandsFault, addressFault, rowFault, countFault}
 use Rattle.prog_tables.proofs.Each.{both-left, both-right, given-then, all-at}
 use Rattle.vm_definitions.specs.Frames.{returnsTo, callerFrame, topAtEntry, isFirst, isReturn, isCalling, calledFrom, headGood, passesOn, leavesGood, resumptionOf}
+use Rattle.vm_definitions.specs.Lent.{tablesOf}
 use Rattle.vm_definitions.specs.Broken.{lower, lowest, orElse, frameEnds, rowsUsed, recordGood, stepBroken}
 use Rattle.vm_definitions.specs.declared.Resumption.the-variants.{Ends, Caller}
 use Rattle.vm_definitions.specs.declared.Broken.{Broken}
@@ -29,10 +30,15 @@ use Rattle.vm_guard.specs.Passed.{Passed}
 use Rattle.prog_tables.proofs.Each.{one-no, one-rest}
 
 -- refusal 35 of a step: the counts, then the rest
-pub step-broken : (w : Width) (t : Tables) (r : Machine) (st : List ℕ) (m : ℕ)
-    → stepBroken w t r st m ≡ ifTrue (countFault t) Somewhere (withinBroken w (rows t) (t .count) (t .dataLength) r st m)
+pub step-broken : (p : Program) (r : Machine) (st : List ℕ) (m : ℕ) → stepBroken p r st m ≡ ifTrue (countFault p) Somewhere (withinBroken p r st m)
 unfolding stepBroken withinBroken rowBad
-step-broken w t r st m = refl
+step-broken p r st m = refl
+
+-- the names of the labels and the counts do not matter to the rest
+pub within-lent : (t : List ℕ) (c : ℕ) (l : List ℕ) (k : ℕ) (names : List ℕ) (d : ℕ) (r : Machine) (st : List ℕ) (m : ℕ)
+    → withinBroken (programFrom Bits32 (tablesOf t c l k names d)) r st m ≡ withinBroken (lentProgram t c l k d) r st m
+unfolding withinBroken rowBad rowFault kindFault targetFault calleeFault sizeFault wordFault operandsFault addressFault rowsUsed recordGood
+within-lent t c l k names d r st m = refl
 
 -- ---- tests
 
@@ -80,35 +86,35 @@ first-good p i is = by (p i)
     by true e = lower-some i (lowest p is) (true ≡ false) e
     by false e = refl
 
-module _ (f : ℕ → Row) (c d n : ℕ) (e : rowFault f c d n ≡ false) where
-  kind-good : kindFault f n ≡ false
+module _ (prog : Program) (n : ℕ) (e : rowFault prog n ≡ false) where
+  kind-good : kindFault prog n ≡ false
   unfolding rowFault some
-  kind-good = one-no (kindFault f n) _ e
+  kind-good = one-no (kindFault prog n) _ e
 
-  callee-good : calleeFault f c n ≡ false
+  callee-good : calleeFault prog n ≡ false
   unfolding rowFault some
-  callee-good = one-no (calleeFault f c n) _ (one-rest (targetFault f c n) _ (one-rest (kindFault f n) _ e))
+  callee-good = one-no (calleeFault prog n) _ (one-rest (targetFault prog n) _ (one-rest (kindFault prog n) _ e))
 
-  pub row-listed : hasExpression (f n .kind) ≡ true → expressionListed (f n .kind) (f n .expr) ≡ true
+  pub row-listed : hasExpression (prog .rows n .kind) ≡ true → expressionListed (prog .rows n .kind) (prog .rows n .expr) ≡ true
   unfolding kindFault ifTrue
-  row-listed h = by (isListed (f n .kind)) kind-good
+  row-listed h = by (isListed (prog .rows n .kind)) kind-good
     where
-      by : (q : Bool) → ifTrue q (both (hasExpression (f n .kind)) (not (expressionListed (f n .kind) (f n .expr)))) true ≡ false
-          → expressionListed (f n .kind) (f n .expr) ≡ true
-      by true g = not-both (hasExpression (f n .kind)) (expressionListed (f n .kind) (f n .expr)) g h
+      by : (q : Bool) → ifTrue q (both (hasExpression (prog .rows n .kind)) (not (expressionListed (prog .rows n .kind) (prog .rows n .expr)))) true ≡ false
+          → expressionListed (prog .rows n .kind) (prog .rows n .expr) ≡ true
+      by true g = not-both (hasExpression (prog .rows n .kind)) (expressionListed (prog .rows n .kind) (prog .rows n .expr)) g h
       by false g = true-false g
 
-  pub row-callee : isCall (f n .kind) (f n .expr) ≡ true → f n .callee < c
+  pub row-callee : isCall (prog .rows n .kind) (prog .rows n .expr) ≡ true → prog .rows n .callee < prog .count
   unfolding calleeFault
   row-callee h =
-      ltb-true _ _ (both-left (ltb (f n .callee) c) _ (not-both (isCall (f n .kind) (f n .expr)) (both (ltb (f n .callee) c) _) callee-good h))
+      ltb-true _ _ (both-left (ltb (prog .rows n .callee) (prog .count)) _ (not-both (isCall (prog .rows n .kind) (prog .rows n .expr)) (both (ltb (prog .rows n .callee) (prog .count)) _) callee-good h))
 
-module _ (f : ℕ → Row) (c d : ℕ) (r : Machine) (st : List ℕ) (m : ℕ) (e : withinBroken Bits32 f c d r st m ≡ No) where
-  record-passed : recordGood Bits32 f c m r st ≡ true
+module _ (t : List ℕ) (c : ℕ) (l : List ℕ) (k d : ℕ) (r : Machine) (st : List ℕ) (m : ℕ) (e : withinBroken (lentProgram t c l k d) r st m ≡ No) where
+  record-passed : recordGood (lentProgram t c l k d) m r st ≡ true
   unfolding withinBroken
-  record-passed = good-then (recordGood Bits32 f c m r st) (broken-then (lowest (rowBad f c d (r .next)) (rowsUsed Bits32 f c r st)) _ e)
+  record-passed = good-then (recordGood (lentProgram t c l k d) m r st) (broken-then (lowest (rowBad (lentProgram t c l k d) (r .next)) (rowsUsed (lentProgram t c l k d) r st)) _ e)
 
-  rows-passed : lowest (rowBad f c d (r .next)) (rowsUsed Bits32 f c r st) ≡ No
+  rows-passed : lowest (rowBad (lentProgram t c l k d) (r .next)) (rowsUsed (lentProgram t c l k d) r st) ≡ No
   unfolding withinBroken
   rows-passed = broken-no _ _ e
 
@@ -116,35 +122,35 @@ module _ (f : ℕ → Row) (c d : ℕ) (r : Machine) (st : List ℕ) (m : ℕ) (
   unfolding recordGood all
   next-within = ltb-true _ _ (both-left (ltb (r .next) c) _ record-passed)
 
-  row-passed : rowFault f c d (r .next) ≡ false
+  row-passed : rowFault (lentProgram t c l k d) (r .next) ≡ false
   unfolding rowsUsed ifLt rowBad
-  row-passed = one-no (rowFault f c d (r .next)) _ (first-good (rowBad f c d (r .next)) (r .next) _ (rw (lt-ltb _ _ next-within) at rows-passed))
+  row-passed = one-no (rowFault (lentProgram t c l k d) (r .next)) _ (first-good (rowBad (lentProgram t c l k d) (r .next)) (r .next) _ (rw (lt-ltb _ _ next-within) at rows-passed))
 
   -- test k of the record
-  tested : (k : ℕ) → k < 9 → getD (
+  tested : (j : ℕ) → j < 9 → getD (
       ltb (r .next) c
-      ∷ frameEnds f c r (length st)
+      ∷ frameEnds (rowAt t) c r (length st)
       ∷ leb (r .top) m
       ∷ leb m 65536
       ∷ leb (length st) 16384
-      ∷ headGood Bits32 f c st (r .frame)
-      ∷ given (eqb (f (r .next) .kind) 4) (leb (getD st (r .frame + f (r .next) .a) 0) m)
-      ∷ given (eqb (f (r .next) .kind) 12) (leb (topAtEntry st (r .frame)) m)
-      ∷ given (isReturn (f (r .next))) (leavesGood Bits32 f c m st (suc (r .frame)) (r .frame))
-      ∷ []) k true ≡ true
+      ∷ headGood Bits32 (rowAt t) c st (r .frame)
+      ∷ given (eqb (rowAt t (r .next) .kind) 4) (leb (getD st (r .frame + rowAt t (r .next) .a) 0) m)
+      ∷ given (eqb (rowAt t (r .next) .kind) 12) (leb (topAtEntry st (r .frame)) m)
+      ∷ given (isReturn (rowAt t (r .next))) (leavesGood Bits32 (rowAt t) c m st (suc (r .frame)) (r .frame))
+      ∷ []) j true ≡ true
   unfolding recordGood
-  tested k h = all-at _ k record-passed h
+  tested j h = all-at _ j record-passed h
 
-  pub passed : Passed f c d r st m
+  pub passed : Passed (lentProgram t c l k d) r st m
   passed =
       record {
         within = next-within;
         row = row-passed;
-        callee = row-callee f c d (r .next) row-passed;
+        callee = row-callee (lentProgram t c l k d) (r .next) row-passed;
         stack = leb-true _ _ (tested 4 (omega arith));
         memory = leb-true _ _ (tested 3 (omega arith));
-        leaves = given-then (isReturn (f (r .next))) _ (tested 8 (omega arith));
-        listed = row-listed f c d (r .next) row-passed;
+        leaves = given-then (isReturn (rowAt t (r .next))) _ (tested 8 (omega arith));
+        listed = row-listed (lentProgram t c l k d) (r .next) row-passed;
       }
 
 -- ---- a good way out

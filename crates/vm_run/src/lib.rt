@@ -9,6 +9,7 @@ ghost use Prim.Native.Nat.{_+_, _*_, _≤_, _<_};
 ghost use lib.ListN.{length};
 ghost use Rattle.base_limits.specs.declared.Width.the-variants.{Bits32};
 ghost use Rattle.prog_tables.specs.Statement.{rowAt};
+ghost use Rattle.prog_tables.specs.Program.{programFrom};
 ghost use Rattle.vm_definitions.specs.Step.{movedTo, stepOf, runOf};
 ghost use Rattle.vm_definitions.specs.Lent.{tablesOf, world, left};
 ghost use Rattle.prog_tables.specs.Layout.{statementRow};
@@ -27,10 +28,10 @@ fn give_back(r: Machine, b: Broken) -> Outcome
 }
 
 // The statement that a running record stands at, or 35; the counts of the tables are good.
-fn take_step(t: &[u32], c: u32, d: u32, r: Machine, st: &mut [u32], m: &mut [u8]) -> Outcome
-    ensures { λ o. ⌜ left o (now (st .exit)) (now (m .exit)) ≡ takenStep (now (t .entry)) c d (world r (now (st .entry)) (now (m .entry))) ⌝ }
+fn take_step(t: &[u32], c: u32, l: &[u32], lc: u32, d: u32, r: Machine, st: &mut [u32], m: &mut [u8]) -> Outcome
+    ensures { λ o. ⌜ left o (now (st .exit)) (now (m .exit)) ≡ takenStep (now (t .entry)) c (now (l .entry)) lc d (world r (now (st .entry)) (now (m .entry))) ⌝ }
 {
-    let b = vm_guard::find_broken(t, c, d, r, st, m.len());
+    let b = vm_guard::find_broken(t, c, l, lc, d, r, st, m.len());
     match b {
         Broken::No => vm_statements::execute(t, c, r, st, m),
         Broken::At(i) => give_back(r, Broken::At(i)),
@@ -51,11 +52,11 @@ fn is_running(r: Machine) -> bool
 }
 
 // A step over tables whose counts are good.
-fn step_within(t: &[u32], c: u32, d: u32, r: Machine, st: &mut [u32], m: &mut [u8]) -> Outcome
-    ensures { λ o. ⌜ left o (now (st .exit)) (now (m .exit)) ≡ withinStep (now (t .entry)) c d (world r (now (st .entry)) (now (m .entry))) ⌝ }
+fn step_within(t: &[u32], c: u32, l: &[u32], lc: u32, d: u32, r: Machine, st: &mut [u32], m: &mut [u8]) -> Outcome
+    ensures { λ o. ⌜ left o (now (st .exit)) (now (m .exit)) ≡ withinStep (now (t .entry)) c (now (l .entry)) lc d (world r (now (st .entry)) (now (m .entry))) ⌝ }
 {
     if is_running(r) {
-        return take_step(t, c, d, r, st, m);
+        return take_step(t, c, l, lc, d, r, st, m);
     }
     give_back(r, Broken::No)
 }
@@ -89,6 +90,8 @@ fn moved(r: Machine, next: u32, frame: u32, used: u32, top: u32) -> Machine
 fn end_plain(
     t: &[u32],
     c: u32,
+    l: &[u32],
+    lc: u32,
     g: u32,
     d: u32,
     size: u32,
@@ -98,9 +101,9 @@ fn end_plain(
     m: &mut [u8],
 ) -> Outcome
     requires { ⌜ (c * statementRow ≤ length (now t)) × (r .frame + size ≤ length (now st)) × (length (now st) ≤ 16384) × (length (now m) ≤ 65536) × (count < 18446744073709551615) ⌝ }
-    ensures { λ o. ⌜ left o (now (st .exit)) (now (m .exit)) ≡ plainRunEnd (now (t .entry)) c d g size count (world r (now (st .entry)) (now (m .entry))) ⌝ }
+    ensures { λ o. ⌜ left o (now (st .exit)) (now (m .exit)) ≡ plainRunEnd (now (t .entry)) c (now (l .entry)) lc d g size count (world r (now (st .entry)) (now (m .entry))) ⌝ }
 {
-    let y = vm_quick_calls::take_transfer(t, c, g, d, size, st, r.frame, r.used, m, r.next, r.top);
+    let y = vm_quick_calls::take_transfer(t, c, l, lc, g, d, size, st, r.frame, r.used, m, r.next, r.top);
     match y {
         Transfer::To {
             next,
@@ -120,7 +123,7 @@ fn end_plain(
                     broken: Broken::No,
                 };
             }
-            step_within(t, c, d, r, st, m)
+            step_within(t, c, l, lc, d, r, st, m)
         }
     }
 }
@@ -129,6 +132,8 @@ fn end_plain(
 fn advance_in_frame(
     t: &[u32],
     c: u32,
+    l: &[u32],
+    lc: u32,
     d: u32,
     size: u32,
     budget: u64,
@@ -137,14 +142,14 @@ fn advance_in_frame(
     m: &mut [u8],
 ) -> Outcome
     requires { ⌜ (c * statementRow ≤ length (now t)) × (r .frame + size ≤ length (now st)) × (length (now st) ≤ 16384) × (length (now m) ≤ 65536) ⌝ }
-    ensures { λ o. ⌜ left o (now (st .exit)) (now (m .exit)) ≡ stepsInFrame (now (t .entry)) c d size budget (world r (now (st .entry)) (now (m .entry))) ⌝ }
+    ensures { λ o. ⌜ left o (now (st .exit)) (now (m .exit)) ≡ stepsInFrame (now (t .entry)) c (now (l .entry)) lc d size budget (world r (now (st .entry)) (now (m .entry))) ⌝ }
 {
     let g = prog_tables::func_at(t, r.next);
     let x = vm_quick_statements::run_plain(t, c, g, d, size, budget, st, r.frame, m, r.next, r.top);
     let count = x.count;
     let q = moved(r, x.next, r.frame, r.used, x.top);
     if count < budget {
-        return end_plain(t, c, g, d, size, q, count, st, m);
+        return end_plain(t, c, l, lc, g, d, size, q, count, st, m);
     }
     Outcome {
         machine: q,
@@ -157,6 +162,8 @@ fn advance_in_frame(
 fn advance(
     t: &[u32],
     c: u32,
+    l: &[u32],
+    lc: u32,
     d: u32,
     budget: u64,
     r: Machine,
@@ -164,19 +171,21 @@ fn advance(
     m: &mut [u8],
 ) -> Outcome
     requires { ⌜ c * statementRow ≤ length (now t) ⌝ }
-    ensures { λ o. ⌜ left o (now (st .exit)) (now (m .exit)) ≡ someSteps (now (t .entry)) c d budget (world r (now (st .entry)) (now (m .entry))) ⌝ }
+    ensures { λ o. ⌜ left o (now (st .exit)) (now (m .exit)) ≡ someSteps (now (t .entry)) c (now (l .entry)) lc d budget (world r (now (st .entry)) (now (m .entry))) ⌝ }
 {
     let size = usable_size(t, c, m.len(), r, st);
     if size == 0 {
-        return step_within(t, c, d, r, st, m);
+        return step_within(t, c, l, lc, d, r, st, m);
     }
-    advance_in_frame(t, c, d, size, budget, r, st, m)
+    advance_in_frame(t, c, l, lc, d, size, budget, r, st, m)
 }
 
 // Steps within a budget, over tables whose counts are good.
 fn run_within(
     t: &[u32],
     c: u32,
+    l: &[u32],
+    lc: u32,
     d: u32,
     budget: u64,
     r: Machine,
@@ -184,12 +193,12 @@ fn run_within(
     m: &mut [u8],
 ) -> Outcome
     requires { ⌜ c * statementRow ≤ length (now t) ⌝ }
-    ensures { λ o. ⌜ left o (now (st .exit)) (now (m .exit)) ≡ withinRun (now (t .entry)) c d budget (world r (now (st .entry)) (now (m .entry))) ⌝ }
+    ensures { λ o. ⌜ left o (now (st .exit)) (now (m .exit)) ≡ withinRun (now (t .entry)) c (now (l .entry)) lc d budget (world r (now (st .entry)) (now (m .entry))) ⌝ }
 {
     let mut q = r;
     let mut count: u64 = 0;
     while count < budget {
-        let o = advance(t, c, d, budget - count, q, st, m);
+        let o = advance(t, c, l, lc, d, budget - count, q, st, m);
         let counted = o.count;
         let broken = o.broken;
         let next = o.machine;
@@ -222,13 +231,13 @@ pub fn step(
     stack: &mut [u32],
     memory: &mut [u8],
 ) -> Outcome
-    ensures { λ o. ⌜ left o (now (stack .exit)) (now (memory .exit)) ≡ stepOf Bits32 (tablesOf (now (statements .entry)) count (now (labels .entry)) «label_count» (now (names .entry)) «data_length») (world machine (now (stack .entry)) (now (memory .entry))) ⌝ }
+    ensures { λ o. ⌜ left o (now (stack .exit)) (now (memory .exit)) ≡ stepOf (programFrom Bits32 (tablesOf (now (statements .entry)) count (now (labels .entry)) «label_count» (now (names .entry)) «data_length»)) (world machine (now (stack .entry)) (now (memory .entry))) ⌝ }
 {
     if is_running(machine) {
         if vm_counts::count_fault(statements, count, labels, label_count, names) {
             return give_back(machine, Broken::Somewhere);
         }
-        return take_step(statements, count, data_length, machine, stack, memory);
+        return take_step(statements, count, labels, label_count, data_length, machine, stack, memory);
     }
     give_back(machine, Broken::No)
 }
@@ -246,7 +255,7 @@ pub fn run(
     stack: &mut [u32],
     memory: &mut [u8],
 ) -> Outcome
-    ensures { λ o. ⌜ left o (now (stack .exit)) (now (memory .exit)) ≡ runOf Bits32 (tablesOf (now (statements .entry)) count (now (labels .entry)) «label_count» (now (names .entry)) «data_length») budget (world machine (now (stack .entry)) (now (memory .entry))) ⌝ }
+    ensures { λ o. ⌜ left o (now (stack .exit)) (now (memory .exit)) ≡ runOf (programFrom Bits32 (tablesOf (now (statements .entry)) count (now (labels .entry)) «label_count» (now (names .entry)) «data_length»)) budget (world machine (now (stack .entry)) (now (memory .entry))) ⌝ }
 {
     if budget == 0 {
         return give_back(machine, Broken::No);
@@ -258,6 +267,8 @@ pub fn run(
         return run_within(
             statements,
             count,
+            labels,
+            label_count,
             data_length,
             budget,
             machine,

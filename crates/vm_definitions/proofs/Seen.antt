@@ -1,0 +1,85 @@
+-- What a statement's effect looks at: the width and the rows of the program, not its labels, data or tables.
+-- Assumes nothing.
+use mathlib.Core.Path.{_≡_, refl, ap, _∙_}
+use mathlib.Core.Bool.{Bool}
+use Prim.Native.Nat.{ℕ}
+use Rattle.prog_tables.specs.Label.{Label}
+use Rattle.prog_tables.specs.Program.{Program}
+use Rattle.vm_definitions.specs.Operands.{Words, words, bad}
+use Rattle.vm_definitions.specs.Step.{World, goesTo, keeps, stores, blockOf, endBlockOf, testOf, workedOf, assigned, assignedAt, setAtOf, setByteBy, setWordBy, argumentsOf, callBy, callOf, tailCallBy, handedTo, handedBy, returned, returnOf, effectOf}
+use Rattle.vm_definitions.specs.declared.Worked.{Worked}
+use Rattle.vm_definitions.specs.declared.Worked.the-variants.{Value, Stop}
+use Rattle.vm_definitions.specs.declared.Resumption.{Resumption}
+use Rattle.vm_definitions.specs.declared.Resumption.the-variants.{Ends, Caller}
+
+-- the same rows with other labels, data and tables
+abbrev pub relabelled : Program → (ℕ → Label) → ℕ → ℕ → Bool → Bool → Program
+relabelled p g k d a b =
+    record {
+      width = p .width;
+      rows = p .rows;
+      count = p .count;
+      labels = g;
+      labelCount = k;
+      dataLength = d;
+      statementsPast = a;
+      labelsPast = b;
+    }
+
+module _ (p : Program) (g : ℕ → Label) (k d : ℕ) (a b : Bool) (x : World) where
+  abbrev q : Program
+  q = relabelled p g k d a b
+
+  assigned-seen : (v : Worked) → assigned p x v ≡ assigned q x v
+  unfolding assigned keeps
+  assigned-seen (Value v top) = refl
+  assigned-seen (Stop n) = refl
+
+  assigned-at-seen : (v : Worked) → assignedAt p x v ≡ assignedAt q x v
+  unfolding assignedAt stores
+  assigned-at-seen (Value v top) = refl
+  assigned-at-seen (Stop n) = refl
+
+  byte-seen : (vs : Words) → setByteBy p x vs ≡ setByteBy q x vs
+  unfolding setByteBy stores
+  byte-seen (words vs) = refl
+  byte-seen bad = refl
+
+  word-seen : (vs : Words) → setWordBy p x vs ≡ setWordBy q x vs
+  unfolding setWordBy stores
+  word-seen (words vs) = refl
+  word-seen bad = refl
+
+  call-by-seen : (vs : Words) → callBy p x vs ≡ callBy q x vs
+  unfolding callBy
+  call-by-seen (words vs) = refl
+  call-by-seen bad = refl
+
+  tail-seen : (vs : Words) → tailCallBy p x vs ≡ tailCallBy q x vs
+  unfolding tailCallBy
+  tail-seen (words vs) = refl
+  tail-seen bad = refl
+
+  handed-seen : (v : ℕ) (w : Resumption) → handedBy p x v w ≡ handedBy q x v w
+  unfolding handedBy handedTo
+  handed-seen v (Ends top) = refl
+  handed-seen v (Caller call s used top) = refl
+
+  returned-seen : (v : Worked) → returned p x v ≡ returned q x v
+  unfolding returned
+  returned-seen (Value v top) = handed-seen v _
+  returned-seen (Stop n) = refl
+
+  pub effect-seen : effectOf p x ≡ effectOf q x
+  unfolding effectOf callOf returnOf testOf goesTo blockOf endBlockOf keeps setAtOf workedOf argumentsOf
+  effect-seen =
+      rw (
+        call-by-seen (argumentsOf p x),
+        tail-seen (argumentsOf p x),
+        byte-seen (argumentsOf p x),
+        word-seen (argumentsOf p x),
+        assigned-seen (workedOf p x),
+        assigned-at-seen (workedOf p x),
+        returned-seen (workedOf p x),
+        returned-seen (Value 0 0),
+      )
