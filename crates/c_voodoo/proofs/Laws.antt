@@ -17,6 +17,7 @@ use Rattle.base_limits.specs.declared.State.{State}
 use Rattle.base_limits.specs.declared.State.the-variants.{Running, Finished, Stopped}
 use Rattle.base_limits.specs.declared.Machine.{Machine}
 use Rattle.base_limits.specs.Fresh.{freshOf}
+use Rattle.prog_tables.specs.Program.{programFrom}
 use Rattle.prog_tables.specs.Label.{Tables, rows}
 use Rattle.vm_definitions.specs.Broken.{stepBroken}
 use Rattle.vm_definitions.specs.Step.{World, Effect, stops, leaves, After, idle, effected, guarded, inState, stopped, counting, effectOf, stepOf, runOf}
@@ -67,24 +68,24 @@ quiet-in x Running e b q = quiet-guarded x e b q
 quiet-in x (Finished v) e b q = quiet-idle x No
 quiet-in x (Stopped k i) e b q = quiet-idle x No
 
-quiet-step : (t : Tables) (x : World) → Quiet x (stepOf Bits32 t x)
+quiet-step : (t : Tables) (x : World) → Quiet x (stepOf (programFrom Bits32 t) x)
 unfolding stepOf
 quiet-step t x =
-    quiet-in x (x .machine .state) (effectOf Bits32 (rows t) (t .count) x) (stepBroken Bits32 t (x .machine) (x .stack) (length (x .memory))) refl
+    quiet-in x (x .machine .state) (effectOf (programFrom Bits32 t) x) (stepBroken (programFrom Bits32 t) (x .machine) (x .stack) (length (x .memory))) refl
 
-quiet-run : (t : Tables) (budget : ℕ) (x : World) → Quiet x (runOf Bits32 t budget x)
+quiet-run : (t : Tables) (budget : ℕ) (x : World) → Quiet x (runOf (programFrom Bits32 t) budget x)
 unfolding runOf ifEq counting
 quiet-run t zero x = quiet-idle x No
-quiet-run t (suc b) x = by (eqb (stepOf Bits32 t x .count) 0)
+quiet-run t (suc b) x = by (eqb (stepOf (programFrom Bits32 t) x .count) 0)
   where
-    by : (v : Bool) → Quiet x (pick v (stepOf Bits32 t x) (counting 1 (runOf Bits32 t b (stepOf Bits32 t x .world))))
+    by : (v : Bool) → Quiet x (pick v (stepOf (programFrom Bits32 t) x) (counting 1 (runOf (programFrom Bits32 t) b (stepOf (programFrom Bits32 t) x .world))))
     by true = quiet-step t x
     by false =
         λ h.
         true-false
         (sym
-        (counts (stateNumber (x .machine .state)) (runOf Bits32 t b (stepOf Bits32 t x .world) .count)
-        (runOf Bits32 t b (stepOf Bits32 t x .world) .world .machine) (runOf Bits32 t b (stepOf Bits32 t x .world) .broken))
+        (counts (stateNumber (x .machine .state)) (runOf (programFrom Bits32 t) b (stepOf (programFrom Bits32 t) x .world) .count)
+        (runOf (programFrom Bits32 t) b (stepOf (programFrom Bits32 t) x .world) .world .machine) (runOf (programFrom Bits32 t) b (stepOf (programFrom Bits32 t) x .world) .broken))
         ∙ h)
 
 -- the record's words behind a step or a run that leaves y
@@ -101,24 +102,24 @@ words-after ws x y e q = by (changes (getD ws 0 0) (outcomeOf y)) refl
 
 module _ (ws st m out : List ℕ) (t : Tables) (r : Machine) (e : recordOf ws ≡ Fit r) where
   -- a step of a lent record is a step of the record that it holds
-  pub step-words : recordOf (stepCall ws st m out t .words) ≡ Fit (stepOf Bits32 t (world r st m) .world .machine)
+  pub step-words : recordOf (stepCall ws st m out t .words) ≡ Fit (stepOf (programFrom Bits32 t) (world r st m) .world .machine)
   unfolding stepCall stepBy outcomeAnswer outcomeReply
   step-words =
       ap (λ (x : Loaded). recordOf (stepBy ws st m out t x .words)) e
-      ∙ words-after ws (world r st m) (stepOf Bits32 t (world r st m)) e (quiet-step t (world r st m))
+      ∙ words-after ws (world r st m) (stepOf (programFrom Bits32 t) (world r st m)) e (quiet-step t (world r st m))
 
-  pub run-words : (budget : ℕ) → recordOf (runCall ws st m out t budget .words) ≡ Fit (runOf Bits32 t budget (world r st m) .world .machine)
+  pub run-words : (budget : ℕ) → recordOf (runCall ws st m out t budget .words) ≡ Fit (runOf (programFrom Bits32 t) budget (world r st m) .world .machine)
   unfolding runCall runBy outcomeAnswer outcomeReply
   run-words budget =
       ap (λ (x : Loaded). recordOf (runBy ws st m out t budget x .words)) e
-      ∙ words-after ws (world r st m) (runOf Bits32 t budget (world r st m)) e (quiet-run t budget (world r st m))
+      ∙ words-after ws (world r st m) (runOf (programFrom Bits32 t) budget (world r st m)) e (quiet-run t budget (world r st m))
 
 -- a start that has begun leaves the record of the definition
 pub start-words : (ws st m out : List ℕ) (t : Tables) (bytes name args : List ℕ) → 16 ≤ length ws
-    → startOf Bits32 t bytes name args (world (freshOf 0 0 0) st m) ≡ Begun
-    → recordOf (startCall ws st m out t bytes name args .words) ≡ Fit (startLeaves Bits32 t bytes name args (world (freshOf 0 0 0) st m) .machine)
+    → startOf (programFrom Bits32 t) bytes name args (world (freshOf 0 0 0) st m) ≡ Begun
+    → recordOf (startCall ws st m out t bytes name args .words) ≡ Fit (startLeaves (programFrom Bits32 t) bytes name args (world (freshOf 0 0 0) st m) .machine)
 unfolding startCall openingAnswer openingReply recordBegun
 start-words ws st m out t bytes name args h e =
     ap (λ (y : Answered). recordOf (y .words)) (ifLt-no (unfit ws st m out) _ h)
-    ∙ ap (λ (a : Started). recordOf (recordBegun a (recordWords (startLeaves Bits32 t bytes name args (world (freshOf 0 0 0) st m) .machine)) ws)) e
-    ∙ record-back (startLeaves Bits32 t bytes name args (world (freshOf 0 0 0) st m) .machine) ws h
+    ∙ ap (λ (a : Started). recordOf (recordBegun a (recordWords (startLeaves (programFrom Bits32 t) bytes name args (world (freshOf 0 0 0) st m) .machine)) ws)) e
+    ∙ record-back (startLeaves (programFrom Bits32 t) bytes name args (world (freshOf 0 0 0) st m) .machine) ws h

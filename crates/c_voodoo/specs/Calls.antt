@@ -7,6 +7,7 @@ use Rattle.base_prelude.specs.Choice.{ifLt}
 use Rattle.base_prelude.specs.Lists.{overlay}
 use Rattle.base_limits.specs.declared.Width.the-variants.{Bits32}
 use Rattle.base_limits.specs.Fresh.{freshOf}
+use Rattle.prog_tables.specs.Program.{programFrom}
 use Rattle.prog_tables.specs.Label.{Tables}
 use Rattle.vm_definitions.specs.Step.{After, stepOf, runOf}
 use Rattle.vm_definitions.specs.Lent.{world}
@@ -52,14 +53,14 @@ module _ (ws st m out : List ℕ) where
   openingAnswer y = replied (openingReply (openingWith y) ws out) (y .world .stack) (y .world .memory)
 
   unfoldable pub stepBy : Tables → Loaded → Answered
-  stepBy t (Fit r) = outcomeAnswer (stepOf Bits32 t (world r st m))
+  stepBy t (Fit r) = outcomeAnswer (stepOf (programFrom Bits32 t) (world r st m))
   stepBy t Unfit = unfit
 
   unfoldable pub stepCall : Tables → Answered
   stepCall t = stepBy t (recordOf ws)
 
   unfoldable pub runBy : Tables → ℕ → Loaded → Answered
-  runBy t budget (Fit r) = outcomeAnswer (runOf Bits32 t budget (world r st m))
+  runBy t budget (Fit r) = outcomeAnswer (runOf (programFrom Bits32 t) budget (world r st m))
   runBy t budget Unfit = unfit
 
   unfoldable pub runCall : Tables → ℕ → Answered
@@ -68,4 +69,4 @@ module _ (ws st m out : List ℕ) where
   -- a start does not read the record
   unfoldable pub startCall : Tables → List ℕ → List ℕ → List ℕ → Answered
   startCall t bytes name args =
-      ifLt (length ws) 16 unfit (openingAnswer (openingOf Bits32 t bytes name args (world (freshOf 0 0 0) st m)))
+      ifLt (length ws) 16 unfit (openingAnswer (openingOf (programFrom Bits32 t) bytes name args (world (freshOf 0 0 0) st m)))

@@ -1,10 +1,15 @@
--- What a statement's effect looks at: the width and the rows of the program, not its labels, data or tables.
+-- What a statement's effect looks at: the width and the rows of the program, not its labels, data or counts. What a row's faults look at.
 -- Assumes nothing.
 use mathlib.Core.Path.{_≡_, refl, ap, _∙_}
 use mathlib.Core.Bool.{Bool}
+use mathlib.Core.List.{List, [], _∷_}
 use Prim.Native.Nat.{ℕ}
+use Rattle.base_limits.specs.declared.Width.the-variants.{Bits32}
 use Rattle.prog_tables.specs.Label.{Label}
-use Rattle.prog_tables.specs.Program.{Program}
+use Rattle.prog_tables.specs.Program.{Program, programFrom, lentProgram}
+use Rattle.prog_tables.specs.Faults.{kindFault, targetFault, calleeFault, sizeFault, wordFault, operandsFault, addressFault, rowFault}
+use Rattle.vm_definitions.specs.Lent.{tablesOf}
+use Rattle.vm_definitions.specs.Broken.{lowest}
 use Rattle.vm_definitions.specs.Operands.{Words, words, bad}
 use Rattle.vm_definitions.specs.Step.{World, goesTo, keeps, stores, blockOf, endBlockOf, testOf, workedOf, assigned, assignedAt, setAtOf, setByteBy, setWordBy, argumentsOf, callBy, callOf, tailCallBy, handedTo, handedBy, returned, returnOf, effectOf}
 use Rattle.vm_definitions.specs.declared.Worked.{Worked}
@@ -83,3 +88,19 @@ module _ (p : Program) (g : ℕ → Label) (k d : ℕ) (a b : Bool) (x : World) 
         returned-seen (workedOf p x),
         returned-seen (Value 0 0),
       )
+
+-- ---- rows
+
+pub lowest-same : (p q : ℕ → Bool) → ((i : ℕ) → p i ≡ q i) → (is : List ℕ) → lowest p is ≡ lowest q is
+unfolding lowest
+lowest-same p q h [] = refl
+lowest-same p q h (i ∷ is) = rw (h i, lowest-same p q h is)
+
+-- a row's faults look at neither names nor counts
+module _ (t : List ℕ) (c : ℕ) (l : List ℕ) (k : ℕ) (names : List ℕ) (d : ℕ) where
+  pub row-seen : (n : ℕ) → rowFault (programFrom Bits32 (tablesOf t c l k names d)) n ≡ rowFault (lentProgram t c l k d) n
+  unfolding rowFault kindFault targetFault calleeFault sizeFault wordFault operandsFault addressFault
+  row-seen n = refl
+
+  pub lowest-seen : (is : List ℕ) → lowest (rowFault (programFrom Bits32 (tablesOf t c l k names d))) is ≡ lowest (rowFault (lentProgram t c l k d)) is
+  lowest-seen is = lowest-same _ _ row-seen is

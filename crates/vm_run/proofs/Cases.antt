@@ -2,14 +2,13 @@
 -- Assumes nothing.
 use mathlib.Core.Path.{_≡_, refl, sym, _∙_, ap, subst}
 use mathlib.Core.Bool.{Bool, true, false}
-use mathlib.Core.List.{List}
+use mathlib.Core.List.{List, []}
 use Prim.Native.Nat.{ℕ, zero, suc, _+_, _-_, _*_, _<_, _≤_}
 use native.Mathlib.Omega.{arith}
 use lib.ListN.{length}
 use lib.Dec.{eqb}
 use lib.Dec.{ltb}
 use borrow.Author.Tests.{eq-eqb, ne-eqb, lt-ltb, le-ltb, ltb-false}
-use Rattle.prog_tables.specs.Tests.{oneOf, some}
 use Rattle.base_prelude.specs.Choice.{ifLt, ifEq, ifTrue}
 use Rattle.base_prelude.proofs.Choice.{ifEq-yes, ifEq-no, ifTrue-yes, ifTrue-no}
 use Rattle.base_limits.specs.declared.Width.the-variants.{Bits32}
@@ -17,12 +16,14 @@ use Rattle.base_limits.specs.declared.State.{State}
 use Rattle.base_limits.specs.declared.State.the-variants.{Running, Finished, Stopped}
 use Rattle.base_limits.specs.declared.Machine.{Machine}
 use Rattle.prog_tables.specs.Statement.{Row, rowAt}
-use Rattle.prog_tables.specs.Program.{Program, programFrom, lentProgram, rowsAlone}
+use Rattle.prog_tables.specs.Program.{Program, programFrom, lentProgram}
+use Rattle.prog_tables.specs.Label.{labelAt}
 use Rattle.prog_tables.specs.Faults.{countFault}
 use Rattle.vm_counts.proofs.Cases.{count-any}
 use Rattle.vm_guard.specs.Guard.{withinBroken}
 use Rattle.vm_guard.specs.Passed.{Passed}
-use Rattle.vm_guard.proofs.Passed.{passed, step-broken}
+use Rattle.vm_guard.proofs.Passed.{passed, step-broken, within-lent}
+use Rattle.vm_definitions.proofs.Seen.{effect-seen}
 use Rattle.vm_definitions.specs.Broken.{stepBroken}
 use Rattle.vm_definitions.specs.Step.{World, After, Effect, idle, guarded, inState, effected, counting, effectOf, stepOf, runOf}
 use Rattle.vm_definitions.specs.Lent.{tablesOf, world, left}
@@ -56,7 +57,8 @@ take-ready t c lw lc d r st m b e h = ready (passed t c lw lc d r st m (sym e �
 module _ (t : List ℕ) (c : ℕ) (lw : List ℕ) (lc d : ℕ) (r : Machine) (st m : List ℕ) (b : Broken) (e : b ≡ withinBroken (lentProgram t c lw lc d) r st (length m)) where
   pub take-on : (o : Outcome) (st′ m′ : List ℕ) → b ≡ No → left o st′ m′ ≡ outcomes.after effectOf t c r st m → left o st′ m′ ≡ takenStep t c lw lc d (world r st m)
   unfolding takenStep guarded
-  take-on o st′ m′ h q = rw (← e, h) q
+  take-on o st′ m′ h q =
+      rw (← e, h) (q ∙ ap (effected (world r st m)) (sym (effect-seen (lentProgram t c lw lc d) (labelAt [] []) 0 0 false false (world r st m))))
 
   pub take-at : (i : ℕ) (o : Outcome) → b ≡ At i → o ≡ givenBack r (At i) → left o st m ≡ takenStep t c lw lc d (world r st m)
   unfolding takenStep guarded idle
@@ -247,7 +249,12 @@ module _ (t : List ℕ) (c : ℕ) (l : List ℕ) (k : ℕ) (names : List ℕ) (d
   step-is x e =
       in-state (x .machine .state) _ _
       ∙ ap (λ (b : Broken). ifTrue (isRunning (x .machine .state)) (guarded x (effectOf T x) b) (idle x No))
-      (step-broken T (x .machine) (x .stack) (length (x .memory)) ∙ ifTrue-no Somewhere (withinBroken T (x .machine) (x .stack) (length (x .memory))) e)
+      (step-broken T (x .machine) (x .stack) (length (x .memory))
+      ∙ ifTrue-no Somewhere (withinBroken T (x .machine) (x .stack) (length (x .memory))) e
+      ∙ within-lent t c l k names d (x .machine) (x .stack) (length (x .memory)))
+      ∙ ap
+      (λ (f : Effect). ifTrue (isRunning (x .machine .state)) (guarded x f (withinBroken (lentProgram t c l k d) (x .machine) (x .stack) (length (x .memory)))) (idle x No))
+      (effect-seen T (labelAt l []) k d false false x)
 
   run-is : (b : ℕ) (x : World) → countFault T ≡ false → runOf T b x ≡ withinRun t c l k d b x
   unfolding runOf withinRun
@@ -264,7 +271,7 @@ module _ (t : List ℕ) (c : ℕ) (l : List ℕ) (k : ℕ) (names : List ℕ) (d
 
   -- all rows lie in their table
   pub rows-fit : (f : Bool) → f ≡ countFault (programFrom Bits32 (tablesOf t c l k names 0)) → f ≡ false → c * 27 ≤ length t
-  unfolding countFault some
+  unfolding countFault
   rows-fit f g i = ltb-false (length t) (c * 27) (one-no (ltb (length t) (c * 27)) _ (sym g ∙ i))
 
   module _ (r : Machine) (st m : List ℕ) (b : Bool) (e : b ≡ isRunning (r .state)) where

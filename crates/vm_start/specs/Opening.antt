@@ -10,11 +10,13 @@ use Rattle.base_limits.specs.Limits.{stackWords}
 use Rattle.base_limits.specs.Width.{memoryLimit}
 use Rattle.base_limits.specs.Fresh.{freshOf}
 use Rattle.base_limits.specs.declared.Width.{Width}
+use Rattle.base_limits.specs.declared.Width.the-variants.{Bits32}
 use Rattle.lang_kinds.specs.Kinds as kind
 use Rattle.prog_tables.specs.Layout.{placeLabel}
 use Rattle.prog_tables.specs.Tests.{both, oneOf, someBelow}
 use Rattle.prog_tables.specs.Statement.{Row}
-use Rattle.prog_tables.specs.Label.{Tables, rows, labelsOf, isData, isFunctionLabel}
+use Rattle.prog_tables.specs.Label.{isData, isFunctionLabel}
+use Rattle.prog_tables.specs.Program.{Program, programFrom}
 use Rattle.prog_tables.specs.Faults.{rowFault, labelFault}
 use Rattle.vm_definitions.specs.Access.{storeFrom}
 use Rattle.vm_definitions.specs.Frames.{mark, frameWords}
@@ -37,12 +39,12 @@ abbrev pub opened : Opening → List ℕ → List ℕ → Opened
 opened o st m = record { answer = o .answer; world = world (o .machine) st m }
 
 -- what a start is
-abbrev pub openingOf : Width → Tables → List ℕ → List ℕ → List ℕ → World → Opened
-openingOf w t bytes name args x = record { answer = startOf w t bytes name args x; world = startLeaves w t bytes name args x }
+abbrev pub openingOf : Program → List ℕ → List ℕ → List ℕ → World → Opened
+openingOf p bytes name args x = record { answer = startOf p bytes name args x; world = startLeaves p bytes name args x }
 
--- the label tables alone
-abbrev pub labelTables : List ℕ → ℕ → List ℕ → Tables
-labelTables l k names = tablesOf [] 0 l k names 0
+-- the labels alone
+abbrev pub labelsAlone : List ℕ → ℕ → List ℕ → Program
+labelsAlone l k names = programFrom Bits32 (tablesOf [] 0 l k names 0)
 
 -- no function of c rows at n
 abbrev pub noFunction : (ℕ → Row) → ℕ → ℕ → Bool
@@ -54,10 +56,10 @@ aimFault f c d k n =
     ifTrue (isData k) (ltb d n) (ifTrue (isFunctionLabel k) (noFunction f c n) (ifEq k placeLabel (leb c n) true))
 
 -- 35 of the rows, then of the labels
-unfoldable pub rowsBroken : Tables → Broken
-rowsBroken t =
-    orElse (lowest (rowFault (rows t) (t .count) (t .dataLength)) (numbersBelow (t .count)))
-    (ifTrue (someBelow (λ i. labelFault (rows t) (t .count) (t .dataLength) (labelsOf t i)) (t .labelCount)) Somewhere No)
+unfoldable pub rowsBroken : Program → Broken
+rowsBroken p =
+    orElse (lowest (rowFault p) (numbersBelow (p .count)))
+    (ifTrue (someBelow (λ i. labelFault p (p .labels i)) (p .labelCount)) Somewhere No)
 
 -- ---- the parts behind the label: function row g, its frame of `size` words, d bytes of data
 
