@@ -39,7 +39,7 @@ use Rattle.vm_definitions.specs.declared.Started.{Started}
 use Rattle.vm_definitions.specs.declared.Started.the-variants.{Begun, Refused, Unsound}
 use Rattle.vm_definitions.proofs.Invariant.{Invariant}
 use Rattle.vm_definitions.proofs.Chain.{invariant-sum, invariant-frame}
-use Rattle.vm_definitions.proofs.Guard.{Low, low-none, low-cons, lowest-none, gate-open, hand-safe, neither}
+use Rattle.vm_definitions.proofs.Guard.{Low, low-none, low-cons, lowest-none, statements-sound, labels-sound, gate-open, hand-safe, neither}
 use Rattle.vm_definitions.proofs.Stores.{store-length}
 use Rattle.vm_definitions.proofs.Causes.{effect-cause}
 use Rattle.vm_definitions.proofs.Listed.{step-listed, step-full, step-full-only}
@@ -68,10 +68,6 @@ module _ (w : Width) (t : Tables) (good : WellFormed (programFrom w t)) (bytes :
   abbrev rowBad : ℕ → Bool
   rowBad = rowFault (programFrom w t)
 
-  counts-whole : countFault (programFrom w t) ≡ false
-  unfolding tablesFault some
-  counts-whole = neither-left (countFault (programFrom w t)) (oneOf (someBelow rowBad (t .count)) (oneOf (someBelow labelBad (t .labelCount)) false)) (tables-sound w t good)
-
   labels-whole : someBelow labelBad (t .labelCount) ≡ false
   unfolding tablesFault some
   labels-whole =
@@ -81,12 +77,13 @@ module _ (w : Width) (t : Tables) (good : WellFormed (programFrom w t)) (bytes :
 
   -- no start gives 35
   start-whole : startBroken (programFrom w t) (length bytes) ≡ No
-  unfolding startBroken orElse
+  unfolding startBroken orElse some
   start-whole =
-      ifTrue-no _ _ (neither (countFault (programFrom w t)) (ltb (length bytes) (t .dataLength)) counts-whole (le-ltb (length bytes) (t .dataLength) lent))
-      ∙ ap (λ (b : Broken). orElse b (ifTrue (someBelow labelBad (t .labelCount)) Somewhere No))
+      ifTrue-no _ _ (statements-sound w t good)
+      ∙ ap (λ (b : Broken). orElse b (ifTrue (oneOf (programFrom w t .labelsPast) (oneOf (ltb (length bytes) (t .dataLength)) (oneOf (someBelow labelBad (t .labelCount)) false))) Somewhere No))
       (lowest-none rowBad (t .count) (row-sound w t good) (numbersBelow (t .count)) (low-below (t .count) (t .count) (omega arith)))
-      ∙ ifTrue-no _ _ labels-whole
+      ∙ ifTrue-no _ _
+      (neither _ _ (labels-sound w t good) (neither _ _ (le-ltb (length bytes) (t .dataLength) lent) (neither _ _ labels-whole refl)))
 
   module _ (name args : List ℕ) (x : World) where
     unfoldable Whole : Started → Type 0

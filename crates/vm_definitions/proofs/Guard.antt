@@ -5,57 +5,50 @@ use mathlib.Core.Bool.{Bool, true, false, not}
 use mathlib.Core.List.{List, [], _∷_, _++_}
 use Prim.Native.Nat.{ℕ, zero, suc, _+_, _<_, _≤_}
 use native.Mathlib.Omega.{arith}
-use borrow.Author.Tests.{eq-eqb, ne-eqb, eqb-true, lt-ltb, ltb-true, le-leb}
+use borrow.Author.Tests.{eq-eqb, ne-eqb, eqb-true, ltb-true, le-leb, le-ltb, lt-leb}
 use lib.Dec.{eqb, ltb, leb}
 use lib.ListN.{getD, length}
 use Rattle.base_prelude.specs.Choice.{ifTrue}
 use Rattle.base_prelude.proofs.Choice.{either, either-eq, either-true, ifTrue-yes, ifTrue-no}
 use Rattle.base_limits.specs.declared.Width.{Width}
 use Rattle.base_limits.specs.declared.Machine.{Machine}
-use Rattle.prog_tables.specs.Tests.{both, oneOf, given, all, some}
+use Rattle.prog_tables.specs.Tests.{both, oneOf, all, some}
 use Rattle.prog_tables.specs.Statement.{Row, isCall}
 use Rattle.prog_tables.specs.Label.{Tables, rows}
 use Rattle.prog_tables.specs.Program.{Program, programFrom}
 use Rattle.prog_tables.specs.Frames.{frameDepth}
-use Rattle.prog_tables.specs.Faults.{inFunction, sizeAt, rowFault, countFault, tablesFault}
-use Rattle.prog_tables.specs.WellFormed.{WellFormed}
-use Rattle.prog_tables.proofs.Each.{both-left, both-right, both-true}
+use Rattle.prog_tables.specs.Faults.{inFunction, sizeAt, rowFault}
+use Rattle.prog_tables.specs.WellFormed.{countsGood, WellFormed}
+use Rattle.prog_tables.proofs.Each.{both-left, both-right, both-true, all-at, counts-good}
 use Rattle.prog_tables.proofs.Sound.{both-false, function-sound}
 use Rattle.prog_tables.proofs.Whole.{row-sound}
-use Rattle.prog_tables.proofs.Unbroken.{tables-sound}
+use Rattle.prog_tables.proofs.Unbroken.{counts, not-true}
 use Rattle.prog_tables.proofs.Sound as sound
 use Rattle.prog_laws.proofs.Words.{end-facts, around-self}
-use Rattle.vm_definitions.specs.Frames.{returnsTo, callerFrame, isFirst, isReturn, isReturnCall, calledFrom, rowsLeft, resumptionOf}
+use Rattle.vm_definitions.specs.Frames.{returnsTo, callerFrame, isFirst, isReturn, isReturnCall, calledFrom, leavesGood, headsLeft, topsLeft, rowsLeft, resumptionOf}
 use Rattle.vm_definitions.specs.Ledger.{Entry, Ledger, popped, sumOf}
-use Rattle.vm_definitions.specs.Broken.{lower, lowest, orElse, nextBad, frameEnds, rowsUsed, recordGood, stepBroken}
+use Rattle.vm_definitions.specs.Broken.{lower, lowest, orElse, nextBad, frameEnds, rowsUsed, nextPast, frameFault, topFault, limitFault, headFault, recordFault, stepBroken}
 use Rattle.vm_definitions.specs.Step.{World, Effect, stops, effectStop, handedTo, handedBy}
 use Rattle.vm_definitions.specs.declared.Broken.{Broken}
 use Rattle.vm_definitions.specs.declared.Broken.the-variants.{No, Somewhere}
 use Rattle.vm_definitions.specs.declared.Resumption.{Resumption}
 use Rattle.vm_definitions.proofs.Invariant.{Invariant}
+use Rattle.vm_definitions.proofs.Seen.{leaves-parts}
 use Rattle.vm_definitions.proofs.Chain.{under-sum, popped-sum, frame-size, head-good, leaves-good, CallerAt, Resumed, ends, to-caller, resumed}
 
 -- ---- tests
-
-pub all-cons : (b : Bool) (bs : List Bool) → b ≡ true → all bs ≡ true → all (b ∷ bs) ≡ true
-unfolding all
-all-cons b bs e d = both-true b (all bs) e d
-
-all-none : all [] ≡ true
-unfolding all
-all-none = refl
-
-pub given-true : (p q : Bool) → (p ≡ true → q ≡ true) → given p q ≡ true
-given-true true q k = k refl
-given-true false q k = refl
 
 pub neither : (p q : Bool) → p ≡ false → q ≡ false → oneOf p q ≡ false
 neither true q e d = e
 neither false q e d = d
 
-not-first : (p q : Bool) → oneOf p q ≡ false → p ≡ false
-not-first true q e = e
-not-first false q e = refl
+none-cons : (b : Bool) (bs : List Bool) → b ≡ false → some bs ≡ false → some (b ∷ bs) ≡ false
+unfolding some
+none-cons b bs e d = neither b (some bs) e d
+
+none-none : some [] ≡ false
+unfolding some
+none-none = refl
 
 -- ---- rows that a step uses
 
@@ -128,9 +121,13 @@ module _ (prog : Program) where
       (λ h. low-none c)
 
 module _ (w : Width) (t : Tables) (ok : WellFormed (programFrom w t)) where
-  count-sound : countFault (programFrom w t) ≡ false
-  unfolding tablesFault some
-  count-sound = not-first (countFault (programFrom w t)) _ (tables-sound w t ok)
+  pub statements-sound : programFrom w t .statementsPast ≡ false
+  unfolding countsGood
+  statements-sound = not-true _ (all-at (counts (programFrom w t)) 3 (counts-good w t ok) (omega arith))
+
+  pub labels-sound : programFrom w t .labelsPast ≡ false
+  unfolding countsGood
+  labels-sound = not-true _ (all-at (counts (programFrom w t)) 4 (counts-good w t ok) (omega arith))
 
   next-sound : (n : ℕ) → n < t .count → (rows t n .kind ≡ 1 → ⊥) → nextBad (rows t) (t .count) n ≡ false
   unfolding nextBad
@@ -154,21 +151,37 @@ module _ (w : Width) (t : Tables) (ok : WellFormed (programFrom w t)) (e : Entry
       (i .frame .blocks (rows t (x .machine .next) .scope) (omega (arith, d .before, i .frame .within)) (d .is-block)
       (around-self (rows t) (t .count) (sound.ok w t ok) frameDepth (rows t (x .machine .next) .scope)))
 
-  pub record-good : recordGood (programFrom w t) (length (x .memory)) (x .machine) (x .stack) ≡ true
-  unfolding recordGood
-  record-good =
-      all-cons _ _ (lt-ltb _ _ (i .frame .within))
-      (all-cons _ _ frame-ends
-      (all-cons _ _ (le-leb _ _ (i .top))
-      (all-cons _ _ (le-leb _ _ (i .short))
-      (all-cons _ _ (le-leb _ _ (i .few))
-      (all-cons _ _ (head-good w t ok (length (x .memory)) (x .stack) (e .call) es (x .machine .frame) (i .under))
-      (all-cons _ _ (given-true (eqb (rows t (x .machine .next) .kind) 4) _ (λ k. le-leb _ _ (saved-top (eqb-true _ _ k))))
-      (all-cons _ _ (given-true (eqb (rows t (x .machine .next) .kind) 12) _ (λ k. le-leb _ _ (i .frame .top)))
-      (all-cons _ _
-      (given-true (isReturn (rows t (x .machine .next))) _
-      (λ k. leaves-good w t ok (length (x .memory)) (x .stack) (e .call) es (suc (x .machine .frame)) (x .machine .frame) (i .under) (i .frame .top) (omega arith)))
-      all-none))))))))
+  leaves : isReturn (rows t (x .machine .next)) ≡ true → leavesGood w (rows t) (t .count) (length (x .memory)) (x .stack) (suc (x .machine .frame)) (x .machine .frame) ≡ true
+  leaves k = leaves-good w t ok (length (x .memory)) (x .stack) (e .call) es (suc (x .machine .frame)) (x .machine .frame) (i .under) (i .frame .top) (omega arith)
+
+  parts : isReturn (rows t (x .machine .next)) ≡ true
+      → both (headsLeft w (rows t) (t .count) (x .stack) (suc (x .machine .frame)) (x .machine .frame))
+      (topsLeft w (rows t) (t .count) (length (x .memory)) (x .stack) (suc (x .machine .frame)) (x .machine .frame)) ≡ true
+  parts k = sym (leaves-parts w (rows t) (t .count) (length (x .memory)) (x .stack) (suc (x .machine .frame)) (x .machine .frame)) ∙ leaves k
+
+  tops-whole : topFault (programFrom w t) (length (x .memory)) (x .machine) (x .stack) ≡ false
+  unfolding topFault
+  tops-whole =
+      none-cons _ _ (le-ltb _ _ (i .top))
+      (none-cons _ _ (both-false (eqb (rows t (x .machine .next) .kind) 4) _ (λ k. le-ltb _ _ (saved-top (eqb-true _ _ k))))
+      (none-cons _ _ (both-false (eqb (rows t (x .machine .next) .kind) 12) _ (λ k. le-ltb _ _ (i .frame .top)))
+      (none-cons _ _ (both-false (isReturn (rows t (x .machine .next))) _ (λ k. ap not (both-right (headsLeft w (rows t) (t .count) (x .stack) (suc (x .machine .frame)) (x .machine .frame)) _ (parts k))))
+      none-none)))
+
+  heads-whole : headFault (programFrom w t) (length (x .memory)) (x .machine) (x .stack) ≡ false
+  unfolding headFault
+  heads-whole =
+      neither _ _ (ap not (head-good w t ok (length (x .memory)) (x .stack) (e .call) es (x .machine .frame) (i .under)))
+      (both-false (isReturn (rows t (x .machine .next))) _ (λ k. ap not (both-left (headsLeft w (rows t) (t .count) (x .stack) (suc (x .machine .frame)) (x .machine .frame)) _ (parts k))))
+
+  pub record-whole : recordFault (programFrom w t) (length (x .memory)) (x .machine) (x .stack) ≡ false
+  unfolding recordFault nextPast frameFault limitFault
+  record-whole =
+      none-cons _ _ (lt-leb _ _ (i .frame .within))
+      (none-cons _ _ (ap not frame-ends)
+      (none-cons _ _ tops-whole
+      (none-cons _ _ (neither _ _ (le-ltb _ _ (i .short)) (le-ltb _ _ (i .few)))
+      (none-cons _ _ heads-whole none-none))))
 
   row-good : (n : ℕ) → n < t .count
       → oneOf (rowFault (programFrom w t) n) (both (eqb n (x .machine .next)) (nextBad (rows t) (t .count) n)) ≡ false
@@ -180,11 +193,11 @@ module _ (w : Width) (t : Tables) (ok : WellFormed (programFrom w t)) (e : Entry
   pub gate-open : stepBroken (programFrom w t) (x .machine) (x .stack) (length (x .memory)) ≡ No
   unfolding stepBroken orElse
   gate-open =
-      ifTrue-no Somewhere _ (count-sound w t ok)
-      ∙ ap (λ (b : Broken). orElse b (ifTrue (recordGood (programFrom w t) (length (x .memory)) (x .machine) (x .stack)) No Somewhere))
+      ifTrue-no Somewhere _ (statements-sound w t ok)
+      ∙ ap (λ (b : Broken). orElse b (ifTrue (oneOf (programFrom w t .labelsPast) (recordFault (programFrom w t) (length (x .memory)) (x .machine) (x .stack))) Somewhere No))
       (lowest-none (λ (n : ℕ). oneOf (rowFault (programFrom w t) n) (both (eqb n (x .machine .next)) (nextBad (rows t) (t .count) n))) (t .count) row-good
       (rowsUsed (programFrom w t) (x .machine) (x .stack)) (used-low (programFrom w t) (x .machine) (x .stack)))
-      ∙ ifTrue-yes No Somewhere record-good
+      ∙ ifTrue-no Somewhere No (neither _ _ (labels-sound w t ok) record-whole)
 
   -- ---- returns
 

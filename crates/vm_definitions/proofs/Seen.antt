@@ -1,15 +1,22 @@
--- What a statement's effect looks at: the width and the rows of the program, not its labels, data or counts. What a row's faults look at.
+-- What a statement's effect looks at: the width and the rows of the program, not its labels, data or counts. What a row's faults look at. The parts
+-- of a good way out.
 -- Assumes nothing.
 use mathlib.Core.Path.{_≡_, refl, ap, _∙_}
-use mathlib.Core.Bool.{Bool}
+use mathlib.Core.Bool.{Bool, true, false}
 use mathlib.Core.List.{List, [], _∷_}
-use Prim.Native.Nat.{ℕ}
+use Prim.Native.Nat.{ℕ, zero, suc}
+use lib.Dec.{leb}
+use Rattle.base_prelude.specs.Choice.{ifTrue}
+use Rattle.base_limits.specs.declared.Width.{Width}
 use Rattle.base_limits.specs.declared.Width.the-variants.{Bits32}
+use Rattle.prog_tables.specs.Tests.{both}
+use Rattle.prog_tables.specs.Statement.{Row}
 use Rattle.prog_tables.specs.Label.{Label}
 use Rattle.prog_tables.specs.Program.{Program, programFrom, lentProgram}
 use Rattle.prog_tables.specs.Faults.{kindFault, targetFault, calleeFault, sizeFault, wordFault, operandsFault, addressFault, rowFault}
 use Rattle.vm_definitions.specs.Lent.{tablesOf}
 use Rattle.vm_definitions.specs.Broken.{lowest}
+use Rattle.vm_definitions.specs.Frames.{callerFrame, topAtEntry, headGood, passesOn, leavesGood, headsLeft, topsLeft}
 use Rattle.vm_definitions.specs.Operands.{Words, words, bad}
 use Rattle.vm_definitions.specs.Step.{World, goesTo, keeps, stores, blockOf, endBlockOf, testOf, workedOf, assigned, assignedAt, setAtOf, setByteBy, setWordBy, argumentsOf, callBy, callOf, tailCallBy, handedTo, handedBy, returned, returnOf, effectOf}
 use Rattle.vm_definitions.specs.declared.Worked.{Worked}
@@ -104,3 +111,23 @@ module _ (t : List ℕ) (c : ℕ) (l : List ℕ) (k : ℕ) (names : List ℕ) (d
 
   pub lowest-seen : (is : List ℕ) → lowest (rowFault (programFrom Bits32 (tablesOf t c l k names d))) is ≡ lowest (rowFault (lentProgram t c l k d)) is
   lowest-seen is = lowest-same _ _ row-seen is
+
+-- ---- the frames that a return leaves: heads and auto tops
+
+leaves-mixed : (h t p a b : Bool) → both h (both t (ifTrue p (both a b) true)) ≡ both (both h (ifTrue p a true)) (both t (ifTrue p b true))
+unfolding ifTrue
+leaves-mixed false t p a b = refl
+leaves-mixed true true true a b = refl
+leaves-mixed true true false a b = refl
+leaves-mixed true false true true b = refl
+leaves-mixed true false true false b = refl
+leaves-mixed true false false a b = refl
+
+pub leaves-parts : (w : Width) (f : ℕ → Row) (c m : ℕ) (st : List ℕ) (fuel s : ℕ)
+    → leavesGood w f c m st fuel s ≡ both (headsLeft w f c st fuel s) (topsLeft w f c m st fuel s)
+unfolding leavesGood headsLeft topsLeft
+leaves-parts w f c m st zero s = refl
+leaves-parts w f c m st (suc fuel) s =
+    ap (λ (v : Bool). both (headGood w f c st s) (both (leb (topAtEntry st s) m) (ifTrue (passesOn w f c st s) v true)))
+    (leaves-parts w f c m st fuel (callerFrame st s))
+    ∙ leaves-mixed (headGood w f c st s) (leb (topAtEntry st s) m) (passesOn w f c st s) _ _

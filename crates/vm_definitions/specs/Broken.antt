@@ -10,11 +10,11 @@ use Rattle.base_limits.specs.Limits.{stackWords}
 use Rattle.base_limits.specs.Width.{memoryLimit}
 use Rattle.base_limits.specs.declared.Machine.{Machine}
 use Rattle.lang_kinds.specs.Kinds as kind
-use Rattle.prog_tables.specs.Tests.{both, oneOf, given, all, someBelow}
+use Rattle.prog_tables.specs.Tests.{both, oneOf, some, someBelow}
 use Rattle.prog_tables.specs.Statement.{Row, isCall}
 use Rattle.prog_tables.specs.Program.{Program}
-use Rattle.prog_tables.specs.Faults.{inFunction, sizeAt, rowFault, labelFault, countFault}
-use Rattle.vm_definitions.specs.Frames.{topAtEntry, isReturn, headGood, leavesGood, rowsLeft}
+use Rattle.prog_tables.specs.Faults.{inFunction, sizeAt, rowFault, labelFault}
+use Rattle.vm_definitions.specs.Frames.{topAtEntry, isReturn, headGood, headsLeft, topsLeft, rowsLeft}
 use Rattle.vm_definitions.specs.declared.Broken.{Broken}
 use Rattle.vm_definitions.specs.declared.Broken.the-variants.{No, At, Somewhere}
 
@@ -38,11 +38,11 @@ orElse Somewhere x = Somewhere
 
 -- ---- a step
 
--- "a next statement on a `function` line or in no function"
+-- "a next statement on a `function` line or in no function", of a statement among the rows: its place is that statement
 unfoldable pub nextBad : (ℕ → Row) → ℕ → ℕ → Bool
 nextBad f c n = oneOf (eqb (f n .kind) kind.function) (not (inFunction f c n))
 
--- "a frame that doesn't end at the stack in use or lies past the lent stack", turned round: s words
+-- the frame in use ends at the stack in use, within s words
 unfoldable pub frameEnds : (ℕ → Row) → ℕ → Machine → ℕ → Bool
 frameEnds f c r s = both (eqb (r .frame + sizeAt f c (r .next)) (r .used)) (leb (r .used) s)
 
@@ -58,28 +58,51 @@ rowsUsed p r st =
     (rowsLeft (p .width) (p .rows) (p .count) st (suc (r .frame)) (r .frame)) [])))
     []
 
--- the record, its frames, and the lent stack and memory: m bytes
-unfoldable pub recordGood : Program → ℕ → Machine → List ℕ → Bool
-recordGood p m r st =
-    all
-    (ltb (r .next) (p .count)
-    ∷ frameEnds (p .rows) (p .count) r (length st)
-    ∷ leb (r .top) m
-    ∷ leb m (memoryLimit (p .width))
-    ∷ leb (length st) stackWords
-    ∷ headGood (p .width) (p .rows) (p .count) st (r .frame)
-    ∷ given (eqb (p .rows (r .next) .kind) kind.endBlock) (leb (getD st (r .frame + p .rows (r .next) .a) 0) m)
-    ∷ given (eqb (p .rows (r .next) .kind) kind.tailCall) (leb (topAtEntry st (r .frame)) m)
-    ∷ given (isReturn (p .rows (r .next))) (leavesGood (p .width) (p .rows) (p .count) m st (suc (r .frame)) (r .frame))
-    ∷ [])
+-- causes beside the rows: the record, its frames, and the lent stack and memory of m bytes
+module _ (p : Program) (m : ℕ) (r : Machine) (st : List ℕ) where
+  abbrev nextRow : Row
+  nextRow = p .rows (r .next)
 
--- 35 of a step
+  -- "a next statement [..] in no function": past the rows
+  unfoldable pub nextPast : Bool
+  nextPast = leb (p .count) (r .next)
+
+  -- "a frame that doesn't end at the stack in use or lies past the lent stack"
+  unfoldable pub frameFault : Bool
+  frameFault = not (frameEnds (p .rows) (p .count) r (length st))
+
+  -- "an auto top (held or about to be restored) above the memory's length": m bytes; restored by `end block`, by `tail-call`, and
+  -- by a return from each frame it leaves
+  unfoldable pub topFault : Bool
+  topFault =
+      some
+      (ltb m (r .top)
+      ∷ both (eqb (nextRow .kind) kind.endBlock) (ltb m (getD st (r .frame + nextRow .a) 0))
+      ∷ both (eqb (nextRow .kind) kind.tailCall) (ltb m (topAtEntry st (r .frame)))
+      ∷ both (isReturn nextRow) (not (topsLeft (p .width) (p .rows) (p .count) m st (suc (r .frame)) (r .frame)))
+      ∷ [])
+
+  -- "a memory or stack over the limits"
+  unfoldable pub limitFault : Bool
+  limitFault = oneOf (ltb (memoryLimit (p .width)) m) (ltb stackWords (length st))
+
+  -- "in the frame in use and each a return leaves, the first's two marks aside, a place to return to that is no call or a caller's
+  -- frame that doesn't end where this one starts"
+  unfoldable pub headFault : Bool
+  headFault =
+      oneOf (not (headGood (p .width) (p .rows) (p .count) st (r .frame)))
+      (both (isReturn nextRow) (not (headsLeft (p .width) (p .rows) (p .count) st (suc (r .frame)) (r .frame))))
+
+  -- the record is broken
+  unfoldable pub recordFault : Bool
+  recordFault = some (nextPast ∷ frameFault ∷ topFault ∷ limitFault ∷ headFault ∷ [])
+
+-- 35 of a step. "a label row or count past its table": without statements no row can be judged
 unfoldable pub stepBroken : Program → Machine → List ℕ → ℕ → Broken
 stepBroken p r st m =
-    ifTrue (countFault p) Somewhere
-    (orElse
-    (lowest (λ i. oneOf (rowFault p i) (both (eqb i (r .next)) (nextBad (p .rows) (p .count) i))) (rowsUsed p r st))
-    (ifTrue (recordGood p m r st) No Somewhere))
+    ifTrue (p .statementsPast) Somewhere
+    (orElse (lowest (λ i. oneOf (rowFault p i) (both (eqb i (r .next)) (nextBad (p .rows) (p .count) i))) (rowsUsed p r st))
+    (ifTrue (oneOf (p .labelsPast) (recordFault p m r st)) Somewhere No))
 
 -- ---- a start: "Start reads all rows"
 
@@ -91,6 +114,6 @@ numbersBelow (suc n) = n ∷ numbersBelow n
 -- 35 of a start, d bytes of data being lent
 unfoldable pub startBroken : Program → ℕ → Broken
 startBroken p d =
-    ifTrue (oneOf (countFault p) (ltb d (p .dataLength))) Somewhere
+    ifTrue (p .statementsPast) Somewhere
     (orElse (lowest (rowFault p) (numbersBelow (p .count)))
-    (ifTrue (someBelow (λ i. labelFault p (p .labels i)) (p .labelCount)) Somewhere No))
+    (ifTrue (some (p .labelsPast ∷ ltb d (p .dataLength) ∷ someBelow (λ i. labelFault p (p .labels i)) (p .labelCount) ∷ [])) Somewhere No))

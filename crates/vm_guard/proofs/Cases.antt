@@ -19,11 +19,11 @@ use Rattle.prog_tables.specs.Statement.{Row, hasExpression, isCall}
 use Rattle.prog_tables.specs.Program.{Program}
 use Rattle.prog_tables.specs.Faults.{inFunction, sizeAt, rowFault}
 use Rattle.vm_definitions.specs.Frames.{mark, isFirst, isReturnCall, isReturn, isCalling, calledFrom, headGood, passesOn, leavesGood, rowsLeft, resumptionOf}
-use Rattle.vm_definitions.specs.Broken.{lower, lowest, orElse, nextBad, frameEnds, rowsUsed, recordGood}
+use Rattle.vm_definitions.specs.Broken.{lower, lowest, orElse, nextBad, frameEnds, rowsUsed}
 use Rattle.vm_definitions.specs.declared.Resumption.the-variants.{Ends, Caller}
 use Rattle.vm_definitions.specs.declared.Broken.{Broken}
 use Rattle.vm_definitions.specs.declared.Broken.the-variants.{No, At, Somewhere}
-use Rattle.vm_guard.specs.Guard.{rowBad, withinBroken, marked, callMarked, leftBroken, calleeMarked, functionMarked, shapeGood, keptGood}
+use Rattle.vm_guard.specs.Guard.{rowBad, recordGood, withinBroken, marked, callMarked, leftBroken, calleeMarked, functionMarked, shapeGood, keptGood}
 
 both-no : (p : Bool) → both p false ≡ false
 both-no true = refl

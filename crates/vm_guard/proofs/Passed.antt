@@ -1,38 +1,137 @@
 -- What a step that is not refused knows; and a good return resumes behind a call of the table, below the frame left.
 -- Assumes nothing.
-use mathlib.Core.Path.{_≡_, refl, sym}
+use mathlib.Core.Path.{_≡_, refl, sym, _∙_, ap}
 use mathlib.Core.Bool.{Bool, true, false, not}
 use mathlib.Core.List.{List, [], _∷_}
 use Prim.Native.Nat.{ℕ, zero, suc, _+_, _<_, _≤_}
+use native.Mathlib.Decide.{decLt}
 use native.Mathlib.Omega.{arith}
 use lib.ListN.{length, getD}
 use lib.Dec.{eqb, ltb, leb}
-use borrow.Author.Tests.{eqb-true, ltb-true, leb-true, lt-ltb}
+use borrow.Author.Tests.{eqb-true, ltb-true, leb-true, lt-ltb, le-ltb, le-leb, lt-leb}
 use Rattle.base_prelude.specs.Choice.{ifLt, ifTrue}
 use Rattle.base_prelude.proofs.Choice.{true-false}
+use Rattle.base_limits.specs.Limits.{stackWords}
+use Rattle.base_limits.specs.Width.{memoryLimit}
 use Rattle.base_limits.specs.declared.Width.{Width}
 use Rattle.base_limits.specs.declared.Width.the-variants.{Bits32}
 use Rattle.base_limits.specs.declared.Machine.{Machine}
+use Rattle.lang_kinds.specs.Kinds as kind
 use Rattle.prog_tables.specs.Tests.{both, oneOf, given, all, some}
 use Rattle.prog_tables.specs.Statement.{Row, rowAt, hasExpression, isCall}
 use Rattle.prog_tables.specs.Program.{Program, programFrom, lentProgram}
 use Rattle.prog_tables.specs.Nesting.{isListed}
-use Rattle.prog_tables.specs.Faults.{expressionListed, inFunction, sizeAt, kindFault, targetFault, calleeFault, sizeFault, wordFault, operandsFault, addressFault, rowFault, countFault}
+use Rattle.prog_tables.specs.Faults.{expressionListed, inFunction, sizeAt, kindFault, targetFault, calleeFault, sizeFault, wordFault, operandsFault, addressFault, rowFault}
 use Rattle.prog_tables.proofs.Each.{both-left, both-right, given-then, all-at}
-use Rattle.vm_definitions.specs.Frames.{returnsTo, callerFrame, topAtEntry, isFirst, isReturn, isCalling, calledFrom, headGood, passesOn, leavesGood, resumptionOf}
+use Rattle.vm_definitions.specs.Frames.{returnsTo, callerFrame, topAtEntry, isFirst, isReturn, isCalling, calledFrom, headGood, passesOn, leavesGood, headsLeft, topsLeft, resumptionOf}
 use Rattle.vm_definitions.specs.Lent.{tablesOf}
-use Rattle.vm_definitions.specs.Broken.{lower, lowest, orElse, frameEnds, rowsUsed, recordGood, stepBroken}
+use Rattle.vm_definitions.specs.Broken.{lower, lowest, orElse, frameEnds, rowsUsed, nextPast, frameFault, topFault, limitFault, headFault, recordFault, stepBroken}
 use Rattle.vm_definitions.specs.declared.Resumption.the-variants.{Ends, Caller}
 use Rattle.vm_definitions.specs.declared.Broken.{Broken}
 use Rattle.vm_definitions.specs.declared.Broken.the-variants.{No, At, Somewhere}
-use Rattle.vm_guard.specs.Guard.{rowBad, withinBroken}
+use Rattle.vm_definitions.proofs.Seen.{leaves-parts}
+use Rattle.vm_guard.specs.Guard.{rowBad, recordGood, withinBroken}
 use Rattle.vm_guard.specs.Passed.{Passed}
 use Rattle.prog_tables.proofs.Each.{one-no, one-rest}
 
--- refusal 35 of a step: the counts, then the rest
-pub step-broken : (p : Program) (r : Machine) (st : List ℕ) (m : ℕ) → stepBroken p r st m ≡ ifTrue (countFault p) Somewhere (withinBroken p r st m)
+-- ---- refusal 35 of a step: the counts of statements, then the rows and the record, then the counts of labels
+
+at-most : (a b : ℕ) → ltb b a ≡ not (leb a b)
+at-most a b =
+    elim (decLt b a) [
+      | yes h ↦ lt-ltb b a h ∙ ap not (sym (lt-leb a b h))
+      | no h ↦ le-ltb b a (omega (arith, h)) ∙ ap not (sym (le-leb a b (omega (arith, h))))
+    ]
+
+below : (a b : ℕ) → leb b a ≡ not (ltb a b)
+below a b =
+    elim (decLt a b) [
+      | yes h ↦ lt-leb b a h ∙ ap not (sym (lt-ltb a b h))
+      | no h ↦ le-leb b a (omega (arith, h)) ∙ ap not (sym (le-ltb a b (omega (arith, h))))
+    ]
+
+where-asked : (p q : Bool) → both p (not q) ≡ not (given p q)
+where-asked true q = refl
+where-asked false q = refl
+
+given-both : (p a b : Bool) → given p (both a b) ≡ both (given p a) (given p b)
+given-both true a b = refl
+given-both false a b = refl
+
+-- no test of the record fails exactly when every one passes
+record-tests : (a b c d e f g i j k : Bool)
+    → some (not a ∷ not b ∷ some (not c ∷ not d ∷ not e ∷ not f ∷ []) ∷ oneOf (not g) (not i) ∷ oneOf (not j) (not k) ∷ [])
+    ≡ not (all (a ∷ b ∷ c ∷ g ∷ i ∷ j ∷ d ∷ e ∷ both k f ∷ []))
+unfolding some all
+record-tests false b c d e f g i j k = refl
+record-tests true false c d e f g i j k = refl
+record-tests true true false d e f g i j k = refl
+record-tests true true true false e f true true true k = refl
+record-tests true true true false e f true true false k = refl
+record-tests true true true false e f true false j k = refl
+record-tests true true true false e f false i j k = refl
+record-tests true true true true false f true true true k = refl
+record-tests true true true true false f true true false k = refl
+record-tests true true true true false f true false j k = refl
+record-tests true true true true false f false i j k = refl
+record-tests true true true true true false true true true true = refl
+record-tests true true true true true false true true true false = refl
+record-tests true true true true true false true true false k = refl
+record-tests true true true true true false true false j k = refl
+record-tests true true true true true false false i j k = refl
+record-tests true true true true true true false i j k = refl
+record-tests true true true true true true true false j k = refl
+record-tests true true true true true true true true false k = refl
+record-tests true true true true true true true true true false = refl
+record-tests true true true true true true true true true true = refl
+
+module _ (p : Program) (m : ℕ) (r : Machine) (st : List ℕ) where
+  abbrev row : Row
+  row = p .rows (r .next)
+
+  abbrev heads : Bool
+  heads = headsLeft (p .width) (p .rows) (p .count) st (suc (r .frame)) (r .frame)
+
+  abbrev tops : Bool
+  tops = topsLeft (p .width) (p .rows) (p .count) m st (suc (r .frame)) (r .frame)
+
+  pub record-fault : recordFault p m r st ≡ not (recordGood p m r st)
+  unfolding recordFault nextPast frameFault topFault limitFault headFault recordGood
+  record-fault =
+      rw (
+        below (r .next) (p .count),
+        at-most (r .top) m,
+        at-most (getD st (r .frame + row .a) 0) m,
+        at-most (topAtEntry st (r .frame)) m,
+        at-most m (memoryLimit (p .width)),
+        at-most (length st) stackWords,
+        where-asked (eqb (row .kind) kind.endBlock) (leb (getD st (r .frame + row .a) 0) m),
+        where-asked (eqb (row .kind) kind.tailCall) (leb (topAtEntry st (r .frame)) m),
+        where-asked (isReturn row) tops,
+        where-asked (isReturn row) heads,
+        leaves-parts (p .width) (p .rows) (p .count) m st (suc (r .frame)) (r .frame),
+        given-both (isReturn row) heads tops,
+      )
+      (record-tests (ltb (r .next) (p .count)) (frameEnds (p .rows) (p .count) r (length st)) (leb (r .top) m)
+      (given (eqb (row .kind) kind.endBlock) (leb (getD st (r .frame + row .a) 0) m)) (given (eqb (row .kind) kind.tailCall) (leb (topAtEntry st (r .frame)) m))
+      (given (isReturn row) tops) (leb m (memoryLimit (p .width))) (leb (length st) stackWords) (headGood (p .width) (p .rows) (p .count) st (r .frame)) (given (isReturn row) heads))
+
+then-labels : (x : Broken) (a b : Bool) → orElse x (ifTrue (oneOf a (not b)) Somewhere No) ≡ orElse (orElse x (ifTrue b No Somewhere)) (ifTrue a Somewhere No)
+unfolding orElse ifTrue
+then-labels No true true = refl
+then-labels No true false = refl
+then-labels No false true = refl
+then-labels No false false = refl
+then-labels (At i) a b = refl
+then-labels Somewhere a b = refl
+
+pub step-broken : (p : Program) (r : Machine) (st : List ℕ) (m : ℕ)
+    → stepBroken p r st m ≡ ifTrue (p .statementsPast) Somewhere (orElse (withinBroken p r st m) (ifTrue (p .labelsPast) Somewhere No))
 unfolding stepBroken withinBroken rowBad
-step-broken p r st m = refl
+step-broken p r st m =
+    ap (λ (b : Bool). ifTrue (p .statementsPast) Somewhere (orElse (lowest (rowBad p (r .next)) (rowsUsed p r st)) (ifTrue (oneOf (p .labelsPast) b) Somewhere No)))
+    (record-fault p m r st)
+    ∙ ap (ifTrue (p .statementsPast) Somewhere) (then-labels (lowest (rowBad p (r .next)) (rowsUsed p r st)) (p .labelsPast) (recordGood p m r st))
 
 -- the names of the labels and the counts do not matter to the rest
 pub within-lent : (t : List ℕ) (c : ℕ) (l : List ℕ) (k : ℕ) (names : List ℕ) (d : ℕ) (r : Machine) (st : List ℕ) (m : ℕ)

@@ -15,14 +15,29 @@ use Rattle.prog_tables.specs.Tests.{both, oneOf, given, all}
 use Rattle.prog_tables.specs.Statement.{Row, isCall}
 use Rattle.prog_tables.specs.Program.{Program}
 use Rattle.prog_tables.specs.Faults.{inFunction, rowFault}
-use Rattle.vm_definitions.specs.Frames.{topAtEntry, isReturn, leavesGood, rowsLeft}
-use Rattle.vm_definitions.specs.Broken.{lower, lowest, orElse, nextBad, frameEnds, rowsUsed, recordGood}
+use Rattle.vm_definitions.specs.Frames.{topAtEntry, isReturn, headGood, leavesGood, rowsLeft}
+use Rattle.vm_definitions.specs.Broken.{lower, lowest, orElse, nextBad, frameEnds, rowsUsed}
 use Rattle.vm_definitions.specs.declared.Broken.{Broken}
 use Rattle.vm_definitions.specs.declared.Broken.the-variants.{No, Somewhere}
 
 -- a row that a step uses is bad: broken, or the next statement on a `function` line or in no function
 unfoldable pub rowBad : Program → ℕ → ℕ → Bool
 rowBad p next i = oneOf (rowFault p i) (both (eqb i next) (nextBad (p .rows) (p .count) i))
+
+-- the record, its frames, and the lent stack and memory, of m bytes, are good: no cause of `recordFault`
+unfoldable pub recordGood : Program → ℕ → Machine → List ℕ → Bool
+recordGood p m r st =
+    all
+    (ltb (r .next) (p .count)
+    ∷ frameEnds (p .rows) (p .count) r (length st)
+    ∷ leb (r .top) m
+    ∷ leb m (memoryLimit (p .width))
+    ∷ leb (length st) stackWords
+    ∷ headGood (p .width) (p .rows) (p .count) st (r .frame)
+    ∷ given (eqb (p .rows (r .next) .kind) kind.endBlock) (leb (getD st (r .frame + p .rows (r .next) .a) 0) m)
+    ∷ given (eqb (p .rows (r .next) .kind) kind.tailCall) (leb (topAtEntry st (r .frame)) m)
+    ∷ given (isReturn (p .rows (r .next))) (leavesGood (p .width) (p .rows) (p .count) m st (suc (r .frame)) (r .frame))
+    ∷ [])
 
 -- 35 of a step, the counts of the tables being good
 unfoldable pub withinBroken : Program → Machine → List ℕ → ℕ → Broken

@@ -14,9 +14,9 @@ ghost use Rattle.prog_tables.specs.Program.{lentProgram};
 ghost use Rattle.prog_tables.specs.Faults.{sizeAt};
 ghost use Rattle.prog_tables.specs.Layout.{statementRow};
 ghost use Rattle.vm_definitions.specs.Frames.{isFirst, isReturnCall, isReturn, isCalling, calledFrom, headGood, passesOn, leavesGood, rowsLeft, resumptionOf, returnsTo, callerFrame, topAtEntry};
-ghost use Rattle.vm_definitions.specs.Broken.{lower, lowest, nextBad, frameEnds, rowsUsed, recordGood};
+ghost use Rattle.vm_definitions.specs.Broken.{lower, lowest, nextBad, frameEnds, rowsUsed};
 ghost use Rattle.vm_guard.specs.FrameInUse.{frameGood, goodFrameSize};
-ghost use Rattle.vm_guard.specs.Guard.{rowBad, withinBroken, marked, callMarked, leftBroken, calleeMarked, functionMarked, shapeGood, keptGood};
+ghost use Rattle.vm_guard.specs.Guard.{rowBad, recordGood, withinBroken, marked, callMarked, leftBroken, calleeMarked, functionMarked, shapeGood, keptGood};
 
 // Whether row n is `return call`.
 pub fn is_return_call(t: &[u32], n: u32) -> bool

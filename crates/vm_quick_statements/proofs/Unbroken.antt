@@ -17,10 +17,10 @@ use Rattle.prog_tables.specs.Statement.{Row, isCall, rowAt}
 use Rattle.prog_tables.specs.Program.{Program, lentProgram}
 use Rattle.prog_tables.specs.Faults.{inFunction, sizeAt, rowFault}
 use Rattle.vm_definitions.specs.Frames.{topAtEntry, isReturn, headGood, leavesGood, rowsLeft}
-use Rattle.vm_definitions.specs.Broken.{lowest, orElse, nextBad, frameEnds, rowsUsed, recordGood}
+use Rattle.vm_definitions.specs.Broken.{lowest, orElse, nextBad, frameEnds, rowsUsed}
 use Rattle.vm_definitions.specs.declared.Broken.{Broken}
 use Rattle.vm_definitions.specs.declared.Broken.the-variants.{No, At, Somewhere}
-use Rattle.vm_guard.specs.Guard.{rowBad, withinBroken}
+use Rattle.vm_guard.specs.Guard.{rowBad, recordGood, withinBroken}
 use Rattle.vm_quick_operands.proofs.Good.{Function, function-good, row-within, row-size}
 use Rattle.vm_quick_statements.proofs.Right.{InFrame, Went}
 use Rattle.prog_tables.proofs.Each.{both-false}

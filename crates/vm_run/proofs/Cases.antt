@@ -9,8 +9,9 @@ use lib.ListN.{length}
 use lib.Dec.{eqb}
 use lib.Dec.{ltb}
 use borrow.Author.Tests.{eq-eqb, ne-eqb, lt-ltb, le-ltb, ltb-false}
+use Rattle.prog_tables.specs.Tests.{oneOf}
 use Rattle.base_prelude.specs.Choice.{ifLt, ifEq, ifTrue}
-use Rattle.base_prelude.proofs.Choice.{ifEq-yes, ifEq-no, ifTrue-yes, ifTrue-no}
+use Rattle.base_prelude.proofs.Choice.{true-false, ifEq-yes, ifEq-no, ifTrue-yes, ifTrue-no}
 use Rattle.base_limits.specs.declared.Width.the-variants.{Bits32}
 use Rattle.base_limits.specs.declared.State.{State}
 use Rattle.base_limits.specs.declared.State.the-variants.{Running, Finished, Stopped}
@@ -24,7 +25,7 @@ use Rattle.vm_guard.specs.Guard.{withinBroken}
 use Rattle.vm_guard.specs.Passed.{Passed}
 use Rattle.vm_guard.proofs.Passed.{passed, step-broken, within-lent}
 use Rattle.vm_definitions.proofs.Seen.{effect-seen}
-use Rattle.vm_definitions.specs.Broken.{stepBroken}
+use Rattle.vm_definitions.specs.Broken.{orElse, stepBroken}
 use Rattle.vm_definitions.specs.Step.{World, After, Effect, idle, guarded, inState, effected, counting, effectOf, stepOf, runOf}
 use Rattle.vm_definitions.specs.Lent.{tablesOf, world, left}
 use Rattle.vm_definitions.specs.declared.Outcome.{Outcome}
@@ -42,7 +43,7 @@ use Rattle.vm_quick_calls.specs.declared.Transfer.{Transfer}
 use Rattle.vm_quick_calls.specs.declared.Transfer.the-variants.{To, Stays}
 use Rattle.vm_run.specs.Steps.{usableSize, after, endBy, plainRunEnd, stepsInFrameBy, stepsInFrame, someSteps}
 use Rattle.vm_run.proofs.Several.{count-none, count-add, usable-good, Several, several}
-use Rattle.vm_run.specs.Within.{givenBack, isRunning, takenStep, withinStep, withinRun}
+use Rattle.vm_run.specs.Within.{givenBack, isRunning, countsBroken, takenStep, withinStep, withinRun}
 use Rattle.prog_tables.proofs.Each.{one-no}
 
 -- ---- a running record's step
@@ -233,6 +234,53 @@ pub ruleset running = (running-none, running-more, running-ends, running-done)
 
 -- ---- the counts of the tables
 
+module _ (t : List ℕ) (c : ℕ) (lw : List ℕ) (lc d : ℕ) (r : Machine) (st : List ℕ) (m : ℕ) (v : Bool) (e : v ≡ ltb (length t) (c * 27)) where
+  pub counts-past : v ≡ true → Somewhere ≡ countsBroken t c lw lc d r st m
+  unfolding countsBroken ifTrue
+  counts-past h = rw (← e, h)
+
+  module _ (b : Broken) (h : v ≡ false) (q : b ≡ withinBroken (lentProgram t c lw lc d) r st m) where
+    pub counts-none : b ≡ No → Somewhere ≡ countsBroken t c lw lc d r st m
+    unfolding countsBroken ifTrue orElse
+    counts-none o = rw (← e, h, ← q, o)
+
+    pub counts-at : (i : ℕ) → b ≡ At i → At i ≡ countsBroken t c lw lc d r st m
+    unfolding countsBroken ifTrue orElse
+    counts-at i o = rw (← e, h, ← q, o)
+
+    pub counts-somewhere : b ≡ Somewhere → Somewhere ≡ countsBroken t c lw lc d r st m
+    unfolding countsBroken ifTrue orElse
+    counts-somewhere o = rw (← e, h, ← q, o)
+
+pub ruleset counts-ways = (counts-past, counts-none, counts-at, counts-somewhere)
+
+-- a refusal that is some refusal changes nothing
+guarded-broken : (x : World) (f : Effect) (a : Bool) (y : Broken)
+    → guarded x f (ifTrue a Somewhere (orElse y Somewhere)) ≡ idle x (ifTrue a Somewhere (orElse y Somewhere))
+unfolding guarded ifTrue orElse
+guarded-broken x f true y = refl
+guarded-broken x f false No = refl
+guarded-broken x f false (At i) = refl
+guarded-broken x f false Somewhere = refl
+
+counts-bad : (a b : Bool) (x : Broken) → oneOf a b ≡ true → ifTrue a Somewhere (orElse x (ifTrue b Somewhere No)) ≡ ifTrue a Somewhere (orElse x Somewhere)
+unfolding ifTrue
+counts-bad true b x e = refl
+counts-bad false true x e = refl
+counts-bad false false x e = true-false (sym e)
+
+or-none : (x : Broken) → orElse x No ≡ x
+unfolding orElse
+or-none No = refl
+or-none (At i) = refl
+or-none Somewhere = refl
+
+counts-fine : (a b : Bool) (x : Broken) → oneOf a b ≡ false → ifTrue a Somewhere (orElse x (ifTrue b Somewhere No)) ≡ x
+unfolding ifTrue
+counts-fine true b x e = true-false e
+counts-fine false true x e = true-false e
+counts-fine false false x e = or-none x
+
 in-state : (s : State) (y z : After) → inState s y z ≡ ifTrue (isRunning s) y z
 unfolding inState isRunning ifTrue
 in-state Running y z = refl
@@ -243,6 +291,10 @@ module _ (t : List ℕ) (c : ℕ) (l : List ℕ) (k : ℕ) (names : List ℕ) (d
   abbrev T : Program
   T = programFrom Bits32 (tablesOf t c l k names d)
 
+  count-of : {b : Bool} → countFault T ≡ b → oneOf (T .statementsPast) (T .labelsPast) ≡ b
+  unfolding countFault
+  count-of e = e
+
   -- a step where the counts are good
   step-is : (x : World) → countFault T ≡ false → stepOf T x ≡ withinStep t c l k d x
   unfolding stepOf withinStep takenStep ifTrue
@@ -250,7 +302,7 @@ module _ (t : List ℕ) (c : ℕ) (l : List ℕ) (k : ℕ) (names : List ℕ) (d
       in-state (x .machine .state) _ _
       ∙ ap (λ (b : Broken). ifTrue (isRunning (x .machine .state)) (guarded x (effectOf T x) b) (idle x No))
       (step-broken T (x .machine) (x .stack) (length (x .memory))
-      ∙ ifTrue-no Somewhere (withinBroken T (x .machine) (x .stack) (length (x .memory))) e
+      ∙ counts-fine (T .statementsPast) (T .labelsPast) (withinBroken T (x .machine) (x .stack) (length (x .memory))) (count-of e)
       ∙ within-lent t c l k names d (x .machine) (x .stack) (length (x .memory)))
       ∙ ap
       (λ (f : Effect). ifTrue (isRunning (x .machine .state)) (guarded x f (withinBroken (lentProgram t c l k d) (x .machine) (x .stack) (length (x .memory)))) (idle x No))
@@ -284,19 +336,24 @@ module _ (t : List ℕ) (c : ℕ) (l : List ℕ) (k : ℕ) (names : List ℕ) (d
       fault : countFault T ≡ f
       fault = sym (g ∙ count-any t c l k names d)
 
-      pub step-fault : (o : Outcome) → f ≡ true → o ≡ givenBack r Somewhere → left o st m ≡ stepOf T (world r st m)
-      unfolding stepOf idle guarded
+      pub step-fault : (o : Outcome) → f ≡ true → o ≡ givenBack r (countsBroken t c l k d r st (length m)) → left o st m ≡ stepOf T (world r st m)
+      unfolding stepOf idle countsBroken
       step-fault o i q =
           ap (λ (z : Outcome). left z st m) q
+          ∙ sym (guarded-broken (world r st m) (effectOf T (world r st m)) (T .statementsPast) (withinBroken (lentProgram t c l k d) r st (length m)))
+          ∙ ap (λ (b : Broken). guarded (world r st m) (effectOf T (world r st m)) (ifTrue (T .statementsPast) Somewhere (orElse b Somewhere)))
+          (sym (within-lent t c l k names d r st (length m)))
           ∙ ap (guarded (world r st m) (effectOf T (world r st m)))
-          (sym (step-broken T r st (length m) ∙ ifTrue-yes Somewhere (withinBroken T r st (length m)) (fault ∙ i)))
+          (sym
+          (step-broken T r st (length m)
+          ∙ counts-bad (T .statementsPast) (T .labelsPast) (withinBroken T r st (length m)) (count-of (fault ∙ i))))
           ∙ sym (in-state (r .state) _ _ ∙ ifTrue-yes _ (idle (world r st m) No) (sym e ∙ h))
 
       pub step-within : (o : Outcome) (st′ m′ : List ℕ) → f ≡ false → left o st′ m′ ≡ takenStep t c l k d (world r st m) → left o st′ m′ ≡ stepOf T (world r st m)
       unfolding withinStep
       step-within o st′ m′ i q = q ∙ sym (step-is (world r st m) (fault ∙ i) ∙ ifTrue-yes (takenStep t c l k d (world r st m)) (idle (world r st m) No) (sym e ∙ h))
 
-      pub run-fault : (budget : ℕ) (o : Outcome) → (budget ≡ 0 → ⊥) → f ≡ true → o ≡ givenBack r Somewhere → left o st m ≡ runOf T budget (world r st m)
+      pub run-fault : (budget : ℕ) (o : Outcome) → (budget ≡ 0 → ⊥) → f ≡ true → o ≡ givenBack r (countsBroken t c l k d r st (length m)) → left o st m ≡ runOf T budget (world r st m)
       run-fault budget o n i q =
           step-fault o i q ∙ sym (run-still budget (world r st m) (ap (λ (y : After). y .count) (sym (step-fault o i q)) ∙ ap (λ (z : Outcome). z .count) q) n)
 

@@ -13,7 +13,7 @@ ghost use Rattle.prog_tables.specs.Program.{programFrom};
 ghost use Rattle.vm_definitions.specs.Step.{movedTo, stepOf, runOf};
 ghost use Rattle.vm_definitions.specs.Lent.{tablesOf, world, left};
 ghost use Rattle.prog_tables.specs.Layout.{statementRow};
-ghost use Rattle.vm_run.specs.Within.{givenBack, isRunning, takenStep, withinStep, withinRun};
+ghost use Rattle.vm_run.specs.Within.{givenBack, isRunning, countsBroken, takenStep, withinStep, withinRun};
 ghost use Rattle.vm_run.specs.Steps.{usableSize, plainRunEnd, stepsInFrame, someSteps};
 
 // Nothing happened, but perhaps a 35.
@@ -219,6 +219,47 @@ fn run_within(
     }
 }
 
+// 35 of a step where a count is past its table: the lowest broken statement that it reads, else no place.
+fn judge_counts(
+    t: &[u32],
+    c: u32,
+    l: &[u32],
+    lc: u32,
+    d: u32,
+    r: Machine,
+    st: &[u32],
+    m: usize,
+) -> Broken
+    ensures { λ b. ⌜ b ≡ countsBroken (now (t .entry)) c (now (l .entry)) lc d r (now (st .entry)) m ⌝ }
+{
+    if vm_counts::statements_past(t, c) {
+        return Broken::Somewhere;
+    }
+    let b = vm_guard::find_broken(t, c, l, lc, d, r, st, m);
+    match b {
+        Broken::No => Broken::Somewhere,
+        Broken::At(i) => Broken::At(i),
+        Broken::Somewhere => Broken::Somewhere,
+    }
+}
+
+// Nothing happened: a count is past its table.
+fn refuse_counts(
+    t: &[u32],
+    c: u32,
+    l: &[u32],
+    lc: u32,
+    d: u32,
+    r: Machine,
+    st: &[u32],
+    m: usize,
+) -> Outcome
+    ensures { λ o. ⌜ o ≡ givenBack r (countsBroken (now (t .entry)) c (now (l .entry)) lc d r (now (st .entry)) m) ⌝ }
+{
+    let b = judge_counts(t, c, l, lc, d, r, st, m);
+    give_back(r, b)
+}
+
 // One step of the record over the lent tables, stack and memory.
 pub fn step(
     statements: &[u32],
@@ -235,7 +276,16 @@ pub fn step(
 {
     if is_running(machine) {
         if vm_counts::count_fault(statements, count, labels, label_count, names) {
-            return give_back(machine, Broken::Somewhere);
+            return refuse_counts(
+                statements,
+                count,
+                labels,
+                label_count,
+                data_length,
+                machine,
+                stack,
+                memory.len(),
+            );
         }
         return take_step(statements, count, labels, label_count, data_length, machine, stack, memory);
     }
@@ -262,7 +312,16 @@ pub fn run(
     }
     if is_running(machine) {
         if vm_counts::count_fault(statements, count, labels, label_count, names) {
-            return give_back(machine, Broken::Somewhere);
+            return refuse_counts(
+                statements,
+                count,
+                labels,
+                label_count,
+                data_length,
+                machine,
+                stack,
+                memory.len(),
+            );
         }
         return run_within(
             statements,

@@ -14,17 +14,16 @@ use lib.Seq.{take-all, take-nil}
 use borrow.Author.Tests.{eq-eqb, ne-eqb, lt-ltb, le-ltb, le-leb, lt-leb, ltb-true, ltb-false, eqb-true}
 use Rattle.base_prelude.specs.Choice.{pick, ifLt, ifEq, ifTrue}
 use Rattle.base_prelude.specs.Lists.{sameList}
-use Rattle.base_prelude.proofs.Choice.{true-false, ifLt-yes, ifLt-no}
+use Rattle.base_prelude.proofs.Choice.{true-false, ifLt-yes, ifLt-no, ifTrue-no}
 use Rattle.base_limits.specs.Fresh.{freshOf}
 use Rattle.base_limits.specs.declared.Machine.{Machine}
 use Rattle.base_limits.specs.declared.Width.{Width}
 use Rattle.base_limits.specs.declared.Width.the-variants.{Bits32}
-use Rattle.prog_tables.specs.Tests.{both, oneOf, someBelow, firstFrom}
+use Rattle.prog_tables.specs.Tests.{both, oneOf, some, someBelow, firstFrom}
 use Rattle.prog_tables.specs.Statement.{Row, rowAt}
 use Rattle.prog_tables.specs.Label.{labelAt, isData, isFunctionLabel}
 use Rattle.prog_tables.specs.Program.{Program, programFrom, lentProgram}
-use Rattle.prog_tables.specs.Faults.{rowFault, labelFault, countFault}
-use Rattle.vm_counts.proofs.Cases.{count-any}
+use Rattle.prog_tables.specs.Faults.{rowFault, labelFault}
 use Rattle.vm_definitions.proofs.Seen.{lowest-seen}
 use Rattle.vm_definitions.specs.Access.{storeFrom}
 use Rattle.vm_definitions.specs.Frames.{mark, frameWords}
@@ -37,8 +36,8 @@ use Rattle.vm_definitions.specs.declared.Broken.the-variants.{No, At, Somewhere
 use Rattle.vm_definitions.specs.declared.Started.{Started}
 use Rattle.vm_definitions.specs.declared.Started.the-variants.{Begun, Refused, Unsound}
 use Rattle.vm_definitions.specs.declared.Opening.{Opening}
-use Rattle.vm_start.specs.Opening.{Opened, opened, openingOf, labelsAlone, noFunction, aimFault, rowsBroken, refusedWith, begunAt, fittedOf, enteredOf}
-use Rattle.prog_tables.proofs.Each.{some-at}
+use Rattle.vm_start.specs.Opening.{Opened, opened, openingOf, labelsAlone, noFunction, aimFault, restFault, rowsBroken, refusedWith, begunAt, fittedOf, enteredOf}
+use Rattle.prog_tables.proofs.Each.{some-at, one-no, one-false}
 
 -- ---- the lowest broken row, counting up
 
@@ -146,47 +145,60 @@ pub ruleset trying = (trying-start, trying-more, trying-found, trying-done)
 
 -- ---- 35
 
-module _ (t : List ℕ) (c : ℕ) (l : List ℕ) (k : ℕ) (names : List ℕ) (d : ℕ) where
+module _ (t : List ℕ) (c : ℕ) (l : List ℕ) (k : ℕ) (names : List ℕ) (d n : ℕ) where
+  module _ (v : Bool) (e : v ≡ oneOf (ltb (length l) (k * 4)) (ltb (length names) (k * 64))) where
+    pub rest-past : v ≡ true → true ≡ restFault (programFrom Bits32 (tablesOf t c l k names d)) n
+    unfolding restFault some
+    rest-past h = rw (← e, h)
+
+    pub rest-short : v ≡ false → n < d → true ≡ restFault (programFrom Bits32 (tablesOf t c l k names d)) n
+    unfolding restFault some
+    rest-short h g = rw (← e, h, lt-ltb _ _ g)
+
+    pub rest-labels : (b : Bool) → v ≡ false → d ≤ n → b ≡ someBelow (λ i. labelFault (programFrom Bits32 (tablesOf t c l k names d)) (labelAt l names i)) k → b ≡ restFault (programFrom Bits32 (tablesOf t c l k names d)) n
+    unfolding restFault some
+    rest-labels b h g q =
+        q
+        ∙ sym
+        (ap (λ (a : Bool). oneOf a (oneOf (ltb n d) (oneOf (someBelow (λ i. labelFault (programFrom Bits32 (tablesOf t c l k names d)) (labelAt l names i)) k) false))) (sym e ∙ h)
+        ∙ ap (λ (a : Bool). oneOf a (oneOf (someBelow (λ i. labelFault (programFrom Bits32 (tablesOf t c l k names d)) (labelAt l names i)) k) false)) (le-ltb n d g)
+        ∙ one-false (someBelow (λ i. labelFault (programFrom Bits32 (tablesOf t c l k names d)) (labelAt l names i)) k))
+
   module _ (b : Broken) (o : b ≡ lowest (rowFault (lentProgram t c l k d)) (numbersBelow c)) where
     e : b ≡ lowest (rowFault (programFrom Bits32 (tablesOf t c l k names d))) (numbersBelow c)
     e = o ∙ sym (lowest-seen t c l k names d (numbersBelow c))
 
-    pub rows-at : (i : ℕ) → b ≡ At i → At i ≡ rowsBroken (programFrom Bits32 (tablesOf t c l k names d))
+    pub rows-at : (i : ℕ) → b ≡ At i → At i ≡ rowsBroken (programFrom Bits32 (tablesOf t c l k names d)) n
     unfolding rowsBroken orElse
     rows-at i q = rw (← e, q)
 
-    pub rows-somewhere : b ≡ Somewhere → Somewhere ≡ rowsBroken (programFrom Bits32 (tablesOf t c l k names d))
+    pub rows-somewhere : b ≡ Somewhere → Somewhere ≡ rowsBroken (programFrom Bits32 (tablesOf t c l k names d)) n
     unfolding rowsBroken orElse
     rows-somewhere q = rw (← e, q)
 
-    module _ (v : Bool) (q : b ≡ No) (r : v ≡ someBelow (λ i. labelFault (programFrom Bits32 (tablesOf t c l k names d)) (labelAt l names i)) k) where
-      pub rows-label : v ≡ true → Somewhere ≡ rowsBroken (programFrom Bits32 (tablesOf t c l k names d))
+    module _ (v : Bool) (q : b ≡ No) (r : v ≡ restFault (programFrom Bits32 (tablesOf t c l k names d)) n) where
+      pub rows-rest : v ≡ true → Somewhere ≡ rowsBroken (programFrom Bits32 (tablesOf t c l k names d)) n
       unfolding rowsBroken orElse ifTrue
-      rows-label h = rw (← e, q, ← r, h)
+      rows-rest h = rw (← e, q, ← r, h)
 
-      pub rows-good : v ≡ false → No ≡ rowsBroken (programFrom Bits32 (tablesOf t c l k names d))
+      pub rows-good : v ≡ false → No ≡ rowsBroken (programFrom Bits32 (tablesOf t c l k names d)) n
       unfolding rowsBroken orElse ifTrue
       rows-good h = rw (← e, q, ← r, h)
 
-  module _ (n : ℕ) (v : Bool) (e : v ≡ countFault (programFrom Bits32 (tablesOf t c l k names 0))) where
-    is : v ≡ countFault (programFrom Bits32 (tablesOf t c l k names d))
-    is = e ∙ count-any t c l k names d
-
+  module _ (v : Bool) (e : v ≡ ltb (length t) (c * 27)) where
     pub judge-count : v ≡ true → Somewhere ≡ startBroken (programFrom Bits32 (tablesOf t c l k names d)) n
     unfolding startBroken ifTrue
-    judge-count h = rw (← is, h)
+    judge-count h = rw (← e, h)
 
-    pub judge-short : v ≡ false → n < d → Somewhere ≡ startBroken (programFrom Bits32 (tablesOf t c l k names d)) n
-    unfolding startBroken ifTrue
-    judge-short h g = rw (← is, h, lt-ltb _ _ g)
+    pub judge-rest : (b : Broken) → v ≡ false → b ≡ rowsBroken (programFrom Bits32 (tablesOf t c l k names d)) n → b ≡ startBroken (programFrom Bits32 (tablesOf t c l k names d)) n
+    unfolding startBroken rowsBroken restFault
+    judge-rest b h q = q ∙ sym (ifTrue-no Somewhere (rowsBroken (programFrom Bits32 (tablesOf t c l k names d)) n) (sym e ∙ h))
 
-    pub judge-good : (b : Broken) → v ≡ false → d ≤ n → b ≡ rowsBroken (programFrom Bits32 (tablesOf t c l k names d)) → b ≡ startBroken (programFrom Bits32 (tablesOf t c l k names d)) n
-    unfolding startBroken ifTrue rowsBroken
-    judge-good b h g q = rw (← is, h, le-ltb _ _ g) q
+pub ruleset rest-ways = (rest-past, rest-short, rest-labels)
 
-pub ruleset row-ways = (rows-at, rows-somewhere, rows-label, rows-good)
+pub ruleset row-ways = (rows-at, rows-somewhere, rows-rest, rows-good)
 
-pub ruleset judge-ways = (judge-count, judge-short, judge-good)
+pub ruleset judge-ways = (judge-count, judge-rest)
 
 -- ---- the label of that name
 
@@ -309,18 +321,13 @@ somewhere e = absurd (let z : _≡_ {A = ℕ} 0 1 = cc in omega arith)
 placed : {P : Type 0} (i : ℕ) → At i ≡ No → P
 placed i e = absurd (let z : _≡_ {A = ℕ} 0 1 = cc in omega arith)
 
-sound-counts : (a b : Bool) (x : Broken) → ifTrue a Somewhere (orElse x (ifTrue b Somewhere No)) ≡ No → a ≡ false
+sound-rest : (a b : Bool) (x : Broken) → ifTrue a Somewhere (orElse x (ifTrue b Somewhere No)) ≡ No → b ≡ false
 unfolding ifTrue orElse
-sound-counts true b x e = somewhere e
-sound-counts false b x e = refl
-
-sound-labels : (a b : Bool) (x : Broken) → ifTrue a Somewhere (orElse x (ifTrue b Somewhere No)) ≡ No → b ≡ false
-unfolding ifTrue orElse
-sound-labels true b x e = somewhere e
-sound-labels false true No e = somewhere e
-sound-labels false false No e = refl
-sound-labels false b (At i) e = placed i e
-sound-labels false b Somewhere e = somewhere e
+sound-rest true b x e = somewhere e
+sound-rest false true No e = somewhere e
+sound-rest false false No e = refl
+sound-rest false b (At i) e = placed i e
+sound-rest false b Somewhere e = somewhere e
 
 neither-right : (a b : Bool) → oneOf a b ≡ false → b ≡ false
 neither-right true b e = true-false e
@@ -362,16 +369,29 @@ aimed prog l names name k i e h =
     (not-false _ (rw q at (neither-right (ltb 64 (labelAt l names i .size)) _ e))))
 
 module _ (t : List ℕ) (c : ℕ) (l : List ℕ) (k : ℕ) (names : List ℕ) (d : ℕ) (n : ℕ) (s : startBroken (programFrom Bits32 (tablesOf t c l k names d)) n ≡ No) where
+  past : Bool
+  past = oneOf (ltb (length l) (k * 4)) (ltb (length names) (k * 64))
+
+  labels : Bool
+  labels = someBelow (λ i. labelFault (programFrom Bits32 (tablesOf t c l k names d)) (labelAt l names i)) k
+
+  rest : oneOf past (oneOf (ltb n d) (oneOf labels false)) ≡ false
+  unfolding startBroken some past labels
+  rest = sound-rest _ _ _ s
+
   pub sound-data : d ≤ n
-  unfolding startBroken
-  sound-data = ltb-false n d (neither-right (countFault (programFrom Bits32 (tablesOf t c l k names d))) (ltb n d) (sound-counts _ _ _ s))
+  sound-data = ltb-false n d (one-no (ltb n d) _ (neither-right past _ rest))
+
+  labels-sound : someBelow (λ i. labelFault (programFrom Bits32 (tablesOf t c l k names d)) (labelAt l names i)) k ≡ false
+  unfolding labels
+  labels-sound = one-no labels _ (neither-right (ltb n d) _ (neither-right past _ rest))
 
   pub sound-function : (name : List ℕ) (e g : ℕ) → e ≡ exportOf (labelsAlone l k names) name → e < k → g ≡ getD l (e * 4 + 1) 0 → g < c
-  unfolding startBroken exportOf labelAt
+  unfolding exportOf labelAt
   sound-function name e g q h r =
       rw r
       (aimed (programFrom Bits32 (tablesOf t c l k names d)) l names name k e
-      (none-at (λ i. labelFault (programFrom Bits32 (tablesOf t c l k names d)) (labelAt l names i)) k e (sound-labels _ _ _ s) h)
+      (none-at (λ i. labelFault (programFrom Bits32 (tablesOf t c l k names d)) (labelAt l names i)) k e labels-sound h)
       (ap (exportsAs (labelsAlone l k names) name) q
       ∙ first-found (exportsAs (labelsAlone l k names) name) k 0 (subst (λ (j : ℕ). j < 0 + k) q (omega (arith, h)))))
 

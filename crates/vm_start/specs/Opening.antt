@@ -2,7 +2,7 @@
 -- Assumes nothing.
 use Prim.Native.Nat.{ℕ, suc}
 use mathlib.Core.Bool.{Bool, true, not}
-use mathlib.Core.List.{List, []}
+use mathlib.Core.List.{List, [], _∷_}
 use lib.Dec.{ltb, leb, eqb}
 use lib.ListN.{length, take}
 use Rattle.base_prelude.specs.Choice.{ifEq, ifTrue}
@@ -13,7 +13,7 @@ use Rattle.base_limits.specs.declared.Width.{Width}
 use Rattle.base_limits.specs.declared.Width.the-variants.{Bits32}
 use Rattle.lang_kinds.specs.Kinds as kind
 use Rattle.prog_tables.specs.Layout.{placeLabel}
-use Rattle.prog_tables.specs.Tests.{both, oneOf, someBelow}
+use Rattle.prog_tables.specs.Tests.{both, oneOf, some, someBelow}
 use Rattle.prog_tables.specs.Statement.{Row}
 use Rattle.prog_tables.specs.Label.{isData, isFunctionLabel}
 use Rattle.prog_tables.specs.Program.{Program, programFrom}
@@ -55,11 +55,13 @@ unfoldable pub aimFault : (ℕ → Row) → ℕ → ℕ → ℕ → ℕ → Bool
 aimFault f c d k n =
     ifTrue (isData k) (ltb d n) (ifTrue (isFunctionLabel k) (noFunction f c n) (ifEq k placeLabel (leb c n) true))
 
--- 35 of the rows, then of the labels
-unfoldable pub rowsBroken : Program → Broken
-rowsBroken p =
-    orElse (lowest (rowFault p) (numbersBelow (p .count)))
-    (ifTrue (someBelow (λ i. labelFault p (p .labels i)) (p .labelCount)) Somewhere No)
+-- what is broken beside the rows, n bytes of data being lent: the count of labels, the data's length, a label
+unfoldable pub restFault : Program → ℕ → Bool
+restFault p n = some (p .labelsPast ∷ ltb n (p .dataLength) ∷ someBelow (λ i. labelFault p (p .labels i)) (p .labelCount) ∷ [])
+
+-- 35 of the rows, then of the rest
+unfoldable pub rowsBroken : Program → ℕ → Broken
+rowsBroken p n = orElse (lowest (rowFault p) (numbersBelow (p .count))) (ifTrue (restFault p n) Somewhere No)
 
 -- ---- the parts behind the label: function row g, its frame of `size` words, d bytes of data
 

@@ -21,7 +21,7 @@ ghost use Rattle.vm_definitions.specs.Broken.{startBroken, numbersBelow, lowest
 ghost use Rattle.vm_definitions.specs.Start.{exportsAs, exportOf};
 ghost use Rattle.vm_definitions.specs.Lent.{tablesOf, world};
 ghost use Rattle.vm_definitions.specs.declared.Broken.the-variants.{No};
-ghost use Rattle.vm_start.specs.Opening.{opened, openingOf, labelsAlone, noFunction, aimFault, rowsBroken, begunAt, fittedOf, enteredOf};
+ghost use Rattle.vm_start.specs.Opening.{opened, openingOf, labelsAlone, noFunction, aimFault, restFault, rowsBroken, begunAt, fittedOf, enteredOf};
 
 // The lowest broken row.
 fn broken_row(t: &[u32], c: u32, l: &[u32], k: u32, d: u32) -> Broken
@@ -115,14 +115,27 @@ fn labels_fault(t: &[u32], c: u32, l: &[u32], k: u32, names: &[u8], d: u32) -> b
     false
 }
 
-// Refusal 35 of the rows, then of the labels.
-fn judge_rows(t: &[u32], c: u32, l: &[u32], k: u32, names: &[u8], d: u32) -> Broken
-    ensures { λ r. ⌜ r ≡ rowsBroken (programFrom Bits32 (tablesOf (now (t .entry)) c (now (l .entry)) k (now (names .entry)) d)) ⌝ }
+// Whether something beside the rows is broken, n bytes of data being lent.
+fn rest_fault(t: &[u32], c: u32, l: &[u32], k: u32, names: &[u8], d: u32, n: usize) -> bool
+    ensures { λ r. ⌜ r ≡ restFault (programFrom Bits32 (tablesOf (now (t .entry)) c (now (l .entry)) k (now (names .entry)) d)) n ⌝ }
+{
+    if vm_counts::labels_past(l, k, names) {
+        return true;
+    }
+    if n < d as usize {
+        return true;
+    }
+    labels_fault(t, c, l, k, names, d)
+}
+
+// Refusal 35 of the rows, then of the rest.
+fn judge_rows(t: &[u32], c: u32, l: &[u32], k: u32, names: &[u8], d: u32, n: usize) -> Broken
+    ensures { λ r. ⌜ r ≡ rowsBroken (programFrom Bits32 (tablesOf (now (t .entry)) c (now (l .entry)) k (now (names .entry)) d)) n ⌝ }
 {
     let b = broken_row(t, c, l, k, d);
     match b {
         Broken::No => {
-            if labels_fault(t, c, l, k, names, d) {
+            if rest_fault(t, c, l, k, names, d, n) {
                 return Broken::Somewhere;
             }
             Broken::No
@@ -132,17 +145,14 @@ fn judge_rows(t: &[u32], c: u32, l: &[u32], k: u32, names: &[u8], d: u32) -> Bro
     }
 }
 
-// Refusal 35 of a start, n bytes of data being lent.
+// Refusal 35 of a start, n bytes of data being lent. Only a count of statements past its table hides a broken one.
 fn judge(t: &[u32], c: u32, l: &[u32], k: u32, names: &[u8], d: u32, n: usize) -> Broken
     ensures { λ r. ⌜ r ≡ startBroken (programFrom Bits32 (tablesOf (now (t .entry)) c (now (l .entry)) k (now (names .entry)) d)) n ⌝ }
 {
-    if vm_counts::count_fault(t, c, l, k, names) {
+    if vm_counts::statements_past(t, c) {
         return Broken::Somewhere;
     }
-    if n < d as usize {
-        return Broken::Somewhere;
-    }
-    judge_rows(t, c, l, k, names, d)
+    judge_rows(t, c, l, k, names, d, n)
 }
 
 // The lesser of two numbers.
