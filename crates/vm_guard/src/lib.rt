@@ -400,7 +400,16 @@ fn has_kept(t: &[u32], c: u32, m: usize, next: u32, st: &[u32], s: u32) -> bool
 }
 
 // Whether the record, its frames, and the lent stack and memory are good.
-fn record_good(t: &[u32], c: u32, l: &[u32], lc: u32, d: u32, m: usize, r: Machine, st: &[u32]) -> bool
+fn record_good(
+    t: &[u32],
+    c: u32,
+    l: &[u32],
+    lc: u32,
+    d: u32,
+    m: usize,
+    r: Machine,
+    st: &[u32],
+) -> bool
     ensures { λ x. ⌜ x ≡ recordGood (lentProgram (now (t .entry)) c (now (l .entry)) lc d) m r (now (st .entry)) ⌝ }
 {
     if has_shape(t, c, m, r, st) {
@@ -415,7 +424,16 @@ fn record_good(t: &[u32], c: u32, l: &[u32], lc: u32, d: u32, m: usize, r: Machi
 }
 
 // 35 of a step but for the counts of the tables.
-pub fn find_broken(t: &[u32], c: u32, l: &[u32], lc: u32, d: u32, r: Machine, st: &[u32], m: usize) -> Broken
+pub fn find_broken(
+    t: &[u32],
+    c: u32,
+    l: &[u32],
+    lc: u32,
+    d: u32,
+    r: Machine,
+    st: &[u32],
+    m: usize,
+) -> Broken
     ensures { λ x. ⌜ x ≡ withinBroken (lentProgram (now (t .entry)) c (now (l .entry)) lc d) r (now (st .entry)) m ⌝ }
 {
     let b = find_used(t, c, l, lc, d, r, st);

@@ -368,7 +368,17 @@ fn hand_to(
 }
 
 // A value handed back from the frame at s to the call behind it.
-fn hand(t: &[u32], c: u32, l: &[u32], lc: u32, d: u32, st: &mut [u32], s: u32, m: usize, v: u32) -> Transfer
+fn hand(
+    t: &[u32],
+    c: u32,
+    l: &[u32],
+    lc: u32,
+    d: u32,
+    st: &mut [u32],
+    s: u32,
+    m: usize,
+    v: u32,
+) -> Transfer
     requires { ⌜ c * statementRow ≤ length (now t) ⌝ }
     ensures { λ r. ⌜ transferred r (now (st .exit)) ≡ handTransfer (now (t .entry)) c (now (l .entry)) lc d (now (st .entry)) s m v ⌝ }
 {

@@ -28,7 +28,16 @@ fn give_back(r: Machine, b: Broken) -> Outcome
 }
 
 // The statement that a running record stands at, or 35; the counts of the tables are good.
-fn take_step(t: &[u32], c: u32, l: &[u32], lc: u32, d: u32, r: Machine, st: &mut [u32], m: &mut [u8]) -> Outcome
+fn take_step(
+    t: &[u32],
+    c: u32,
+    l: &[u32],
+    lc: u32,
+    d: u32,
+    r: Machine,
+    st: &mut [u32],
+    m: &mut [u8],
+) -> Outcome
     ensures { λ o. ⌜ left o (now (st .exit)) (now (m .exit)) ≡ takenStep (now (t .entry)) c (now (l .entry)) lc d (world r (now (st .entry)) (now (m .entry))) ⌝ }
 {
     let b = vm_guard::find_broken(t, c, l, lc, d, r, st, m.len());
@@ -52,7 +61,16 @@ fn is_running(r: Machine) -> bool
 }
 
 // A step over tables whose counts are good.
-fn step_within(t: &[u32], c: u32, l: &[u32], lc: u32, d: u32, r: Machine, st: &mut [u32], m: &mut [u8]) -> Outcome
+fn step_within(
+    t: &[u32],
+    c: u32,
+    l: &[u32],
+    lc: u32,
+    d: u32,
+    r: Machine,
+    st: &mut [u32],
+    m: &mut [u8],
+) -> Outcome
     ensures { λ o. ⌜ left o (now (st .exit)) (now (m .exit)) ≡ withinStep (now (t .entry)) c (now (l .entry)) lc d (world r (now (st .entry)) (now (m .entry))) ⌝ }
 {
     if is_running(r) {
@@ -103,7 +121,21 @@ fn end_plain(
     requires { ⌜ (c * statementRow ≤ length (now t)) × (r .frame + size ≤ length (now st)) × (length (now st) ≤ 16384) × (length (now m) ≤ 65536) × (count < 18446744073709551615) ⌝ }
     ensures { λ o. ⌜ left o (now (st .exit)) (now (m .exit)) ≡ plainRunEnd (now (t .entry)) c (now (l .entry)) lc d g size count (world r (now (st .entry)) (now (m .entry))) ⌝ }
 {
-    let y = vm_quick_calls::take_transfer(t, c, l, lc, g, d, size, st, r.frame, r.used, m, r.next, r.top);
+    let y = vm_quick_calls::take_transfer(
+        t,
+        c,
+        l,
+        lc,
+        g,
+        d,
+        size,
+        st,
+        r.frame,
+        r.used,
+        m,
+        r.next,
+        r.top,
+    );
     match y {
         Transfer::To {
             next,
@@ -287,7 +319,16 @@ pub fn step(
                 memory.len(),
             );
         }
-        return take_step(statements, count, labels, label_count, data_length, machine, stack, memory);
+        return take_step(
+            statements,
+            count,
+            labels,
+            label_count,
+            data_length,
+            machine,
+            stack,
+            memory,
+        );
     }
     give_back(machine, Broken::No)
 }
