@@ -12,6 +12,7 @@ use Rattle.check_source.specs.declared.Checked.the-variants.{Accepted, Refused}
 use Rattle.base_limits.specs.declared.Width.the-variants.{Bits32}
 use Rattle.base_limits.specs.declared.Machine.{Machine}
 use Rattle.base_limits.specs.Record.{freshOf}
+use Rattle.prog_tables.specs.Program.{programFrom}
 use Rattle.prog_tables.specs.Label.{Tables}
 use Rattle.vm_definitions.specs.Step.{After, stepOf, runOf}
 use Rattle.vm_definitions.specs.Lent.{tablesOf, world}
@@ -80,13 +81,13 @@ module _ (ws st m out : List ℕ) (n : ℕ) (out′ : List ℕ) where
       unfolding outcomeAnswer
       after y g = ap (λ (p : Reply). replied p st′ m′) q ∙ ap (outcomeAnswer ws st m out) g
 
-      pub step-fit : lent.left o st′ m′ ≡ stepOf Bits32 T (world r st m) → answered n ws′ st′ m′ out′ ≡ stepCall ws st m out T
+      pub step-fit : lent.left o st′ m′ ≡ stepOf (programFrom Bits32 T) (world r st m) → answered n ws′ st′ m′ out′ ≡ stepCall ws st m out T
       unfolding stepCall stepBy
-      step-fit g = after (stepOf Bits32 T (world r st m)) g ∙ ap (stepBy ws st m out T) (sym h ∙ e)
+      step-fit g = after (stepOf (programFrom Bits32 T) (world r st m)) g ∙ ap (stepBy ws st m out T) (sym h ∙ e)
 
-      pub run-fit : (budget : ℕ) → lent.left o st′ m′ ≡ runOf Bits32 T budget (world r st m) → answered n ws′ st′ m′ out′ ≡ runCall ws st m out T budget
+      pub run-fit : (budget : ℕ) → lent.left o st′ m′ ≡ runOf (programFrom Bits32 T) budget (world r st m) → answered n ws′ st′ m′ out′ ≡ runCall ws st m out T budget
       unfolding runCall runBy
-      run-fit budget g = after (runOf Bits32 T budget (world r st m)) g ∙ ap (runBy ws st m out T budget) (sym h ∙ e)
+      run-fit budget g = after (runOf (programFrom Bits32 T) budget (world r st m)) g ∙ ap (runBy ws st m out T budget) (sym h ∙ e)
 
   module _ (t : List ℕ) (c : ℕ) (l : List ℕ) (k : ℕ) (names : List ℕ) (d : ℕ) (bytes name args : List ℕ) where
     pub start-unfit : length ws < recordSize → (n ≡ 35) × (out′ ≡ overlay (unfitWords 35) out)
@@ -95,13 +96,13 @@ module _ (ws st m out : List ℕ) (n : ℕ) (out′ : List ℕ) where
     start-unfit h q = none 35 q ∙ sym (ifLt-yes (unfit ws st m out 35) _ h)
 
     pub start-fit : (r : Machine) (o : Opening) (ws′ st′ m′ : List ℕ) → recordSize ≤ length ws → r ≡ freshOf 0 0 0
-        → opened o st′ m′ ≡ openingOf Bits32 (tablesOf t c l k names d) bytes name args (world r st m)
+        → opened o st′ m′ ≡ openingOf (programFrom Bits32 (tablesOf t c l k names d)) bytes name args (world r st m)
         → reply n ws′ out′ ≡ openingReply o ws out
         → answered n ws′ st′ m′ out′ ≡ startCall ws st m out (tablesOf t c l k names d) bytes name args
     unfolding startCall openingAnswer
     start-fit r o ws′ st′ m′ h f g q =
         ap (λ (p : Reply). replied p st′ m′) q ∙ ap (openingAnswer ws st m out) g
-        ∙ ap (λ (z : Machine). openingAnswer ws st m out (openingOf Bits32 (tablesOf t c l k names d) bytes name args (world z st m))) f
+        ∙ ap (λ (z : Machine). openingAnswer ws st m out (openingOf (programFrom Bits32 (tablesOf t c l k names d)) bytes name args (world z st m))) f
         ∙ sym (ifLt-no (unfit ws st m out 35) _ h)
 
 pub ruleset steps = (step-unfit, step-fit)

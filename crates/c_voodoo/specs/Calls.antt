@@ -7,6 +7,7 @@ use Rattle.base_prelude.specs.Choice.{ifLt}
 use Rattle.base_prelude.specs.Lists.{overlay}
 use Rattle.base_limits.specs.declared.Width.the-variants.{Bits32}
 use Rattle.base_limits.specs.Record.{freshOf}
+use Rattle.prog_tables.specs.Program.{programFrom}
 use Rattle.prog_tables.specs.Label.{Tables}
 use Rattle.vm_definitions.specs.Step.{After, stepOf, runOf}
 use Rattle.vm_definitions.specs.Lent.{world}
@@ -53,7 +54,7 @@ module _ (ws st m out : List ℕ) where
   openingAnswer y = replied (openingReply (openingWith y) ws out) (y .world .stack) (y .world .memory)
 
   unfoldable pub stepBy : Tables → Loaded → Answered
-  stepBy t (Fit r) = outcomeAnswer (stepOf Bits32 t (world r st m))
+  stepBy t (Fit r) = outcomeAnswer (stepOf (programFrom Bits32 t) (world r st m))
   stepBy t Unfit = unfit 35
 
   unfoldable pub stepCall : Tables → Answered
@@ -61,7 +62,7 @@ module _ (ws st m out : List ℕ) where
 
   -- a budget of 0 is answered whatever the lent words hold
   unfoldable pub runBy : Tables → ℕ → Loaded → Answered
-  runBy t budget (Fit r) = outcomeAnswer (runOf Bits32 t budget (world r st m))
+  runBy t budget (Fit r) = outcomeAnswer (runOf (programFrom Bits32 t) budget (world r st m))
   runBy t budget Unfit = unfit (unfitNumber budget)
 
   unfoldable pub runCall : Tables → ℕ → Answered
@@ -70,4 +71,4 @@ module _ (ws st m out : List ℕ) where
   -- a start does not read the record
   unfoldable pub startCall : Tables → List ℕ → List ℕ → List ℕ → Answered
   startCall t bytes name args =
-      ifLt (length ws) recordSize (unfit 35) (openingAnswer (openingOf Bits32 t bytes name args (world (freshOf 0 0 0) st m)))
+      ifLt (length ws) recordSize (unfit 35) (openingAnswer (openingOf (programFrom Bits32 t) bytes name args (world (freshOf 0 0 0) st m)))

@@ -14,6 +14,7 @@ use Rattle.base_prelude.specs.Choice.{ifTrue, ifEq}
 use Rattle.prog_tables.specs.Tests.{oneOf, some, someOf}
 use Rattle.prog_tables.specs.Statement.{Row, hasExpression, isTest, isOperator, isCall, usedBy, operandAt, slots, rowFrom, rowAt}
 use Rattle.prog_tables.specs.Nesting.{isListed, hasTarget}
+use Rattle.prog_tables.specs.Program.{Program, lentProgram}
 use Rattle.prog_tables.specs.Faults.{expressionListed, isCallRow, expressionFault, inFunction, sizeAt, operandFault, addressListed, kindFault, targetFault, calleeFault, sizeFault, ownWord, hasWord, wordFault, operandsFault, addressFault, rowFault}
 use Rattle.prog_tables.specs.declared.Operand.{Operand}
 use Rattle.prog_tables.specs.declared.Operand.the-variants.{Unlisted}
@@ -90,12 +91,12 @@ module _ (k e : ℕ) (b : Bool) (d : b ≡ isCallRow k) where
 
 pub ruleset expression-ways = (call-good, call-bad, no-expression, expression-good, expression-bad)
 
-module _ (f : ℕ → Row) (n k : ℕ) (b : Bool) (e : k ≡ f n .kind) (d : b ≡ isListed k) where
-  pub kind-unlisted : b ≡ false → true ≡ kindFault f n
+module _ (prog : Program) (n k : ℕ) (b : Bool) (e : k ≡ prog .rows n .kind) (d : b ≡ isListed k) where
+  pub kind-unlisted : b ≡ false → true ≡ kindFault prog n
   unfolding kindFault ifTrue
   kind-unlisted h = rw (← e, ← d, h)
 
-  pub kind-listed : (x : ℕ) (v : Bool) → b ≡ true → x ≡ f n .expr → v ≡ expressionFault k x → v ≡ kindFault f n
+  pub kind-listed : (x : ℕ) (v : Bool) → b ≡ true → x ≡ prog .rows n .expr → v ≡ expressionFault k x → v ≡ kindFault prog n
   unfolding kindFault ifTrue
   kind-listed x v h g s = rw (← e, ← d, h, ← g) s
 
@@ -110,56 +111,56 @@ module _ (k : ℕ) (b : Bool) (d : b ≡ hasTarget k) where
 
 pub ruleset jump-ways = (jump-yes, jump-goto)
 
-module _ (f : ℕ → Row) (c n k : ℕ) (b : Bool) (e : k ≡ f n .kind) (d : b ≡ oneOf (hasTarget k) (eqb k 10)) where
-  pub target-none : b ≡ false → false ≡ targetFault f c n
+module _ (prog : Program) (n k : ℕ) (b : Bool) (e : k ≡ prog .rows n .kind) (d : b ≡ oneOf (hasTarget k) (eqb k 10)) where
+  pub target-none : b ≡ false → false ≡ targetFault prog n
   unfolding targetFault
   target-none h = rw (← e, ← d, h)
 
-  module _ (h : b ≡ true) (v : Bool) (r : v ≡ inFunction f c n) where
-    pub target-outside : v ≡ false → true ≡ targetFault f c n
+  module _ (h : b ≡ true) (v : Bool) (r : v ≡ inFunction (prog .rows) (prog .count) n) where
+    pub target-outside : v ≡ false → true ≡ targetFault prog n
     unfolding targetFault
     target-outside q = rw (← e, ← d, h, ← r, q)
 
-    module _ (a : ℕ) (q : v ≡ true) (g : a ≡ f n .a) where
-      pub target-far : c ≤ a → true ≡ targetFault f c n
+    module _ (a : ℕ) (q : v ≡ true) (g : a ≡ prog .rows n .a) where
+      pub target-far : prog .count ≤ a → true ≡ targetFault prog n
       unfolding targetFault
       target-far l = rw (← e, ← d, h, ← r, q, ← g, le-ltb _ _ l)
 
-      pub target-same : (x y : ℕ) → a < c → x ≡ f a .func → y ≡ f n .func → x ≡ y → false ≡ targetFault f c n
+      pub target-same : (x y : ℕ) → a < prog .count → x ≡ prog .rows a .func → y ≡ prog .rows n .func → x ≡ y → false ≡ targetFault prog n
       unfolding targetFault
       target-same x y l s u m = rw (← e, ← d, h, ← r, q, ← g, lt-ltb _ _ l, ← s, ← u, eq-eqb _ _ m)
 
-      pub target-other : (x y : ℕ) → a < c → x ≡ f a .func → y ≡ f n .func → (x ≡ y → ⊥) → true ≡ targetFault f c n
+      pub target-other : (x y : ℕ) → a < prog .count → x ≡ prog .rows a .func → y ≡ prog .rows n .func → (x ≡ y → ⊥) → true ≡ targetFault prog n
       unfolding targetFault
       target-other x y l s u m = rw (← e, ← d, h, ← r, q, ← g, lt-ltb _ _ l, ← s, ← u, ne-eqb _ _ m)
 
 pub ruleset target-ways = (target-none, target-outside, target-far, target-same, target-other)
 
-module _ (f : ℕ → Row) (c n k x : ℕ) (b : Bool) (e : k ≡ f n .kind) (w : x ≡ f n .expr) (d : b ≡ isCall k x) where
-  pub callee-none : b ≡ false → false ≡ calleeFault f c n
+module _ (prog : Program) (n k x : ℕ) (b : Bool) (e : k ≡ prog .rows n .kind) (w : x ≡ prog .rows n .expr) (d : b ≡ isCall k x) where
+  pub callee-none : b ≡ false → false ≡ calleeFault prog n
   unfolding calleeFault
   callee-none h = rw (← e, ← w, ← d, h)
 
-  module _ (g : ℕ) (h : b ≡ true) (r : g ≡ f n .callee) where
-    pub callee-far : c ≤ g → true ≡ calleeFault f c n
+  module _ (g : ℕ) (h : b ≡ true) (r : g ≡ prog .rows n .callee) where
+    pub callee-far : prog .count ≤ g → true ≡ calleeFault prog n
     unfolding calleeFault
     callee-far l = rw (← e, ← w, ← d, h, ← r, le-ltb _ _ l)
 
-    module _ (j : ℕ) (l : g < c) (s : j ≡ f g .kind) where
-      pub callee-kind : (j ≡ 1 → ⊥) → true ≡ calleeFault f c n
+    module _ (j : ℕ) (l : g < prog .count) (s : j ≡ prog .rows g .kind) where
+      pub callee-kind : (j ≡ 1 → ⊥) → true ≡ calleeFault prog n
       unfolding calleeFault
       callee-kind q = rw (← e, ← w, ← d, h, ← r, lt-ltb _ _ l, ← s, ne-eqb _ _ q)
 
-      module _ (p m : ℕ) (q : j ≡ 1) (u : p ≡ f g .b) (v : m ≡ f n .count) where
-        pub callee-count : (p ≡ m → ⊥) → true ≡ calleeFault f c n
+      module _ (p m : ℕ) (q : j ≡ 1) (u : p ≡ prog .rows g .b) (v : m ≡ prog .rows n .count) where
+        pub callee-count : (p ≡ m → ⊥) → true ≡ calleeFault prog n
         unfolding calleeFault
         callee-count o = rw (← e, ← w, ← d, h, ← r, lt-ltb _ _ l, ← s, eq-eqb _ _ q, ← u, ← v, ne-eqb _ _ o)
 
-        pub callee-good : p ≡ m → m ≤ 8 → false ≡ calleeFault f c n
+        pub callee-good : p ≡ m → m ≤ 8 → false ≡ calleeFault prog n
         unfolding calleeFault
         callee-good o i = rw (← e, ← w, ← d, h, ← r, lt-ltb _ _ l, ← s, eq-eqb _ _ q, ← u, ← v, eq-eqb _ _ o, le-leb _ _ i)
 
-        pub callee-many : p ≡ m → 8 < m → true ≡ calleeFault f c n
+        pub callee-many : p ≡ m → 8 < m → true ≡ calleeFault prog n
         unfolding calleeFault
         callee-many o i = rw (← e, ← w, ← d, h, ← r, lt-ltb _ _ l, ← s, eq-eqb _ _ q, ← u, ← v, eq-eqb _ _ o, lt-leb _ _ i)
 
@@ -174,37 +175,36 @@ module _ (r : Row) (k a : ℕ) (e : k ≡ r .kind) (q : a ≡ r .a) where
   unfolding ownWord ifEq
   word-other h = rw (← e, ne-eqb _ _ h) q
 
-module _ (f : ℕ → Row) (n k : ℕ) (e : k ≡ f n .kind) where
-  pub size-function : (a p : ℕ) → k ≡ 1 → a ≡ f n .a → p ≡ f n .b → ltb a (3 + p) ≡ sizeFault f n
+module _ (prog : Program) (n k : ℕ) (e : k ≡ prog .rows n .kind) where
+  pub size-function : (a p : ℕ) → k ≡ 1 → a ≡ prog .rows n .a → p ≡ prog .rows n .b → ltb a (3 + p) ≡ sizeFault prog n
   unfolding sizeFault
   size-function a p h q r = rw (← e, eq-eqb _ _ h, ← q, ← r)
 
-  pub size-other : (k ≡ 1 → ⊥) → false ≡ sizeFault f n
+  pub size-other : (k ≡ 1 → ⊥) → false ≡ sizeFault prog n
   unfolding sizeFault
   size-other h = rw (← e, ne-eqb _ _ h)
 
-  module _ (c : ℕ) (b : Bool) (d : b ≡ hasWord k) where
-    pub word-past : (s w : ℕ) → b ≡ true → s ≡ sizeAt f c n → w ≡ ownWord (f n) → leb s w ≡ wordFault f c n
+  module _ (b : Bool) (d : b ≡ hasWord k) where
+    pub word-past : (s w : ℕ) → b ≡ true → s ≡ sizeAt (prog .rows) (prog .count) n → w ≡ ownWord (prog .rows n) → leb s w ≡ wordFault prog n
     unfolding wordFault
     word-past s w h q r = rw (← r, ← e, ← d, h, ← q)
 
-    pub word-none : b ≡ false → false ≡ wordFault f c n
+    pub word-none : b ≡ false → false ≡ wordFault prog n
     unfolding wordFault
     word-none h = rw (← e, ← d, h)
 
-  module _ (c d : ℕ) where
-    pub address-operand : (o : Operand) (v x : Bool) (s : ℕ) → k ≡ 7 → o ≡ f n .address → v ≡ addressListed o → v ≡ true → s ≡ sizeAt f c n
-        → x ≡ operandFault s d o → x ≡ addressFault f c d n
-    unfolding addressFault
-    address-operand o v x s h q r l m w = rw (← e, eq-eqb _ _ h, ← q, ← r, l, ← m) w
+  pub address-operand : (o : Operand) (v x : Bool) (s : ℕ) → k ≡ 7 → o ≡ prog .rows n .address → v ≡ addressListed o → v ≡ true → s ≡ sizeAt (prog .rows) (prog .count) n
+      → x ≡ operandFault s (prog .dataLength) o → x ≡ addressFault prog n
+  unfolding addressFault
+  address-operand o v x s h q r l m w = rw (← e, eq-eqb _ _ h, ← q, ← r, l, ← m) w
 
-    pub address-unlisted : (o : Operand) (v : Bool) → k ≡ 7 → o ≡ f n .address → v ≡ addressListed o → v ≡ false → true ≡ addressFault f c d n
-    unfolding addressFault
-    address-unlisted o v h q r l = rw (← e, eq-eqb _ _ h, ← q, ← r, l)
+  pub address-unlisted : (o : Operand) (v : Bool) → k ≡ 7 → o ≡ prog .rows n .address → v ≡ addressListed o → v ≡ false → true ≡ addressFault prog n
+  unfolding addressFault
+  address-unlisted o v h q r l = rw (← e, eq-eqb _ _ h, ← q, ← r, l)
 
-    pub address-other : (k ≡ 7 → ⊥) → false ≡ addressFault f c d n
-    unfolding addressFault
-    address-other h = rw (← e, ne-eqb _ _ h)
+  pub address-other : (k ≡ 7 → ⊥) → false ≡ addressFault prog n
+  unfolding addressFault
+  address-other h = rw (← e, ne-eqb _ _ h)
 
 pub ruleset word-ways = (size-function, size-other, word-block, word-other, word-past, word-none)
 
@@ -273,8 +273,8 @@ passing-more t s d n m i b h l e q =
       ];
     }
 
-module _ (t : List ℕ) (c s d n m i : ℕ) (e : m ≡ min (usedAt t n) 8) (r : s ≡ sizeAt (rowAt t) c n) (h : Passing t s d n m i) where
-  pub passing-found : (b : Bool) → i < m → b ≡ operandFault s d (operandAtRow t n i) → b ≡ true → true ≡ operandsFault (rowAt t) c d n
+module _ (t : List ℕ) (c : ℕ) (l : List ℕ) (lc s d n m i : ℕ) (e : m ≡ min (usedAt t n) 8) (r : s ≡ sizeAt (rowAt t) c n) (h : Passing t s d n m i) where
+  pub passing-found : (b : Bool) → i < m → b ≡ operandFault s d (operandAtRow t n i) → b ≡ true → true ≡ operandsFault (lentProgram t c l lc d) n
   unfolding operandsFault rowAt rowFrom
   passing-found b l q w =
       rw (← r)
@@ -282,7 +282,7 @@ module _ (t : List ℕ) (c s d n m i : ℕ) (e : m ≡ min (usedAt t n) 8) (r : 
       (some-of (operandFault s d) (slots t (n * 27)) (usedAt t n) i (omega (arith, e, l)) (omega (arith, h .few, l, slots-long t (n * 27)))
       (ap (operandFault s d) (slot-at t (n * 27) i (omega (arith, h .few, l))) ∙ (sym q ∙ w))))
 
-  pub passing-done : m ≤ i → false ≡ operandsFault (rowAt t) c d n
+  pub passing-done : m ≤ i → false ≡ operandsFault (lentProgram t c l lc d) n
   unfolding operandsFault rowAt rowFrom
   passing-done l =
       rw (← r)

@@ -15,6 +15,7 @@ use Rattle.base_prelude.proofs.Choice.{true-false, either}
 use Rattle.prog_tables.specs.Tests.{both, oneOf, some, someOf}
 use Rattle.prog_tables.specs.Statement.{Row, hasExpression, isTest, isCall, usedBy, slots, rowFrom, rowAt}
 use Rattle.prog_tables.specs.Nesting.{isListed, hasTarget}
+use Rattle.prog_tables.specs.Program.{Program, lentProgram}
 use Rattle.prog_tables.specs.Faults.{isCallRow, operandFault, kindFault, targetFault, calleeFault, sizeFault, hasWord, wordFault, operandsFault, addressFault, rowFault, sizeAt}
 use Rattle.prog_tables.proofs.Each.{one-false, one-no, one-rest}
 use Rattle.prog_tables.proofs.Ranges.{test-least, test-most}
@@ -26,9 +27,9 @@ test-bare k h = rw (le-ltb k 5 (omega arith), le-ltb k 8 (omega arith), ne-eqb k
 test-no-kind : (k : ℕ) → 14 ≤ k → oneOf (hasExpression k) (isCallRow k) ≡ false
 test-no-kind k h = rw (test-bare k h, ne-eqb k 11 (λ e. omega arith), ne-eqb k 12 (λ e. omega arith))
 
-module _ (t : List ℕ) (c d n : ℕ) where
-  abbrev f : ℕ → Row
-  f = rowAt t
+module _ (t : List ℕ) (c : ℕ) (l : List ℕ) (lc d n : ℕ) where
+  abbrev prog : Program
+  prog = lentProgram t c l lc d
 
   abbrev kind : ℕ
   kind = rowAt t n .kind
@@ -36,31 +37,31 @@ module _ (t : List ℕ) (c d n : ℕ) where
   abbrev expr : ℕ
   expr = rowAt t n .expr
 
-  no-kind : isListed kind ≡ true → oneOf (hasExpression kind) (isCallRow kind) ≡ false → kindFault f n ≡ false
+  no-kind : isListed kind ≡ true → oneOf (hasExpression kind) (isCallRow kind) ≡ false → kindFault prog n ≡ false
   unfolding kindFault ifTrue
   no-kind h e = rw (h, one-no (hasExpression kind) (isCallRow kind) e, one-rest (hasExpression kind) (isCallRow kind) e)
 
-  no-target : oneOf (hasTarget kind) (eqb kind 10) ≡ false → targetFault f c n ≡ false
+  no-target : oneOf (hasTarget kind) (eqb kind 10) ≡ false → targetFault prog n ≡ false
   unfolding targetFault
   no-target h = rw h
 
-  no-callee : isCall kind expr ≡ false → calleeFault f c n ≡ false
+  no-callee : isCall kind expr ≡ false → calleeFault prog n ≡ false
   unfolding calleeFault
   no-callee h = rw h
 
-  no-size : eqb kind 1 ≡ false → sizeFault f n ≡ false
+  no-size : eqb kind 1 ≡ false → sizeFault prog n ≡ false
   unfolding sizeFault
   no-size h = rw h
 
-  no-word : hasWord kind ≡ false → wordFault f c n ≡ false
+  no-word : hasWord kind ≡ false → wordFault prog n ≡ false
   unfolding wordFault
   no-word h = rw h
 
-  no-operands : usedBy kind expr (rowAt t n .count) ≡ 0 → operandsFault f c d n ≡ false
+  no-operands : usedBy kind expr (rowAt t n .count) ≡ 0 → operandsFault prog n ≡ false
   unfolding operandsFault rowAt rowFrom someOf
   no-operands h = rw h
 
-  no-address : eqb kind 7 ≡ false → addressFault f c d n ≡ false
+  no-address : eqb kind 7 ≡ false → addressFault prog n ≡ false
   unfolding addressFault
   no-address h = rw h
 
@@ -81,7 +82,7 @@ module _ (t : List ℕ) (c d n : ℕ) where
     unused : usedBy k expr (rowAt t n .count) ≡ 0 → usedBy kind expr (rowAt t n .count) ≡ 0
     unused h = ap (λ (i : ℕ). usedBy i expr (rowAt t n .count)) e ∙ h
 
-  pub of-function : kind ≡ 1 → rowFault f c d n ≡ sizeFault f n
+  pub of-function : kind ≡ 1 → rowFault prog n ≡ sizeFault prog n
   unfolding rowFault some isListed hasExpression hasTarget isTest isCall hasWord usedBy ifTrue ifEq ifLt
   of-function e =
       rw (
@@ -92,9 +93,9 @@ module _ (t : List ℕ) (c d n : ℕ) where
         no-operands (unused 1 e refl),
         no-address (ap (λ (i : ℕ). eqb i 7) e),
       )
-      (one-false (sizeFault f n))
+      (one-false (sizeFault prog n))
 
-  pub of-end : kind ≡ 2 → rowFault f c d n ≡ false
+  pub of-end : kind ≡ 2 → rowFault prog n ≡ false
   unfolding rowFault some isListed hasExpression hasTarget isTest isCall hasWord usedBy ifTrue ifEq ifLt
   of-end e =
       rw (
@@ -107,7 +108,7 @@ module _ (t : List ℕ) (c d n : ℕ) where
         no-address (ap (λ (i : ℕ). eqb i 7) e),
       )
 
-  pub of-block : kind ≡ 3 → rowFault f c d n ≡ wordFault f c n
+  pub of-block : kind ≡ 3 → rowFault prog n ≡ wordFault prog n
   unfolding rowFault some isListed hasExpression hasTarget isTest isCall hasWord usedBy ifTrue ifEq ifLt
   of-block e =
       rw (
@@ -118,9 +119,9 @@ module _ (t : List ℕ) (c d n : ℕ) where
         no-operands (unused 3 e refl),
         no-address (ap (λ (i : ℕ). eqb i 7) e),
       )
-      (one-false (wordFault f c n))
+      (one-false (wordFault prog n))
 
-  pub of-end-block : kind ≡ 4 → rowFault f c d n ≡ wordFault f c n
+  pub of-end-block : kind ≡ 4 → rowFault prog n ≡ wordFault prog n
   unfolding rowFault some isListed hasExpression hasTarget isTest isCall hasWord usedBy ifTrue ifEq ifLt
   of-end-block e =
       rw (
@@ -131,9 +132,9 @@ module _ (t : List ℕ) (c d n : ℕ) where
         no-operands (unused 4 e refl),
         no-address (ap (λ (i : ℕ). eqb i 7) e),
       )
-      (one-false (wordFault f c n))
+      (one-false (wordFault prog n))
 
-  pub of-let : kind ≡ 5 → rowFault f c d n ≡ some (kindFault f n ∷ calleeFault f c n ∷ wordFault f c n ∷ operandsFault f c d n ∷ [])
+  pub of-let : kind ≡ 5 → rowFault prog n ≡ some (kindFault prog n ∷ calleeFault prog n ∷ wordFault prog n ∷ operandsFault prog n ∷ [])
   unfolding rowFault some isListed hasExpression hasTarget isTest isCall hasWord usedBy ifTrue ifEq ifLt
   of-let e =
       rw (
@@ -142,7 +143,7 @@ module _ (t : List ℕ) (c d n : ℕ) where
         no-address (ap (λ (i : ℕ). eqb i 7) e),
       )
 
-  pub of-set : kind ≡ 6 → rowFault f c d n ≡ some (kindFault f n ∷ calleeFault f c n ∷ wordFault f c n ∷ operandsFault f c d n ∷ [])
+  pub of-set : kind ≡ 6 → rowFault prog n ≡ some (kindFault prog n ∷ calleeFault prog n ∷ wordFault prog n ∷ operandsFault prog n ∷ [])
   unfolding rowFault some isListed hasExpression hasTarget isTest isCall hasWord usedBy ifTrue ifEq ifLt
   of-set e =
       rw (
@@ -151,7 +152,7 @@ module _ (t : List ℕ) (c d n : ℕ) where
         no-address (ap (λ (i : ℕ). eqb i 7) e),
       )
 
-  pub of-set-at : kind ≡ 7 → rowFault f c d n ≡ some (kindFault f n ∷ calleeFault f c n ∷ operandsFault f c d n ∷ addressFault f c d n ∷ [])
+  pub of-set-at : kind ≡ 7 → rowFault prog n ≡ some (kindFault prog n ∷ calleeFault prog n ∷ operandsFault prog n ∷ addressFault prog n ∷ [])
   unfolding rowFault some isListed hasExpression hasTarget isTest isCall hasWord usedBy ifTrue ifEq ifLt
   of-set-at e =
       rw (
@@ -160,7 +161,7 @@ module _ (t : List ℕ) (c d n : ℕ) where
         no-word (ap hasWord e),
       )
 
-  pub of-set-byte : kind ≡ 8 → rowFault f c d n ≡ operandsFault f c d n
+  pub of-set-byte : kind ≡ 8 → rowFault prog n ≡ operandsFault prog n
   unfolding rowFault some isListed hasExpression hasTarget isTest isCall hasWord usedBy ifTrue ifEq ifLt
   of-set-byte e =
       rw (
@@ -171,9 +172,9 @@ module _ (t : List ℕ) (c d n : ℕ) where
         no-word (ap hasWord e),
         no-address (ap (λ (i : ℕ). eqb i 7) e),
       )
-      (one-false (operandsFault f c d n))
+      (one-false (operandsFault prog n))
 
-  pub of-set-word : kind ≡ 9 → rowFault f c d n ≡ operandsFault f c d n
+  pub of-set-word : kind ≡ 9 → rowFault prog n ≡ operandsFault prog n
   unfolding rowFault some isListed hasExpression hasTarget isTest isCall hasWord usedBy ifTrue ifEq ifLt
   of-set-word e =
       rw (
@@ -184,9 +185,9 @@ module _ (t : List ℕ) (c d n : ℕ) where
         no-word (ap hasWord e),
         no-address (ap (λ (i : ℕ). eqb i 7) e),
       )
-      (one-false (operandsFault f c d n))
+      (one-false (operandsFault prog n))
 
-  pub of-goto : kind ≡ 10 → rowFault f c d n ≡ targetFault f c n
+  pub of-goto : kind ≡ 10 → rowFault prog n ≡ targetFault prog n
   unfolding rowFault some isListed hasExpression hasTarget isTest isCall hasWord usedBy ifTrue ifEq ifLt
   of-goto e =
       rw (
@@ -197,9 +198,9 @@ module _ (t : List ℕ) (c d n : ℕ) where
         no-operands (unused 10 e refl),
         no-address (ap (λ (i : ℕ). eqb i 7) e),
       )
-      (one-false (targetFault f c n))
+      (one-false (targetFault prog n))
 
-  pub of-call : kind ≡ 11 → rowFault f c d n ≡ some (kindFault f n ∷ calleeFault f c n ∷ operandsFault f c d n ∷ [])
+  pub of-call : kind ≡ 11 → rowFault prog n ≡ some (kindFault prog n ∷ calleeFault prog n ∷ operandsFault prog n ∷ [])
   unfolding rowFault some isListed hasExpression hasTarget isTest isCall hasWord usedBy ifTrue ifEq ifLt
   of-call e =
       rw (
@@ -209,7 +210,7 @@ module _ (t : List ℕ) (c d n : ℕ) where
         no-address (ap (λ (i : ℕ). eqb i 7) e),
       )
 
-  pub of-tail-call : kind ≡ 12 → rowFault f c d n ≡ some (kindFault f n ∷ calleeFault f c n ∷ operandsFault f c d n ∷ [])
+  pub of-tail-call : kind ≡ 12 → rowFault prog n ≡ some (kindFault prog n ∷ calleeFault prog n ∷ operandsFault prog n ∷ [])
   unfolding rowFault some isListed hasExpression hasTarget isTest isCall hasWord usedBy ifTrue ifEq ifLt
   of-tail-call e =
       rw (
@@ -219,7 +220,7 @@ module _ (t : List ℕ) (c d n : ℕ) where
         no-address (ap (λ (i : ℕ). eqb i 7) e),
       )
 
-  pub of-return : kind ≡ 13 → rowFault f c d n ≡ some (kindFault f n ∷ calleeFault f c n ∷ operandsFault f c d n ∷ [])
+  pub of-return : kind ≡ 13 → rowFault prog n ≡ some (kindFault prog n ∷ calleeFault prog n ∷ operandsFault prog n ∷ [])
   unfolding rowFault some isListed hasExpression hasTarget isTest isCall hasWord usedBy ifTrue ifEq ifLt
   of-return e =
       rw (
@@ -229,7 +230,7 @@ module _ (t : List ℕ) (c d n : ℕ) where
         no-address (ap (λ (i : ℕ). eqb i 7) e),
       )
 
-  pub of-else : kind ≡ 20 → rowFault f c d n ≡ targetFault f c n
+  pub of-else : kind ≡ 20 → rowFault prog n ≡ targetFault prog n
   unfolding rowFault some isListed hasExpression hasTarget isTest isCall hasWord usedBy ifTrue ifEq ifLt
   of-else e =
       rw (
@@ -240,9 +241,9 @@ module _ (t : List ℕ) (c d n : ℕ) where
         no-operands (unused 20 e refl),
         no-address (ap (λ (i : ℕ). eqb i 7) e),
       )
-      (one-false (targetFault f c n))
+      (one-false (targetFault prog n))
 
-  pub of-jump : kind ≡ 21 → rowFault f c d n ≡ targetFault f c n
+  pub of-jump : kind ≡ 21 → rowFault prog n ≡ targetFault prog n
   unfolding rowFault some isListed hasExpression hasTarget isTest isCall hasWord usedBy ifTrue ifEq ifLt
   of-jump e =
       rw (
@@ -253,9 +254,9 @@ module _ (t : List ℕ) (c d n : ℕ) where
         no-operands (unused 21 e refl),
         no-address (ap (λ (i : ℕ). eqb i 7) e),
       )
-      (one-false (targetFault f c n))
+      (one-false (targetFault prog n))
 
-  pub of-end-if : kind ≡ 22 → rowFault f c d n ≡ false
+  pub of-end-if : kind ≡ 22 → rowFault prog n ≡ false
   unfolding rowFault some isListed hasExpression hasTarget isTest isCall hasWord usedBy ifTrue ifEq ifLt
   of-end-if e =
       rw (
@@ -268,7 +269,7 @@ module _ (t : List ℕ) (c d n : ℕ) where
         no-address (ap (λ (i : ℕ). eqb i 7) e),
       )
 
-  pub of-test : isTest kind ≡ true → rowFault f c d n ≡ some (targetFault f c n ∷ operandsFault f c d n ∷ [])
+  pub of-test : isTest kind ≡ true → rowFault prog n ≡ some (targetFault prog n ∷ operandsFault prog n ∷ [])
   unfolding rowFault some isListed hasExpression isCall hasWord ifTrue ifEq ifLt
   of-test e =
       let l = test-least kind e in
@@ -281,7 +282,7 @@ module _ (t : List ℕ) (c d n : ℕ) where
         no-address (ne-eqb kind 7 (λ q. omega (arith, l, q))),
       )
 
-  pub of-unlisted : isListed kind ≡ false → rowFault f c d n ≡ true
+  pub of-unlisted : isListed kind ≡ false → rowFault prog n ≡ true
   unfolding rowFault some kindFault ifTrue
   of-unlisted h = rw h
 
@@ -369,62 +370,62 @@ pub ruleset threes = (three-first, three-rest)
 
 pub ruleset fours = (four-first, four-second, four-third, four-fourth)
 
-module _ (t : List ℕ) (c d n k : ℕ) (x : Bool) (e : k ≡ rowAt t n .kind) where
-  pub row-1 : k ≡ 1 → x ≡ sizeFault (rowAt t) n → x ≡ rowFault (rowAt t) c d n
-  row-1 h q = q ∙ sym (of-function t c d n (sym e ∙ h))
+module _ (t : List ℕ) (c : ℕ) (l : List ℕ) (lc d n k : ℕ) (x : Bool) (e : k ≡ rowAt t n .kind) where
+  pub row-1 : k ≡ 1 → x ≡ sizeFault (lentProgram t c l lc d) n → x ≡ rowFault (lentProgram t c l lc d) n
+  row-1 h q = q ∙ sym (of-function t c l lc d n (sym e ∙ h))
 
-  pub row-2 : k ≡ 2 → false ≡ rowFault (rowAt t) c d n
-  row-2 h = sym (of-end t c d n (sym e ∙ h))
+  pub row-2 : k ≡ 2 → false ≡ rowFault (lentProgram t c l lc d) n
+  row-2 h = sym (of-end t c l lc d n (sym e ∙ h))
 
-  pub row-22 : k ≡ 22 → false ≡ rowFault (rowAt t) c d n
-  row-22 h = sym (of-end-if t c d n (sym e ∙ h))
+  pub row-22 : k ≡ 22 → false ≡ rowFault (lentProgram t c l lc d) n
+  row-22 h = sym (of-end-if t c l lc d n (sym e ∙ h))
 
-  pub row-3 : k ≡ 3 → x ≡ wordFault (rowAt t) c n → x ≡ rowFault (rowAt t) c d n
-  row-3 h q = q ∙ sym (of-block t c d n (sym e ∙ h))
+  pub row-3 : k ≡ 3 → x ≡ wordFault (lentProgram t c l lc d) n → x ≡ rowFault (lentProgram t c l lc d) n
+  row-3 h q = q ∙ sym (of-block t c l lc d n (sym e ∙ h))
 
-  pub row-4 : k ≡ 4 → x ≡ wordFault (rowAt t) c n → x ≡ rowFault (rowAt t) c d n
-  row-4 h q = q ∙ sym (of-end-block t c d n (sym e ∙ h))
+  pub row-4 : k ≡ 4 → x ≡ wordFault (lentProgram t c l lc d) n → x ≡ rowFault (lentProgram t c l lc d) n
+  row-4 h q = q ∙ sym (of-end-block t c l lc d n (sym e ∙ h))
 
-  pub row-5 : k ≡ 5 → x ≡ some (kindFault (rowAt t) n ∷ calleeFault (rowAt t) c n ∷ wordFault (rowAt t) c n ∷ operandsFault (rowAt t) c d n ∷ []) → x ≡ rowFault (rowAt t) c d n
-  row-5 h q = q ∙ sym (of-let t c d n (sym e ∙ h))
+  pub row-5 : k ≡ 5 → x ≡ some (kindFault (lentProgram t c l lc d) n ∷ calleeFault (lentProgram t c l lc d) n ∷ wordFault (lentProgram t c l lc d) n ∷ operandsFault (lentProgram t c l lc d) n ∷ []) → x ≡ rowFault (lentProgram t c l lc d) n
+  row-5 h q = q ∙ sym (of-let t c l lc d n (sym e ∙ h))
 
-  pub row-6 : k ≡ 6 → x ≡ some (kindFault (rowAt t) n ∷ calleeFault (rowAt t) c n ∷ wordFault (rowAt t) c n ∷ operandsFault (rowAt t) c d n ∷ []) → x ≡ rowFault (rowAt t) c d n
-  row-6 h q = q ∙ sym (of-set t c d n (sym e ∙ h))
+  pub row-6 : k ≡ 6 → x ≡ some (kindFault (lentProgram t c l lc d) n ∷ calleeFault (lentProgram t c l lc d) n ∷ wordFault (lentProgram t c l lc d) n ∷ operandsFault (lentProgram t c l lc d) n ∷ []) → x ≡ rowFault (lentProgram t c l lc d) n
+  row-6 h q = q ∙ sym (of-set t c l lc d n (sym e ∙ h))
 
-  pub row-7 : k ≡ 7 → x ≡ some (kindFault (rowAt t) n ∷ calleeFault (rowAt t) c n ∷ operandsFault (rowAt t) c d n ∷ addressFault (rowAt t) c d n ∷ []) → x ≡ rowFault (rowAt t) c d n
-  row-7 h q = q ∙ sym (of-set-at t c d n (sym e ∙ h))
+  pub row-7 : k ≡ 7 → x ≡ some (kindFault (lentProgram t c l lc d) n ∷ calleeFault (lentProgram t c l lc d) n ∷ operandsFault (lentProgram t c l lc d) n ∷ addressFault (lentProgram t c l lc d) n ∷ []) → x ≡ rowFault (lentProgram t c l lc d) n
+  row-7 h q = q ∙ sym (of-set-at t c l lc d n (sym e ∙ h))
 
-  pub row-8 : k ≡ 8 → x ≡ operandsFault (rowAt t) c d n → x ≡ rowFault (rowAt t) c d n
-  row-8 h q = q ∙ sym (of-set-byte t c d n (sym e ∙ h))
+  pub row-8 : k ≡ 8 → x ≡ operandsFault (lentProgram t c l lc d) n → x ≡ rowFault (lentProgram t c l lc d) n
+  row-8 h q = q ∙ sym (of-set-byte t c l lc d n (sym e ∙ h))
 
-  pub row-9 : k ≡ 9 → x ≡ operandsFault (rowAt t) c d n → x ≡ rowFault (rowAt t) c d n
-  row-9 h q = q ∙ sym (of-set-word t c d n (sym e ∙ h))
+  pub row-9 : k ≡ 9 → x ≡ operandsFault (lentProgram t c l lc d) n → x ≡ rowFault (lentProgram t c l lc d) n
+  row-9 h q = q ∙ sym (of-set-word t c l lc d n (sym e ∙ h))
 
-  pub row-10 : k ≡ 10 → x ≡ targetFault (rowAt t) c n → x ≡ rowFault (rowAt t) c d n
-  row-10 h q = q ∙ sym (of-goto t c d n (sym e ∙ h))
+  pub row-10 : k ≡ 10 → x ≡ targetFault (lentProgram t c l lc d) n → x ≡ rowFault (lentProgram t c l lc d) n
+  row-10 h q = q ∙ sym (of-goto t c l lc d n (sym e ∙ h))
 
-  pub row-11 : k ≡ 11 → x ≡ some (kindFault (rowAt t) n ∷ calleeFault (rowAt t) c n ∷ operandsFault (rowAt t) c d n ∷ []) → x ≡ rowFault (rowAt t) c d n
-  row-11 h q = q ∙ sym (of-call t c d n (sym e ∙ h))
+  pub row-11 : k ≡ 11 → x ≡ some (kindFault (lentProgram t c l lc d) n ∷ calleeFault (lentProgram t c l lc d) n ∷ operandsFault (lentProgram t c l lc d) n ∷ []) → x ≡ rowFault (lentProgram t c l lc d) n
+  row-11 h q = q ∙ sym (of-call t c l lc d n (sym e ∙ h))
 
-  pub row-12 : k ≡ 12 → x ≡ some (kindFault (rowAt t) n ∷ calleeFault (rowAt t) c n ∷ operandsFault (rowAt t) c d n ∷ []) → x ≡ rowFault (rowAt t) c d n
-  row-12 h q = q ∙ sym (of-tail-call t c d n (sym e ∙ h))
+  pub row-12 : k ≡ 12 → x ≡ some (kindFault (lentProgram t c l lc d) n ∷ calleeFault (lentProgram t c l lc d) n ∷ operandsFault (lentProgram t c l lc d) n ∷ []) → x ≡ rowFault (lentProgram t c l lc d) n
+  row-12 h q = q ∙ sym (of-tail-call t c l lc d n (sym e ∙ h))
 
-  pub row-13 : k ≡ 13 → x ≡ some (kindFault (rowAt t) n ∷ calleeFault (rowAt t) c n ∷ operandsFault (rowAt t) c d n ∷ []) → x ≡ rowFault (rowAt t) c d n
-  row-13 h q = q ∙ sym (of-return t c d n (sym e ∙ h))
+  pub row-13 : k ≡ 13 → x ≡ some (kindFault (lentProgram t c l lc d) n ∷ calleeFault (lentProgram t c l lc d) n ∷ operandsFault (lentProgram t c l lc d) n ∷ []) → x ≡ rowFault (lentProgram t c l lc d) n
+  row-13 h q = q ∙ sym (of-return t c l lc d n (sym e ∙ h))
 
-  pub row-20 : k ≡ 20 → x ≡ targetFault (rowAt t) c n → x ≡ rowFault (rowAt t) c d n
-  row-20 h q = q ∙ sym (of-else t c d n (sym e ∙ h))
+  pub row-20 : k ≡ 20 → x ≡ targetFault (lentProgram t c l lc d) n → x ≡ rowFault (lentProgram t c l lc d) n
+  row-20 h q = q ∙ sym (of-else t c l lc d n (sym e ∙ h))
 
-  pub row-21 : k ≡ 21 → x ≡ targetFault (rowAt t) c n → x ≡ rowFault (rowAt t) c d n
-  row-21 h q = q ∙ sym (of-jump t c d n (sym e ∙ h))
+  pub row-21 : k ≡ 21 → x ≡ targetFault (lentProgram t c l lc d) n → x ≡ rowFault (lentProgram t c l lc d) n
+  row-21 h q = q ∙ sym (of-jump t c l lc d n (sym e ∙ h))
 
   module _ (b : Bool) (i : b ≡ isTest k) where
-    pub row-test : b ≡ true → x ≡ some (targetFault (rowAt t) c n ∷ operandsFault (rowAt t) c d n ∷ []) → x ≡ rowFault (rowAt t) c d n
-    row-test h q = q ∙ sym (of-test t c d n (ap isTest (sym e) ∙ sym i ∙ h))
+    pub row-test : b ≡ true → x ≡ some (targetFault (lentProgram t c l lc d) n ∷ operandsFault (lentProgram t c l lc d) n ∷ []) → x ≡ rowFault (lentProgram t c l lc d) n
+    row-test h q = q ∙ sym (of-test t c l lc d n (ap isTest (sym e) ∙ sym i ∙ h))
 
     pub row-other : b ≡ false → (k ≡ 1 → ⊥) → (k ≡ 2 → ⊥) → (k ≡ 3 → ⊥) → (k ≡ 4 → ⊥) → (k ≡ 5 → ⊥) → (k ≡ 6 → ⊥) → (k ≡ 7 → ⊥) → (k ≡ 8 → ⊥)
-        → (k ≡ 9 → ⊥) → (k ≡ 10 → ⊥) → (k ≡ 11 → ⊥) → (k ≡ 12 → ⊥) → (k ≡ 13 → ⊥) → (k ≡ 20 → ⊥) → (k ≡ 21 → ⊥) → (k ≡ 22 → ⊥) → true ≡ rowFault (rowAt t) c d n
+        → (k ≡ 9 → ⊥) → (k ≡ 10 → ⊥) → (k ≡ 11 → ⊥) → (k ≡ 12 → ⊥) → (k ≡ 13 → ⊥) → (k ≡ 20 → ⊥) → (k ≡ 21 → ⊥) → (k ≡ 22 → ⊥) → true ≡ rowFault (lentProgram t c l lc d) n
     row-other h a1 a2 a3 a4 a5 a6 a7 a8 a9 a10 a11 a12 a13 a20 a21 a22 =
-        sym (of-unlisted t c d n (ap isListed (sym e) ∙ unlisted k (sym i ∙ h) a1 a2 a3 a4 a5 a6 a7 a8 a9 a10 a11 a12 a13 a20 a21 a22))
+        sym (of-unlisted t c l lc d n (ap isListed (sym e) ∙ unlisted k (sym i ∙ h) a1 a2 a3 a4 a5 a6 a7 a8 a9 a10 a11 a12 a13 a20 a21 a22))
 
 pub ruleset row-ways = (row-1, row-2, row-3, row-4, row-5, row-6, row-7, row-8, row-9, row-10, row-11, row-12, row-13, row-20, row-21, row-22, row-test, row-other)

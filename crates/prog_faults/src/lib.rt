@@ -9,6 +9,7 @@ ghost use Prim.Native.Nat.{_+_, _*_, _≤_, _<_, min};
 ghost use lib.Dec.{eqb};
 ghost use Rattle.prog_tables.specs.Tests.{oneOf, some};
 ghost use Rattle.prog_tables.specs.Statement.{usedBy, rowAt};
+ghost use Rattle.prog_tables.specs.Program.{lentProgram};
 ghost use Rattle.prog_tables.specs.Nesting.{isListed, hasTarget};
 ghost use Rattle.prog_tables.specs.Faults.{expressionListed, isCallRow, expressionFault, inFunction, sizeAt, operandFault, addressListed, kindFault, targetFault, calleeFault, sizeFault, ownWord, hasWord, wordFault, operandsFault, addressFault, rowFault};
 ghost use Rattle.lang_kinds.specs.Kinds as kind;
@@ -135,8 +136,8 @@ pub fn is_address(o: Operand) -> bool
 }
 
 // An unlisted kind of a row or its expression.
-fn kind_fault(t: &[u32], n: u32) -> bool
-    ensures { λ r. ⌜ r ≡ kindFault (rowAt (now (t .entry))) n ⌝ }
+fn kind_fault(t: &[u32], c: u32, l: &[u32], lc: u32, d: u32, n: u32) -> bool
+    ensures { λ r. ⌜ r ≡ kindFault (lentProgram (now (t .entry)) c (now (l .entry)) lc d) n ⌝ }
 {
     let k = prog_tables::kind_at(t, n);
     if is_listed(k) {
@@ -157,8 +158,8 @@ fn is_jump(k: u32) -> bool
 }
 
 // A target that is no statement of the same function.
-fn target_fault(t: &[u32], c: u32, n: u32) -> bool
-    ensures { λ r. ⌜ r ≡ targetFault (rowAt (now (t .entry))) c n ⌝ }
+fn target_fault(t: &[u32], c: u32, l: &[u32], lc: u32, d: u32, n: u32) -> bool
+    ensures { λ r. ⌜ r ≡ targetFault (lentProgram (now (t .entry)) c (now (l .entry)) lc d) n ⌝ }
 {
     let k = prog_tables::kind_at(t, n);
     if is_jump(k) {
@@ -180,8 +181,8 @@ fn target_fault(t: &[u32], c: u32, n: u32) -> bool
 }
 
 // A callee that is no function, or has another parameter count; too many arguments.
-fn callee_fault(t: &[u32], c: u32, n: u32) -> bool
-    ensures { λ r. ⌜ r ≡ calleeFault (rowAt (now (t .entry))) c n ⌝ }
+fn callee_fault(t: &[u32], c: u32, l: &[u32], lc: u32, d: u32, n: u32) -> bool
+    ensures { λ r. ⌜ r ≡ calleeFault (lentProgram (now (t .entry)) c (now (l .entry)) lc d) n ⌝ }
 {
     let k = prog_tables::kind_at(t, n);
     let e = prog_tables::expression_at(t, n);
@@ -208,8 +209,8 @@ fn callee_fault(t: &[u32], c: u32, n: u32) -> bool
 }
 
 // A frame size below 3 + parameters.
-fn size_fault(t: &[u32], n: u32) -> bool
-    ensures { λ r. ⌜ r ≡ sizeFault (rowAt (now (t .entry))) n ⌝ }
+fn size_fault(t: &[u32], c: u32, l: &[u32], lc: u32, d: u32, n: u32) -> bool
+    ensures { λ r. ⌜ r ≡ sizeFault (lentProgram (now (t .entry)) c (now (l .entry)) lc d) n ⌝ }
 {
     let k = prog_tables::kind_at(t, n);
     if k == Kind::FUNCTION {
@@ -246,8 +247,8 @@ fn own_word(t: &[u32], n: u32) -> u64
 }
 
 // A destination or block word at or past the frame size.
-fn word_fault(t: &[u32], c: u32, n: u32) -> bool
-    ensures { λ r. ⌜ r ≡ wordFault (rowAt (now (t .entry))) c n ⌝ }
+fn word_fault(t: &[u32], c: u32, l: &[u32], lc: u32, d: u32, n: u32) -> bool
+    ensures { λ r. ⌜ r ≡ wordFault (lentProgram (now (t .entry)) c (now (l .entry)) lc d) n ⌝ }
 {
     let k = prog_tables::kind_at(t, n);
     if has_word(k) {
@@ -288,8 +289,8 @@ fn slot_fault(t: &[u32], size: u32, d: u32, n: u32, i: u32) -> bool
 }
 
 // A broken operand.
-fn operands_fault(t: &[u32], c: u32, d: u32, n: u32) -> bool
-    ensures { λ r. ⌜ r ≡ operandsFault (rowAt (now (t .entry))) c d n ⌝ }
+fn operands_fault(t: &[u32], c: u32, l: &[u32], lc: u32, d: u32, n: u32) -> bool
+    ensures { λ r. ⌜ r ≡ operandsFault (lentProgram (now (t .entry)) c (now (l .entry)) lc d) n ⌝ }
 {
     let m = operands_at(t, n);
     let size = size_at(t, c, n);
@@ -304,8 +305,8 @@ fn operands_fault(t: &[u32], c: u32, d: u32, n: u32) -> bool
 }
 
 // A broken address operand.
-fn address_fault(t: &[u32], c: u32, d: u32, n: u32) -> bool
-    ensures { λ r. ⌜ r ≡ addressFault (rowAt (now (t .entry))) c d n ⌝ }
+fn address_fault(t: &[u32], c: u32, l: &[u32], lc: u32, d: u32, n: u32) -> bool
+    ensures { λ r. ⌜ r ≡ addressFault (lentProgram (now (t .entry)) c (now (l .entry)) lc d) n ⌝ }
 {
     let k = prog_tables::kind_at(t, n);
     if k == Kind::SET_AT {
@@ -319,91 +320,91 @@ fn address_fault(t: &[u32], c: u32, d: u32, n: u32) -> bool
 }
 
 // A broken test: its target, its operands.
-fn test_fault(t: &[u32], c: u32, d: u32, n: u32) -> bool
-    ensures { λ r. ⌜ r ≡ some (targetFault (rowAt (now (t .entry))) c n ∷ operandsFault (rowAt (now (t .entry))) c d n ∷ []) ⌝ }
+fn test_fault(t: &[u32], c: u32, l: &[u32], lc: u32, d: u32, n: u32) -> bool
+    ensures { λ r. ⌜ r ≡ some (targetFault (lentProgram (now (t .entry)) c (now (l .entry)) lc d) n ∷ operandsFault (lentProgram (now (t .entry)) c (now (l .entry)) lc d) n ∷ []) ⌝ }
 {
-    if target_fault(t, c, n) {
+    if target_fault(t, c, l, lc, d, n) {
         return true;
     }
-    operands_fault(t, c, d, n)
+    operands_fault(t, c, l, lc, d, n)
 }
 
 // A broken call in any form: its callee, its arguments.
-fn call_fault(t: &[u32], c: u32, d: u32, n: u32) -> bool
-    ensures { λ r. ⌜ r ≡ some (calleeFault (rowAt (now (t .entry))) c n ∷ operandsFault (rowAt (now (t .entry))) c d n ∷ []) ⌝ }
+fn call_fault(t: &[u32], c: u32, l: &[u32], lc: u32, d: u32, n: u32) -> bool
+    ensures { λ r. ⌜ r ≡ some (calleeFault (lentProgram (now (t .entry)) c (now (l .entry)) lc d) n ∷ operandsFault (lentProgram (now (t .entry)) c (now (l .entry)) lc d) n ∷ []) ⌝ }
 {
-    if callee_fault(t, c, n) {
+    if callee_fault(t, c, l, lc, d, n) {
         return true;
     }
-    operands_fault(t, c, d, n)
+    operands_fault(t, c, l, lc, d, n)
 }
 
 // A broken `call`, `tail-call` or `return`: its expression.
-fn expression_fault(t: &[u32], c: u32, d: u32, n: u32) -> bool
-    ensures { λ r. ⌜ r ≡ some (kindFault (rowAt (now (t .entry))) n ∷ calleeFault (rowAt (now (t .entry))) c n ∷ operandsFault (rowAt (now (t .entry))) c d n ∷ []) ⌝ }
+fn expression_fault(t: &[u32], c: u32, l: &[u32], lc: u32, d: u32, n: u32) -> bool
+    ensures { λ r. ⌜ r ≡ some (kindFault (lentProgram (now (t .entry)) c (now (l .entry)) lc d) n ∷ calleeFault (lentProgram (now (t .entry)) c (now (l .entry)) lc d) n ∷ operandsFault (lentProgram (now (t .entry)) c (now (l .entry)) lc d) n ∷ []) ⌝ }
 {
-    if kind_fault(t, n) {
+    if kind_fault(t, c, l, lc, d, n) {
         return true;
     }
-    call_fault(t, c, d, n)
+    call_fault(t, c, l, lc, d, n)
 }
 
 // A broken `let` or `set` of a local: its expression, its destination.
-fn local_fault(t: &[u32], c: u32, d: u32, n: u32) -> bool
-    ensures { λ r. ⌜ r ≡ some (kindFault (rowAt (now (t .entry))) n ∷ calleeFault (rowAt (now (t .entry))) c n ∷ wordFault (rowAt (now (t .entry))) c n ∷ operandsFault (rowAt (now (t .entry))) c d n ∷ []) ⌝ }
+fn local_fault(t: &[u32], c: u32, l: &[u32], lc: u32, d: u32, n: u32) -> bool
+    ensures { λ r. ⌜ r ≡ some (kindFault (lentProgram (now (t .entry)) c (now (l .entry)) lc d) n ∷ calleeFault (lentProgram (now (t .entry)) c (now (l .entry)) lc d) n ∷ wordFault (lentProgram (now (t .entry)) c (now (l .entry)) lc d) n ∷ operandsFault (lentProgram (now (t .entry)) c (now (l .entry)) lc d) n ∷ []) ⌝ }
 {
-    if kind_fault(t, n) {
+    if kind_fault(t, c, l, lc, d, n) {
         return true;
     }
-    if callee_fault(t, c, n) {
+    if callee_fault(t, c, l, lc, d, n) {
         return true;
     }
-    if word_fault(t, c, n) {
+    if word_fault(t, c, l, lc, d, n) {
         return true;
     }
-    operands_fault(t, c, d, n)
+    operands_fault(t, c, l, lc, d, n)
 }
 
 // A broken `set @`: its expression, its address.
-fn set_at_fault(t: &[u32], c: u32, d: u32, n: u32) -> bool
-    ensures { λ r. ⌜ r ≡ some (kindFault (rowAt (now (t .entry))) n ∷ calleeFault (rowAt (now (t .entry))) c n ∷ operandsFault (rowAt (now (t .entry))) c d n ∷ addressFault (rowAt (now (t .entry))) c d n ∷ []) ⌝ }
+fn set_at_fault(t: &[u32], c: u32, l: &[u32], lc: u32, d: u32, n: u32) -> bool
+    ensures { λ r. ⌜ r ≡ some (kindFault (lentProgram (now (t .entry)) c (now (l .entry)) lc d) n ∷ calleeFault (lentProgram (now (t .entry)) c (now (l .entry)) lc d) n ∷ operandsFault (lentProgram (now (t .entry)) c (now (l .entry)) lc d) n ∷ addressFault (lentProgram (now (t .entry)) c (now (l .entry)) lc d) n ∷ []) ⌝ }
 {
-    if kind_fault(t, n) {
+    if kind_fault(t, c, l, lc, d, n) {
         return true;
     }
-    if callee_fault(t, c, n) {
+    if callee_fault(t, c, l, lc, d, n) {
         return true;
     }
-    if operands_fault(t, c, d, n) {
+    if operands_fault(t, c, l, lc, d, n) {
         return true;
     }
-    address_fault(t, c, d, n)
+    address_fault(t, c, l, lc, d, n)
 }
 
-// Whether a row of c rows is broken, d being the data's length: by its kind, since a row of one kind has not what another has.
-pub fn row_fault(t: &[u32], c: u32, d: u32, n: u32) -> bool
-    ensures { λ r. ⌜ r ≡ rowFault (rowAt (now (t .entry))) c d n ⌝ }
+// Whether a row of c rows is broken, with lc label rows and d bytes of data: by its kind, since a row of one kind has not what another has.
+pub fn row_fault(t: &[u32], c: u32, l: &[u32], lc: u32, d: u32, n: u32) -> bool
+    ensures { λ r. ⌜ r ≡ rowFault (lentProgram (now (t .entry)) c (now (l .entry)) lc d) n ⌝ }
 {
     let k = prog_tables::kind_at(t, n);
     if prog_tables::is_test(k) {
-        return test_fault(t, c, d, n);
+        return test_fault(t, c, l, lc, d, n);
     }
     match k {
-        Kind::FUNCTION => size_fault(t, n),
+        Kind::FUNCTION => size_fault(t, c, l, lc, d, n),
         Kind::END_FUNCTION => false,
-        Kind::BLOCK => word_fault(t, c, n),
-        Kind::END_BLOCK => word_fault(t, c, n),
-        Kind::LET => local_fault(t, c, d, n),
-        Kind::SET => local_fault(t, c, d, n),
-        Kind::SET_AT => set_at_fault(t, c, d, n),
-        Kind::SET_BYTE => operands_fault(t, c, d, n),
-        Kind::SET_WORD => operands_fault(t, c, d, n),
-        Kind::GOTO => target_fault(t, c, n),
-        Kind::CALL => expression_fault(t, c, d, n),
-        Kind::TAIL_CALL => expression_fault(t, c, d, n),
-        Kind::RETURN => expression_fault(t, c, d, n),
-        Kind::ELSE => target_fault(t, c, n),
-        Kind::ELSE_IF => target_fault(t, c, n),
+        Kind::BLOCK => word_fault(t, c, l, lc, d, n),
+        Kind::END_BLOCK => word_fault(t, c, l, lc, d, n),
+        Kind::LET => local_fault(t, c, l, lc, d, n),
+        Kind::SET => local_fault(t, c, l, lc, d, n),
+        Kind::SET_AT => set_at_fault(t, c, l, lc, d, n),
+        Kind::SET_BYTE => operands_fault(t, c, l, lc, d, n),
+        Kind::SET_WORD => operands_fault(t, c, l, lc, d, n),
+        Kind::GOTO => target_fault(t, c, l, lc, d, n),
+        Kind::CALL => expression_fault(t, c, l, lc, d, n),
+        Kind::TAIL_CALL => expression_fault(t, c, l, lc, d, n),
+        Kind::RETURN => expression_fault(t, c, l, lc, d, n),
+        Kind::ELSE => target_fault(t, c, l, lc, d, n),
+        Kind::ELSE_IF => target_fault(t, c, l, lc, d, n),
         Kind::END_IF => false,
         _ => true,
     }

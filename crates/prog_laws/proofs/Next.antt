@@ -12,10 +12,12 @@ use lib.Dec.{eqb, ltb, leb}
 use lib.ListN.{getD}
 use Rattle.base_prelude.specs.Choice.{ifLt, ifEq, ifTrue}
 use Rattle.base_prelude.proofs.Choice.{either-true, either-eq, ifEq-yes, ifEq-no, ifTrue-yes, ifTrue-no}
+use Rattle.base_limits.specs.declared.Width.{Width}
 use Rattle.lang_kinds.specs.Nesting.{statementIn, standsIn, enters, leaves, groundOf, isFrame}
 use Rattle.prog_tables.specs.Tests.{both, given, all, allBelow}
 use Rattle.prog_tables.specs.Statement.{Row}
 use Rattle.prog_tables.specs.Label.{Tables, rows}
+use Rattle.prog_tables.specs.Program.{programFrom}
 use Rattle.prog_tables.specs.Nesting.{behind, openBefore, scopeIn, upIn, isListed, stands}
 use Rattle.prog_tables.specs.WellFormed.{WellFormed}
 use Rattle.prog_tables.proofs.Each.{both-left, both-right, both-true, given-then, all-at, below-at}
@@ -311,7 +313,7 @@ unfolding scopeBehind
 scope-behind-other f n e q =
     ifTrue-no n (ifEq (f n .kind) 4 (f (f n .scope) .scope) (f n .scope)) e ∙ ifEq-no (f (f n .scope) .scope) (f n .scope) q
 
-module _ (t : Tables) (w : WellFormed t) (n : ℕ) (h : n < t .count) where
+module _ (bits : Width) (t : Tables) (w : WellFormed (programFrom bits t)) (n : ℕ) (h : n < t .count) where
   -- the function of row n
   pub record FuncLine : Type 0 where
     pub before : rows t n .func ≤ n
@@ -319,21 +321,21 @@ module _ (t : Tables) (w : WellFormed t) (n : ℕ) (h : n < t .count) where
     pub is-function : rows t (rows t n .func) .kind ≡ 1
 
   pub func-line : FuncLine
-  func-line = record { before = row-held t w n h .before; within = omega (arith, row-held t w n h .before); is-function = row-held t w n h .is-function }
+  func-line = record { before = row-held bits t w n h .before; within = omega (arith, row-held bits t w n h .before); is-function = row-held bits t w n h .is-function }
 
   -- a function is its own function and frame
   pub func-self : rows t n .kind ≡ 1 → rows t n .func ≡ n
-  func-self e = func-own (rows t) (t .count) (ok t w) n h e
+  func-self e = func-own (rows t) (t .count) (ok bits t w) n h e
 
   pub scope-self : rows t n .kind ≡ 1 → rows t n .scope ≡ n
   unfolding scopeIn
   scope-self e =
-      here (rows t) (t .count) (ok t w) n h .scope-is
+      here (rows t) (t .count) (ok bits t w) n h .scope-is
       ∙ ifEq-yes n (ifTrue (isFrame (rows t (openBefore (rows t) n - 1) .kind)) (openBefore (rows t) n - 1) (rows t (openBefore (rows t) n - 1) .scope)) e
 
   -- the frame of any other row: a function or block before it, in its function
-  pub scope-frame : (rows t n .kind ≡ 1 → ⊥) → At (rows t) (t .count) (ok t w) n (rows t n .scope)
-  scope-frame q = scopes (rows t) (t .count) (ok t w) (t .count) (omega arith) n h q
+  pub scope-frame : (rows t n .kind ≡ 1 → ⊥) → At (rows t) (t .count) (ok bits t w) n (rows t n .scope)
+  scope-frame q = scopes (rows t) (t .count) (ok bits t w) (t .count) (omega arith) n h q
 
   -- the row behind a row that is no `end function`
   pub record NextIn : Type 0 where
@@ -344,33 +346,33 @@ module _ (t : Tables) (w : WellFormed t) (n : ℕ) (h : n < t .count) where
   module _ (p : rows t n .kind ≡ 2 → ⊥) where
     pub next-in : NextIn
     next-in =
-        let x : Next (rows t) (t .count) (ok t w) (shut t w) n h p = next (rows t) (t .count) (ok t w) (shut t w) n h p in
+        let x : Next (rows t) (t .count) (ok bits t w) (shut bits t w) n h p = next (rows t) (t .count) (ok bits t w) (shut bits t w) n h p in
         record { within = x .within; same = x .same; no-function = x .no-function }
 
     pub scope-next : rows t (suc n) .scope ≡ scopeBehind (rows t) n
     unfolding isFrame
     scope-next =
         elim (ℕ-discrete (rows t n .kind) 1) [
-          | yes e ↦ scope-function (rows t) (t .count) (ok t w) (shut t w) n h p e ∙ sym (scope-behind-own (rows t) n (ifEq-yes true (ifEq (rows t n .kind) 3 true false) e))
+          | yes e ↦ scope-function (rows t) (t .count) (ok bits t w) (shut bits t w) n h p e ∙ sym (scope-behind-own (rows t) n (ifEq-yes true (ifEq (rows t n .kind) 3 true false) e))
           | no q ↦ elim (ℕ-discrete (rows t n .kind) 3) [
-            | yes e ↦ scope-block (rows t) (t .count) (ok t w) (shut t w) n h p e
+            | yes e ↦ scope-block (rows t) (t .count) (ok bits t w) (shut bits t w) n h p e
                 ∙ sym (scope-behind-own (rows t) n (ifEq-no true (ifEq (rows t n .kind) 3 true false) q ∙ ifEq-yes true false e))
             | no r ↦ elim (ℕ-discrete (rows t n .kind) 4) [
-              | yes e ↦ scope-end (rows t) (t .count) (ok t w) (shut t w) n h p e ∙ sym (scope-behind-end (rows t) n e)
-              | no s ↦ scope-other (rows t) (t .count) (ok t w) (shut t w) n h p q r s ∙ sym (scope-behind-other (rows t) n (not-frame (rows t n .kind) q r) s)
+              | yes e ↦ scope-end (rows t) (t .count) (ok bits t w) (shut bits t w) n h p e ∙ sym (scope-behind-end (rows t) n e)
+              | no s ↦ scope-other (rows t) (t .count) (ok bits t w) (shut bits t w) n h p q r s ∙ sym (scope-behind-other (rows t) n (not-frame (rows t n .kind) q r) s)
             ]
           ]
         ]
 
     -- the same, kind by kind
     pub next-function : rows t n .kind ≡ 1 → rows t (suc n) .scope ≡ n
-    next-function e = scope-function (rows t) (t .count) (ok t w) (shut t w) n h p e
+    next-function e = scope-function (rows t) (t .count) (ok bits t w) (shut bits t w) n h p e
 
     pub next-block : rows t n .kind ≡ 3 → rows t (suc n) .scope ≡ n
-    next-block e = scope-block (rows t) (t .count) (ok t w) (shut t w) n h p e
+    next-block e = scope-block (rows t) (t .count) (ok bits t w) (shut bits t w) n h p e
 
     pub next-end-block : rows t n .kind ≡ 4 → rows t (suc n) .scope ≡ rows t (rows t n .scope) .scope
-    next-end-block e = scope-end (rows t) (t .count) (ok t w) (shut t w) n h p e
+    next-end-block e = scope-end (rows t) (t .count) (ok bits t w) (shut bits t w) n h p e
 
     pub next-other : (rows t n .kind ≡ 1 → ⊥) → (rows t n .kind ≡ 3 → ⊥) → (rows t n .kind ≡ 4 → ⊥) → rows t (suc n) .scope ≡ rows t n .scope
-    next-other q r s = scope-other (rows t) (t .count) (ok t w) (shut t w) n h p q r s
+    next-other q r s = scope-other (rows t) (t .count) (ok bits t w) (shut bits t w) n h p q r s

@@ -10,12 +10,13 @@ use lib.Dec.{eqb, ltb, leb}
 use lib.ListN.{length, getD}
 use Rattle.base_prelude.specs.Choice.{pick, ifTrue}
 use Rattle.base_prelude.proofs.Choice.{true-false, either-true, ifTrue-yes}
-use Rattle.base_limits.specs.Limits as limits
-use Rattle.base_limits.specs.Limits.{nameBytes, dataBytes, parameters, locals}
-use Rattle.prog_tables.specs.Layout.{statementRow, labelRow}
+use Rattle.base_limits.specs.declared.Width.{Width}
+use Rattle.base_limits.specs.Limits.{parameters, locals}
+use Rattle.prog_tables.specs.Layout.{statementRow}
 use Rattle.prog_tables.specs.Tests.{both, oneOf, given, all, someOf, countBelow, greatestBelow}
 use Rattle.prog_tables.specs.Statement.{Row, isCall}
 use Rattle.prog_tables.specs.Label.{Tables, rows, labelsOf, isFunctionLabel}
+use Rattle.prog_tables.specs.Program.{programFrom}
 use Rattle.prog_tables.specs.Frames.{isIn, letsBefore, blockNeed, needOf, frameSize, localsAt}
 use Rattle.prog_tables.specs.Faults.{sizeAt, operandFault, operandsFault, addressFault, addressListed, rowFault}
 use Rattle.prog_tables.specs.WellFormed.{labelled, calls, fewLocals, countsGood, WellFormed}
@@ -24,6 +25,7 @@ use Rattle.prog_tables.specs.declared.Operand.the-variants.{Constant, Local, Ad
 use Rattle.prog_tables.proofs.Each.{both-left, given-then, all-at, counts-good, calls-at, few-at}
 use Rattle.prog_tables.proofs.Sound.{function-sound, row-held, size-is}
 use Rattle.prog_tables.proofs.Whole.{operands-sound, address-sound, row-sound}
+use Rattle.prog_tables.proofs.Unbroken.{counts, not-true}
 
 -- ---- operands that are not broken
 
@@ -89,41 +91,31 @@ need-most f c (suc d) s h =
           (λ i. either-true (λ (x : ℕ). x ≤ suc (d * 1025)) (isIn f 3 s i) (suc (needOf f c d i)) 0 (λ e. omega (arith, need-most f c d i h)) (λ e. omega arith)),
     )
 
-abbrev counts : Tables → List Bool
-counts t =
-    leb (t .count) limits.statements
-    ∷ leb (t .labelCount) limits.labels
-    ∷ leb (t .dataLength) dataBytes
-    ∷ leb (t .count * statementRow) (length (t .statements))
-    ∷ leb (t .labelCount * labelRow) (length (t .labels))
-    ∷ leb (t .labelCount * nameBytes) (length (t .names))
-    ∷ []
-
-module _ (t : Tables) (w : WellFormed t) where
+module _ (bits : Width) (t : Tables) (w : WellFormed (programFrom bits t)) where
   -- ---- limits: no row number and no frame size is 65,535
 
   pub few-rows : t .count ≤ 1024
   unfolding countsGood
-  few-rows = leb-true _ _ (all-at (counts t) 0 (counts-good t w) (omega arith))
+  few-rows = leb-true _ _ (all-at (counts (programFrom bits t)) 0 (counts-good bits t w) (omega arith))
 
   pub few-labels : t .labelCount ≤ 256
   unfolding countsGood
-  few-labels = leb-true _ _ (all-at (counts t) 1 (counts-good t w) (omega arith))
+  few-labels = leb-true _ _ (all-at (counts (programFrom bits t)) 1 (counts-good bits t w) (omega arith))
 
   pub few-data : t .dataLength ≤ 32768
   unfolding countsGood
-  few-data = leb-true _ _ (all-at (counts t) 2 (counts-good t w) (omega arith))
+  few-data = leb-true _ _ (all-at (counts (programFrom bits t)) 2 (counts-good bits t w) (omega arith))
 
   pub rows-there : t .count * statementRow ≤ length (t .statements)
   unfolding countsGood
-  rows-there = leb-true _ _ (all-at (counts t) 3 (counts-good t w) (omega arith))
+  rows-there = ltb-false _ _ (not-true _ (all-at (counts (programFrom bits t)) 3 (counts-good bits t w) (omega arith)))
 
   pub few-parameters : (s : ℕ) → s < t .count → rows t s .kind ≡ 1 → rows t s .b ≤ 8
   unfolding fewLocals
   few-parameters s h e =
       leb-true _ _
       (given-then (eqb (rows t s .kind) 1) (leb (rows t s .b) parameters)
-      (both-left (given (eqb (rows t s .kind) 1) (leb (rows t s .b) parameters)) (given (eqb (rows t s .kind) 5) (ltb (localsAt (rows t) s) locals)) (few-at t w s h))
+      (both-left (given (eqb (rows t s .kind) 1) (leb (rows t s .b) parameters)) (given (eqb (rows t s .kind) 5) (ltb (localsAt (rows t) s) locals)) (few-at bits t w s h))
       (eq-eqb _ _ e))
 
   -- the frame size of a function is 3 + its parameters at least, and below 65,535
@@ -135,23 +127,23 @@ module _ (t : Tables) (w : WellFormed t) where
   unfolding frameSize
   marks s h e =
       record {
-        head = omega (arith, size-is t w s h e);
-        no-mark = omega (arith, size-is t w s h e, few-parameters s h e, need-most (rows t) (t .count) 17 s few-rows);
+        head = omega (arith, size-is bits t w s h e);
+        no-mark = omega (arith, size-is bits t w s h e, few-parameters s h e, need-most (rows t) (t .count) 17 s few-rows);
       }
 
   module _ (n : ℕ) (h : n < t .count) where
     -- the frame size of row n's function
     pub size-here : sizeAt (rows t) (t .count) n ≡ rows t (rows t n .func) .a
     unfolding sizeAt
-    size-here = ifTrue-yes (rows t (rows t n .func) .a) 0 (function-sound t w n h)
+    size-here = ifTrue-yes (rows t (rows t n .func) .a) 0 (function-sound bits t w n h)
 
     pub size-at : Size (rows t n .func)
-    size-at = marks (rows t n .func) (omega (arith, row-held t w n h .before)) (row-held t w n h .is-function)
+    size-at = marks (rows t n .func) (omega (arith, row-held bits t w n h .before)) (row-held bits t w n h .is-function)
 
     -- ---- what 35 looks for
 
-    pub no-fault : rowFault (rows t) (t .count) (t .dataLength) n ≡ false
-    no-fault = row-sound t w n h
+    pub no-fault : rowFault (programFrom bits t) n ≡ false
+    no-fault = row-sound bits t w n h
 
     -- ---- calls
 
@@ -173,7 +165,7 @@ module _ (t : Tables) (w : WellFormed t) where
     pub callee-facts : isCall (rows t n .kind) (rows t n .expr) ≡ true → Callee
     unfolding calls call-tests
     callee-facts e =
-        let q : all call-tests ≡ true = given-then (isCall (rows t n .kind) (rows t n .expr)) (all call-tests) (calls-at t w n h) e in
+        let q : all call-tests ≡ true = given-then (isCall (rows t n .kind) (rows t n .expr)) (all call-tests) (calls-at bits t w n h) e in
         record {
           within = ltb-true _ _ (all-at call-tests 0 q (omega arith));
           is-function = eqb-true _ _ (all-at call-tests 1 q (omega arith));
@@ -188,7 +180,7 @@ module _ (t : Tables) (w : WellFormed t) where
     unfolding operandsFault operandFault
     operand-words j =
         none-at (operandFault (rows t (rows t n .func) .a) (t .dataLength)) (rows t n .operands) j (Constant 0) refl
-        (ap (λ (x : ℕ). someOf (operandFault x (t .dataLength)) (rows t n .operands)) (sym size-here) ∙ operands-sound t w n h)
+        (ap (λ (x : ℕ). someOf (operandFault x (t .dataLength)) (rows t n .operands)) (sym size-here) ∙ operands-sound bits t w n h)
 
     pub record AddressGood : Type 0 where
       pub listed : addressListed (rows t n .address) ≡ true
@@ -200,7 +192,7 @@ module _ (t : Tables) (w : WellFormed t) where
     address-words e =
         parts (addressListed (rows t n .address)) (operandFault (sizeAt (rows t) (t .count) n) (t .dataLength) (rows t n .address))
         (λ a b. record { listed = a; whole = ap (λ (x : ℕ). operandFault x (t .dataLength) (rows t n .address)) (sym size-here) ∙ b })
-        (then (eqb (rows t n .kind) 7) (oneOf (not (addressListed (rows t n .address))) (operandFault (sizeAt (rows t) (t .count) n) (t .dataLength) (rows t n .address))) (eq-eqb _ _ e) (address-sound t w n h))
+        (then (eqb (rows t n .kind) 7) (oneOf (not (addressListed (rows t n .address))) (operandFault (sizeAt (rows t) (t .count) n) (t .dataLength) (rows t n .address))) (eq-eqb _ _ e) (address-sound bits t w n h))
       where
         then : (p q : Bool) → p ≡ true → both p q ≡ false → q ≡ false
         then true q e d = d

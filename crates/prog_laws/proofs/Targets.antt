@@ -9,9 +9,11 @@ use borrow.Author.Tests.{eqb-true, eq-eqb, leb-true, ltb-true}
 use lib.Dec.{eqb, ltb, leb}
 use Rattle.base_prelude.specs.Choice.{pick, ifEq}
 use Rattle.base_prelude.proofs.Choice.{true-false, either, either-eq, either-true}
+use Rattle.base_limits.specs.declared.Width.{Width}
 use Rattle.prog_tables.specs.Tests.{both, all, firstFrom}
 use Rattle.prog_tables.specs.Statement.{Row, isTest}
 use Rattle.prog_tables.specs.Label.{Tables, rows, labelsOf}
+use Rattle.prog_tables.specs.Program.{programFrom}
 use Rattle.prog_tables.specs.Nesting.{openBefore, stands, isArm, isEndIf, nextArm, endIfOf, pastArm, targetOf, hasTarget}
 use Rattle.prog_tables.specs.WellFormed.{aimed, labelled, jumps, WellFormed}
 use Rattle.prog_tables.proofs.Each.{both-left, both-right, given-then, all-at, aimed-at, jumps-at}
@@ -85,7 +87,7 @@ module _ (f : ℕ → Row) (c : ℕ) (ok : (n : ℕ) → n < c → stands f n �
 
 -- ---- well-formed tables
 
-module _ (t : Tables) (w : WellFormed t) (n : ℕ) (h : n < t .count) where
+module _ (bits : Width) (t : Tables) (w : WellFormed (programFrom bits t)) (n : ℕ) (h : n < t .count) where
   -- the target of row n
   pub record Target : Type 0 where
     pub within : rows t n .a < t .count
@@ -103,7 +105,7 @@ module _ (t : Tables) (w : WellFormed t) (n : ℕ) (h : n < t .count) where
   pub goto-target : rows t n .kind ≡ 10 → Target
   unfolding jumps goto-tests
   goto-target e =
-      let q : all goto-tests ≡ true = given-then (eqb (rows t n .kind) 10) (all goto-tests) (jumps-at t w n h) (eq-eqb _ _ e) in
+      let q : all goto-tests ≡ true = given-then (eqb (rows t n .kind) 10) (all goto-tests) (jumps-at bits t w n h) (eq-eqb _ _ e) in
       record {
         within = ltb-true _ _ (all-at goto-tests 0 q (omega arith));
         same = eqb-true _ _ (all-at goto-tests 1 q (omega arith));
@@ -114,12 +116,12 @@ module _ (t : Tables) (w : WellFormed t) (n : ℕ) (h : n < t .count) where
   pub target-scope : hasTarget (rows t n .kind) ≡ true → Target
   unfolding aimed
   target-scope e =
-      let a : rows t n .a ≡ targetOf (rows t) (t .count) n = eqb-true _ _ (given-then (hasTarget (rows t n .kind)) (eqb (rows t n .a) (targetOf (rows t) (t .count) n)) (aimed-at t w n h) e) in
-      let x : Aimed (rows t) (t .count) (ok t w) (shut t w) n (rows t n .a) = target-good t w n h e in
+      let a : rows t n .a ≡ targetOf (rows t) (t .count) n = eqb-true _ _ (given-then (hasTarget (rows t n .kind)) (eqb (rows t n .a) (targetOf (rows t) (t .count) n)) (aimed-at bits t w n h) e) in
+      let x : Aimed (rows t) (t .count) (ok bits t w) (shut bits t w) n (rows t n .a) = target-good bits t w n h e in
       record {
         within = x .within;
         same = x .same;
         scope =
             ap (λ (y : ℕ). rows t y .scope) a
-            ∙ aimed-scope (rows t) (t .count) (ok t w) (shut t w) n h (target-low (rows t n .kind) e) (omega (arith, a, x .within));
+            ∙ aimed-scope (rows t) (t .count) (ok bits t w) (shut bits t w) n h (target-low (rows t n .kind) e) (omega (arith, a, x .within));
       }

@@ -9,12 +9,14 @@ use borrow.Author.Tests.{eqb-true, eq-eqb, leb-true, leb-false, ltb-true, lt-ltb
 use lib.Dec.{eqb, ltb, leb}
 use Rattle.base_prelude.specs.Choice.{ifEq}
 use Rattle.base_prelude.proofs.Choice.{true-false, ifEq-yes, ifEq-no, ifLt-no}
+use Rattle.base_limits.specs.declared.Width.{Width}
 use Rattle.lang_kinds.specs.Nesting.{isFrame}
 use Rattle.base_limits.specs.Limits.{blockDepth}
 use Rattle.prog_tables.specs.Layout.{frameHead}
 use Rattle.prog_tables.specs.Tests.{both, oneOf, someBelow, countBelow}
 use Rattle.prog_tables.specs.Statement.{Row}
 use Rattle.prog_tables.specs.Label.{Tables, rows}
+use Rattle.prog_tables.specs.Program.{programFrom}
 use Rattle.prog_tables.specs.Nesting.{stands, depthOf, encloses}
 use Rattle.prog_tables.specs.Frames.{frameDepth, isIn, letsBefore, firstLet, blockWord, letWord, localsAt, letSeen, isParameter, seenAt, inScope}
 use Rattle.prog_tables.specs.Faults.{sizeAt, ownWord, hasWord, wordFault}
@@ -194,13 +196,13 @@ has-word : (k : ℕ) → 3 ≤ k → k < 7 → hasWord k ≡ true
 unfolding hasWord
 has-word k g h = ifLt-no false (ltb k 7) g ∙ lt-ltb k 7 h
 
-module _ (t : Tables) (w : WellFormed t) where
+module _ (bits : Width) (t : Tables) (w : WellFormed (programFrom bits t)) where
   -- blocks are at most 16 deep
   pub frame-shallow : (s : ℕ) → s < t .count → depthOf (rows t) 17 s ≤ 16
   unfolding shallow depthOf
   frame-shallow s h =
       elim (ℕ-discrete (rows t s .kind) 3) [
-        | yes q ↦ leb-true _ _ (given-then (eqb (rows t s .kind) 3) (leb (depthOf (rows t) frameDepth s) blockDepth) (shallow-at t w s h) (eq-eqb _ _ q))
+        | yes q ↦ leb-true _ _ (given-then (eqb (rows t s .kind) 3) (leb (depthOf (rows t) frameDepth s) blockDepth) (shallow-at bits t w s h) (eq-eqb _ _ q))
         | no q ↦ none (ifEq-no (suc (depthOf (rows t) 16 (rows t s .scope))) 0 q)
       ]
     where
@@ -208,15 +210,15 @@ module _ (t : Tables) (w : WellFormed t) where
       none e = omega arith
 
   module _ (n : ℕ) (h : n < t .count) where
-    frame-at : (rows t n .kind ≡ 1 → ⊥) → At (rows t) (t .count) (ok t w) n (rows t n .scope)
-    frame-at q = scopes (rows t) (t .count) (ok t w) (t .count) (omega arith) n h q
+    frame-at : (rows t n .kind ≡ 1 → ⊥) → At (rows t) (t .count) (ok bits t w) n (rows t n .scope)
+    frame-at q = scopes (rows t) (t .count) (ok bits t w) (t .count) (omega arith) n h q
 
     -- the first let of its frame lies behind the parameters of its function
     frame-low : (rows t n .kind ≡ 1 → ⊥) → 3 + rows t (rows t n .func) .b ≤ firstLet (rows t) (t .count) 17 (rows t n .scope)
     frame-low q =
-        let x : At (rows t) (t .count) (ok t w) n (rows t n .scope) = frame-at q in
+        let x : At (rows t) (t .count) (ok bits t w) n (rows t n .scope) = frame-at q in
         let s : rows t n .scope < t .count = omega (arith, x .low) in
-        omega (arith, ap (λ (y : ℕ). rows t y .b) (x .same), first-low (rows t) (t .count) (ok t w) 16 (rows t n .scope) s (x .frame) (frame-shallow (rows t n .scope) s))
+        omega (arith, ap (λ (y : ℕ). rows t y .b) (x .same), first-low (rows t) (t .count) (ok bits t w) 16 (rows t n .scope) s (x .frame) (frame-shallow (rows t n .scope) s))
 
     -- the last word that a row names is in the frame
     pub own-low : 3 ≤ rows t n .kind → rows t n .kind < 7 → ownWord (rows t n) < rows t (rows t n .func) .a
@@ -224,23 +226,23 @@ module _ (t : Tables) (w : WellFormed t) where
     own-low g l =
         omega (
           arith,
-          size-here t w n h,
+          size-here bits t w n h,
           leb-false (sizeAt (rows t) (t .count) n) (ownWord (rows t n))
-              (both-then (hasWord (rows t n .kind)) (leb (sizeAt (rows t) (t .count) n) (ownWord (rows t n))) (has-word (rows t n .kind) g l) (word-sound t w n h)),
+              (both-then (hasWord (rows t n .kind)) (leb (sizeAt (rows t) (t .count) n) (ownWord (rows t n))) (has-word (rows t n .kind) g l) (word-sound bits t w n h)),
         )
 
     -- ---- lets
 
     pub let-is : rows t n .kind ≡ 5 → rows t n .a ≡ letWord (rows t) (t .count) n
     unfolding framed frame-tests
-    let-is e = eqb-true _ _ (given-then (eqb (rows t n .kind) 5) (eqb (rows t n .a) (letWord (rows t) (t .count) n)) (all-at (frame-tests t w n h) 0 (framed-at t w n h) (omega arith)) (eq-eqb _ _ e))
+    let-is e = eqb-true _ _ (given-then (eqb (rows t n .kind) 5) (eqb (rows t n .a) (letWord (rows t) (t .count) n)) (all-at (frame-tests bits t w n h) 0 (framed-at bits t w n h) (omega arith)) (eq-eqb _ _ e))
 
     pub let-low : rows t n .kind ≡ 5 → 3 + rows t (rows t n .func) .b ≤ rows t n .a
     unfolding letWord
     let-low e = omega (arith, let-is e, frame-low (λ (d : rows t n .kind ≡ 1). omega arith))
 
     pub let-within : rows t n .kind ≡ 5 → rows t n .a < rows t (rows t n .func) .a
-    let-within e = omega (arith, let-size t w n h e, size-here t w n h)
+    let-within e = omega (arith, let-size bits t w n h e, size-here bits t w n h)
 
     -- ---- blocks
 
@@ -251,7 +253,7 @@ module _ (t : Tables) (w : WellFormed t) where
     unfolding framed frame-tests block-tests
     block-good e =
         given-then (eqb (rows t n .kind) 3) (both (eqb (rows t n .a) (blockWord (rows t) (t .count) n)) block-tests)
-        (all-at (frame-tests t w n h) 1 (framed-at t w n h) (omega arith)) (eq-eqb _ _ e)
+        (all-at (frame-tests bits t w n h) 1 (framed-at bits t w n h) (omega arith)) (eq-eqb _ _ e)
 
     pub block-is : rows t n .kind ≡ 3 → rows t n .a ≡ blockWord (rows t) (t .count) n
     block-is e = eqb-true _ _ (both-left (eqb (rows t n .a) (blockWord (rows t) (t .count) n)) block-tests (block-good e))
@@ -274,14 +276,14 @@ module _ (t : Tables) (w : WellFormed t) where
   pub end-facts : (n : ℕ) → n < t .count → rows t n .kind ≡ 4 → EndBlock n
   unfolding framed frame-tests
   end-facts n h e =
-      let k : rows t (rows t n .scope) .kind ≡ 3 = end-block (rows t) (t .count) (ok t w) n h e in
+      let k : rows t (rows t n .scope) .kind ≡ 3 = end-block (rows t) (t .count) (ok bits t w) n h e in
       let l : rows t n .scope < n = frame-at n h (λ (d : rows t n .kind ≡ 1). omega arith) .low in
       record {
         before = l;
         is-block = k;
         word =
             eqb-true _ _
-            (given-then (eqb (rows t n .kind) 4) (eqb (rows t n .a) (blockWord (rows t) (t .count) (rows t n .scope))) (all-at (frame-tests t w n h) 2 (framed-at t w n h) (omega arith)) (eq-eqb _ _ e))
+            (given-then (eqb (rows t n .kind) 4) (eqb (rows t n .a) (blockWord (rows t) (t .count) (rows t n .scope))) (all-at (frame-tests bits t w n h) 2 (framed-at bits t w n h) (omega arith)) (eq-eqb _ _ e))
             ∙ sym (block-is (rows t n .scope) (omega arith) k);
       }
 
@@ -313,7 +315,7 @@ module _ (t : Tables) (w : WellFormed t) where
     let-apart i l k x =
         record {
           low = omega (arith, let-low i l k);
-          apart = λ e g b y d. words-apart (rows t) (t .count) (ok t w) frame-shallow i e (rows t n .scope) 17 17 l g scope-low k b x y (sym (let-is i l k) ∙ d ∙ block-is e g b);
+          apart = λ e g b y d. words-apart (rows t) (t .count) (ok bits t w) frame-shallow i e (rows t n .scope) 17 17 l g scope-low k b x y (sym (let-is i l k) ∙ d ∙ block-is e g b);
         }
 
     parameter-apart : (v : ℕ) → isParameter (rows t (rows t n .func) .b) v ≡ true → Apart n v
@@ -325,7 +327,7 @@ module _ (t : Tables) (w : WellFormed t) where
       where
         far : 3 ≤ v → v - 3 < rows t (rows t n .func) .b → (e : ℕ) → e < t .count → rows t e .kind ≡ 3 → encloses (rows t) 17 e (rows t n .scope) ≡ true → v ≡ rows t e .a → ⊥
         far a b e g k y d =
-            omega (arith, block-low e g k, ap (λ (x : ℕ). rows t x .b) (around-func (rows t) (t .count) (ok t w) 17 e (rows t n .scope) scope-low y ∙ frame-at n h q .same))
+            omega (arith, block-low e g k, ap (λ (x : ℕ). rows t x .b) (around-func (rows t) (t .count) (ok bits t w) 17 e (rows t n .scope) scope-low y ∙ frame-at n h q .same))
 
     -- a word in scope
     pub scope-apart : (v : ℕ) → inScope (rows t) n v ≡ true → Apart n v
@@ -346,14 +348,14 @@ module _ (t : Tables) (w : WellFormed t) where
 
   -- the destination of a `let`
   pub let-destination : (n : ℕ) → n < t .count → rows t n .kind ≡ 5 → Apart n (rows t n .a)
-  let-destination n h e = let-apart n h (λ (d : rows t n .kind ≡ 1). omega arith) n h e (around-self (rows t) (t .count) (ok t w) 17 (rows t n .scope))
+  let-destination n h e = let-apart n h (λ (d : rows t n .kind ≡ 1). omega arith) n h e (around-self (rows t) (t .count) (ok bits t w) 17 (rows t n .scope))
 
   -- that of a `set`
   pub set-destination : (n : ℕ) → n < t .count → rows t n .kind ≡ 6 → Apart n (rows t n .a)
   unfolding setsLocal
   set-destination n h e =
       scope-apart n h (λ (d : rows t n .kind ≡ 1). omega arith) (rows t n .a)
-      (given-then (eqb (rows t n .kind) 6) (inScope (rows t) n (rows t n .a)) (sets-at t w n h) (eq-eqb (rows t n .kind) 6 e))
+      (given-then (eqb (rows t n .kind) 6) (inScope (rows t) n (rows t n .a)) (sets-at bits t w n h) (eq-eqb (rows t n .kind) 6 e))
 
   -- the destination of a row that has one
   pub destination-apart : (n : ℕ) → n < t .count → 5 ≤ rows t n .kind → rows t n .kind ≤ 6 → Apart n (rows t n .a)

@@ -9,8 +9,10 @@ use native.Mathlib.Decide.{ℕ-discrete}
 use native.Mathlib.Omega.{arith}
 use lib.ListN.{length, getD}
 use Rattle.base_prelude.proofs.Choice.{true-false}
+use Rattle.base_limits.specs.declared.Width.{Width}
 use Rattle.prog_tables.specs.Tests.{both, oneOf, given, all, allBelow, someBelow}
 use Rattle.prog_tables.specs.Label.{Tables, rows, labelsOf}
+use Rattle.prog_tables.specs.Program.{Program, programFrom}
 use Rattle.prog_tables.specs.Nesting.{stands, allClosed}
 use Rattle.prog_tables.specs.WellFormed.{shallow, aimed, jumps, calls, shaped, operandsGood, addressGood, setsLocal, framed, fewLocals, rowTests, names, nameGood, nameNew, labelTests, countsGood, rowGood, labelGood, wellFormed, WellFormed}
 
@@ -78,28 +80,28 @@ below-at p (suc n) i e h =
       | no q ↦ below-at p n i (both-right (p n) (allBelow p n) e) (omega arith)
     ]
 
-module _ (t : Tables) (w : WellFormed t) where
-  pub counts-good : countsGood t ≡ true
+module _ (bits : Width) (t : Tables) (w : WellFormed (programFrom bits t)) where
+  pub counts-good : countsGood (programFrom bits t) ≡ true
   unfolding wellFormed
-  counts-good = all-at (countsGood t ∷ allClosed (rows t) (t .count) ∷ allBelow (rowGood t) (t .count) ∷ allBelow (labelGood t) (t .labelCount) ∷ []) 0 w (omega arith)
+  counts-good = all-at (countsGood (programFrom bits t) ∷ allClosed (rows t) (t .count) ∷ allBelow (rowGood (programFrom bits t)) (t .count) ∷ allBelow (labelGood (programFrom bits t)) (t .labelCount) ∷ []) 0 w (omega arith)
 
   pub all-closed : allClosed (rows t) (t .count) ≡ true
   unfolding wellFormed
-  all-closed = all-at (countsGood t ∷ allClosed (rows t) (t .count) ∷ allBelow (rowGood t) (t .count) ∷ allBelow (labelGood t) (t .labelCount) ∷ []) 1 w (omega arith)
+  all-closed = all-at (countsGood (programFrom bits t) ∷ allClosed (rows t) (t .count) ∷ allBelow (rowGood (programFrom bits t)) (t .count) ∷ allBelow (labelGood (programFrom bits t)) (t .labelCount) ∷ []) 1 w (omega arith)
 
-  rows-good : allBelow (rowGood t) (t .count) ≡ true
+  rows-good : allBelow (rowGood (programFrom bits t)) (t .count) ≡ true
   unfolding wellFormed
-  rows-good = all-at (countsGood t ∷ allClosed (rows t) (t .count) ∷ allBelow (rowGood t) (t .count) ∷ allBelow (labelGood t) (t .labelCount) ∷ []) 2 w (omega arith)
+  rows-good = all-at (countsGood (programFrom bits t) ∷ allClosed (rows t) (t .count) ∷ allBelow (rowGood (programFrom bits t)) (t .count) ∷ allBelow (labelGood (programFrom bits t)) (t .labelCount) ∷ []) 2 w (omega arith)
 
-  labels-good : allBelow (labelGood t) (t .labelCount) ≡ true
+  labels-good : allBelow (labelGood (programFrom bits t)) (t .labelCount) ≡ true
   unfolding wellFormed
-  labels-good = all-at (countsGood t ∷ allClosed (rows t) (t .count) ∷ allBelow (rowGood t) (t .count) ∷ allBelow (labelGood t) (t .labelCount) ∷ []) 3 w (omega arith)
+  labels-good = all-at (countsGood (programFrom bits t) ∷ allClosed (rows t) (t .count) ∷ allBelow (rowGood (programFrom bits t)) (t .count) ∷ allBelow (labelGood (programFrom bits t)) (t .labelCount) ∷ []) 3 w (omega arith)
 
   -- rule k at statement n
   module _ (n : ℕ) (h : n < t .count) where
-    pub row-rule : (k : ℕ) → k < length (rowTests (rows t) (t .count) (labelsOf t) (t .labelCount) n)
-        → getD (rowTests (rows t) (t .count) (labelsOf t) (t .labelCount) n) k true ≡ true
-    row-rule k l = all-at (rowTests (rows t) (t .count) (labelsOf t) (t .labelCount) n) k (below-at (rowGood t) (t .count) n rows-good h) l
+    pub row-rule : (k : ℕ) → k < length (rowTests (programFrom bits t) n)
+        → getD (rowTests (programFrom bits t) n) k true ≡ true
+    row-rule k l = all-at (rowTests (programFrom bits t) n) k (below-at (rowGood (programFrom bits t)) (t .count) n rows-good h) l
 
     pub stands-at : stands (rows t) n ≡ true
     unfolding rowTests
@@ -113,11 +115,11 @@ module _ (t : Tables) (w : WellFormed t) where
     unfolding rowTests
     aimed-at = row-rule 2 (omega arith)
 
-    pub jumps-at : jumps (rows t) (t .count) (labelsOf t) (t .labelCount) n ≡ true
+    pub jumps-at : jumps (programFrom bits t) n ≡ true
     unfolding rowTests
     jumps-at = row-rule 3 (omega arith)
 
-    pub calls-at : calls (rows t) (t .count) (labelsOf t) (t .labelCount) n ≡ true
+    pub calls-at : calls (programFrom bits t) n ≡ true
     unfolding rowTests
     calls-at = row-rule 4 (omega arith)
 
@@ -125,11 +127,11 @@ module _ (t : Tables) (w : WellFormed t) where
     unfolding rowTests
     shaped-at = row-rule 5 (omega arith)
 
-    pub operands-at : operandsGood (rows t) (labelsOf t) (t .labelCount) n ≡ true
+    pub operands-at : operandsGood (programFrom bits t) n ≡ true
     unfolding rowTests
     operands-at = row-rule 6 (omega arith)
 
-    pub address-at : addressGood (rows t) (labelsOf t) (t .labelCount) n ≡ true
+    pub address-at : addressGood (programFrom bits t) n ≡ true
     unfolding rowTests
     address-at = row-rule 7 (omega arith)
 
@@ -147,11 +149,11 @@ module _ (t : Tables) (w : WellFormed t) where
 
   -- rule k at label n
   module _ (n : ℕ) (h : n < t .labelCount) where
-    pub label-rule : (k : ℕ) → k < length (labelTests (rows t) (t .count) (t .dataLength) (labelsOf t) n)
-        → getD (labelTests (rows t) (t .count) (t .dataLength) (labelsOf t) n) k true ≡ true
-    label-rule k l = all-at (labelTests (rows t) (t .count) (t .dataLength) (labelsOf t) n) k (below-at (labelGood t) (t .labelCount) n labels-good h) l
+    pub label-rule : (k : ℕ) → k < length (labelTests (programFrom bits t) n)
+        → getD (labelTests (programFrom bits t) n) k true ≡ true
+    label-rule k l = all-at (labelTests (programFrom bits t) n) k (below-at (labelGood (programFrom bits t)) (t .labelCount) n labels-good h) l
 
-    pub names-at : names (rows t) (t .count) (t .dataLength) (labelsOf t n) ≡ true
+    pub names-at : names (programFrom bits t) (labelsOf t n) ≡ true
     unfolding labelTests
     names-at = label-rule 0 (omega arith)
 

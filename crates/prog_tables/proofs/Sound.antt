@@ -8,10 +8,12 @@ use native.Mathlib.Omega.{arith}
 use borrow.Author.Tests.{eqb-true, eq-eqb, ltb-true, lt-ltb, le-ltb}
 use lib.Dec.{eqb, ltb, leb}
 use Rattle.base_prelude.proofs.Choice.{true-false, ifTrue-yes}
+use Rattle.base_limits.specs.declared.Width.{Width}
 use Rattle.prog_tables.specs.Layout.{frameHead}
 use Rattle.prog_tables.specs.Tests.{both, oneOf, given, all}
 use Rattle.prog_tables.specs.Statement.{hasExpression, isCall, usedBy}
 use Rattle.prog_tables.specs.Label.{Tables, rows, labelsOf, isFunctionLabel}
+use Rattle.prog_tables.specs.Program.{Program, programFrom}
 use Rattle.prog_tables.specs.Nesting.{openBefore, stands, allClosed, targetOf, hasTarget}
 use Rattle.prog_tables.specs.Frames.{frameSize, blockWord, letWord, letsBefore, localsAt}
 use Rattle.prog_tables.specs.Faults.{expressionFault, inFunction, kindFault, targetFault, calleeFault, sizeFault}
@@ -42,22 +44,22 @@ both-false false q k = refl
 
 -- ---- rows of well-formed tables
 
-module _ (t : Tables) (w : WellFormed t) where
+module _ (bits : Width) (t : Tables) (w : WellFormed (programFrom bits t)) where
   pub ok : (n : ℕ) → n < t .count → stands (rows t) n ≡ true
-  ok n h = stands-at t w n h
+  ok n h = stands-at bits t w n h
 
   pub shut : openBefore (rows t) (t .count) ≡ 0
   unfolding allClosed
-  shut = eqb-true _ _ (all-closed t w)
+  shut = eqb-true _ _ (all-closed bits t w)
 
   module _ (n : ℕ) (h : n < t .count) where
-    pub kind-sound : kindFault (rows t) n ≡ false
+    pub kind-sound : kindFault (programFrom bits t) n ≡ false
     unfolding kindFault shaped
     kind-sound =
         ifTrue-yes (expressionFault (rows t n .kind) (rows t n .expr)) true (here (rows t) (t .count) ok n h .listed)
         ∙ not-true (expressionFault (rows t n .kind) (rows t n .expr))
         (both-left (not (expressionFault (rows t n .kind) (rows t n .expr)))
-        (given (hasOperands (rows t n .kind)) (eqb (rows t n .count) (usedBy (rows t n .kind) (rows t n .expr) (rows t n .count)))) (shaped-at t w n h))
+        (given (hasOperands (rows t n .kind)) (eqb (rows t n .count) (usedBy (rows t n .kind) (rows t n .expr) (rows t n .count)))) (shaped-at bits t w n h))
 
     pub row-held : Held (rows t) (t .count) ok n
     row-held = held (rows t) (t .count) ok (t .count) (omega arith) n h
@@ -73,7 +75,7 @@ module _ (t : Tables) (w : WellFormed t) where
     unfolding aimed
     target-good e =
         subst (Aimed (rows t) (t .count) ok shut n)
-        (sym (eqb-true _ _ (given-then (hasTarget (rows t n .kind)) (eqb (rows t n .a) (targetOf (rows t) (t .count) n)) (aimed-at t w n h) e)))
+        (sym (eqb-true _ _ (given-then (hasTarget (rows t n .kind)) (eqb (rows t n .a) (targetOf (rows t) (t .count) n)) (aimed-at bits t w n h) e)))
         (target-aimed (rows t) (t .count) ok shut n h e)
 
     goto-tests : List Bool
@@ -87,10 +89,10 @@ module _ (t : Tables) (w : WellFormed t) where
     pub goto-good : eqb (rows t n .kind) 10 ≡ true → Aimed (rows t) (t .count) ok shut n (rows t n .a)
     unfolding jumps goto-tests
     goto-good e =
-        let q : all goto-tests ≡ true = given-then (eqb (rows t n .kind) 10) (all goto-tests) (jumps-at t w n h) e in
+        let q : all goto-tests ≡ true = given-then (eqb (rows t n .kind) 10) (all goto-tests) (jumps-at bits t w n h) e in
         record { within = ltb-true _ _ (all-at goto-tests 0 q (omega arith)); same = eqb-true _ _ (all-at goto-tests 1 q (omega arith)) }
 
-    pub target-sound : targetFault (rows t) (t .count) n ≡ false
+    pub target-sound : targetFault (programFrom bits t) n ≡ false
     unfolding targetFault
     target-sound =
         given-both (oneOf (hasTarget (rows t n .kind)) (eqb (rows t n .kind) 10)) (both (inFunction (rows t) (t .count) n) (both (ltb (rows t n .a) (t .count)) (eqb (rows t (rows t n .a) .func) (rows t n .func))))
@@ -111,11 +113,11 @@ module _ (t : Tables) (w : WellFormed t) where
         ∷ labelled (labelsOf t) (t .labelCount) isFunctionLabel (rows t n .callee)
         ∷ []
 
-    pub callee-sound : calleeFault (rows t) (t .count) n ≡ false
+    pub callee-sound : calleeFault (programFrom bits t) n ≡ false
     unfolding calleeFault calls call-tests
     callee-sound =
         given-both (isCall (rows t n .kind) (rows t n .expr)) good
-        (given-map (isCall (rows t n .kind) (rows t n .expr)) (all call-tests) good (calls-at t w n h)
+        (given-map (isCall (rows t n .kind) (rows t n .expr)) (all call-tests) good (calls-at bits t w n h)
         (λ q. both-true (ltb (rows t n .callee) (t .count)) good2 (all-at call-tests 0 q (omega arith))
         (both-true (eqb (rows t (rows t n .callee) .kind) 1) good3 (all-at call-tests 1 q (omega arith))
         (both-true (eqb (rows t (rows t n .callee) .b) (rows t n .count)) (leb (rows t n .count) 8) (all-at call-tests 2 q (omega arith)) (all-at call-tests 3 q (omega arith))))))
@@ -140,9 +142,9 @@ module _ (t : Tables) (w : WellFormed t) where
 
     pub size-is : rows t n .kind ≡ 1 → rows t n .a ≡ frameSize (rows t) (t .count) n
     unfolding framed frame-tests
-    size-is e = eqb-true _ _ (given-then (eqb (rows t n .kind) 1) (eqb (rows t n .a) (frameSize (rows t) (t .count) n)) (all-at frame-tests 3 (framed-at t w n h) (omega arith)) (eq-eqb _ _ e))
+    size-is e = eqb-true _ _ (given-then (eqb (rows t n .kind) 1) (eqb (rows t n .a) (frameSize (rows t) (t .count) n)) (all-at frame-tests 3 (framed-at bits t w n h) (omega arith)) (eq-eqb _ _ e))
 
-    pub size-sound : sizeFault (rows t) n ≡ false
+    pub size-sound : sizeFault (programFrom bits t) n ≡ false
     unfolding sizeFault frameSize
     size-sound =
         both-false (eqb (rows t n .kind) 1) (ltb (rows t n .a) (frameHead + rows t n .b))

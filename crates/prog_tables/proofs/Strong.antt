@@ -7,12 +7,14 @@ use Prim.Native.Nat.{ℕ, _+_, _*_}
 use lib.ListN.{set, replicate}
 use Rattle.base_prelude.specs.Choice.{ifLt, ifEq, ifTrue}
 use Rattle.base_prelude.specs.Lists.{sameList}
+use Rattle.base_limits.specs.declared.Width.the-variants.{Bits32}
 use Rattle.lang_kinds.specs.Nesting.{statementIn, standsIn, enters, leaves, groundOf, isFrame}
 use Rattle.lang_words.specs.Words.{words, firstOf, isSpelled, isNumber, entryNamed, entryOf, numberOf, leastOperands}
 use Rattle.prog_tables.specs.Layout.{statementRow, labelRow}
 use Rattle.prog_tables.specs.Tests.{all, some, allOf, someOf, allBelow, someBelow, countBelow, greatestBelow, firstFrom}
 use Rattle.prog_tables.specs.Statement.{operandOf, operandKind, operandNumber, hasExpression, isTest, isOperator, isCall, expressionUses, usedBy, operandAt, slots, rowFrom, rowAt, slotWords, encode}
 use Rattle.prog_tables.specs.Label.{Tables, labelAt, isData, isFunctionLabel}
+use Rattle.prog_tables.specs.Program.{Program, programFrom}
 use Rattle.prog_tables.specs.Nesting.{behind, openBefore, groundIn, funcIn, scopeIn, upIn, isListed, mayStand, followsJump, stands, allClosed, isArm, isEndIf, nextArm, endIfOf, pastArm, targetOf, hasTarget, depthOf, encloses}
 use Rattle.prog_tables.specs.Frames.{isIn, letsBefore, blockNeed, needOf, frameSize, firstLet, blockWord, letWord, letSeen, isParameter, seenAt, inScope, localsAt}
 use Rattle.prog_tables.specs.Faults.{expressionListed, inFunction, sizeAt, operandFault, addressListed, kindFault, targetFault, calleeFault, sizeFault, ownWord, hasWord, wordFault, operandsFault, addressFault, rowFault, labelFault, countFault, tablesFault}
@@ -122,137 +124,140 @@ name t n j v = record { statements = t .statements; count = t .count; labels = t
 abbrev counted : Tables → ℕ → Tables
 counted t n = record { statements = t .statements; count = n; labels = t .labels; labelCount = t .labelCount; names = t .names; dataLength = t .dataLength }
 
+abbrev at32 : Tables → Program
+at32 = programFrom Bits32
+
 pub record Strong : Type 0 where
   -- the good table page
-  pub page-good : wellFormed page ≡ true
+  pub page-good : wellFormed (at32 page) ≡ true
   -- its unused words are 0
   pub page-canonical : canonical page ≡ true
   -- no row of it is broken
-  pub page-sound : tablesFault page ≡ false
+  pub page-sound : tablesFault (at32 page) ≡ false
   -- the good table arms
-  pub arms-good : wellFormed arms ≡ true
+  pub arms-good : wellFormed (at32 arms) ≡ true
   -- its unused words are 0
   pub arms-canonical : canonical arms ≡ true
   -- no row of it is broken
-  pub arms-sound : tablesFault arms ≡ false
+  pub arms-sound : tablesFault (at32 arms) ≡ false
   -- the good table frames
-  pub frames-good : wellFormed frames ≡ true
+  pub frames-good : wellFormed (at32 frames) ≡ true
   -- its unused words are 0
   pub frames-canonical : canonical frames ≡ true
   -- no row of it is broken
-  pub frames-sound : tablesFault frames ≡ false
+  pub frames-sound : tablesFault (at32 frames) ≡ false
   -- a kind that is none: `end if` for `end block`
-  pub kind : wellFormed (statement page 4 0 22) ≡ false
+  pub kind : wellFormed (at32 (statement page 4 0 22)) ≡ false
   -- another function
-  pub func : wellFormed (statement page 3 1 1) ≡ false
+  pub func : wellFormed (at32 (statement page 3 1 1)) ≡ false
   -- a row of the block in the scope outside
-  pub scope : wellFormed (statement page 3 2 0) ≡ false
+  pub scope : wellFormed (at32 (statement page 3 2 0)) ≡ false
   -- a row of the block with the function around it
-  pub up : wellFormed (statement page 3 3 1) ≡ false
+  pub up : wellFormed (at32 (statement page 3 3 1)) ≡ false
   -- the last row cut off: the function stays open
-  pub cut : wellFormed (counted page 5) ≡ false
+  pub cut : wellFormed (at32 (counted page 5)) ≡ false
   -- a let in an if of its frame
-  pub let-in-if : wellFormed (statement arms 5 0 5) ≡ false
+  pub let-in-if : wellFormed (at32 (statement arms 5 0 5)) ≡ false
   -- no test behind an else-if jump
-  pub jump-test : wellFormed (statement arms 4 0 11) ≡ false
+  pub jump-test : wellFormed (at32 (statement arms 4 0 11)) ≡ false
   -- a false test sent to the else-if jump and not to its test
-  pub false-test : wellFormed (statement arms 1 4 3) ≡ false
+  pub false-test : wellFormed (at32 (statement arms 1 4 3)) ≡ false
   -- a false test sent to the bare else and not past it
-  pub false-else : wellFormed (statement arms 4 4 6) ≡ false
+  pub false-else : wellFormed (at32 (statement arms 4 4 6)) ≡ false
   -- an else sent past the `end if`
-  pub else-past : wellFormed (statement arms 6 4 9) ≡ false
+  pub else-past : wellFormed (at32 (statement arms 6 4 9)) ≡ false
   -- an else-if jump sent to the bare else
-  pub jump : wellFormed (statement arms 3 4 6) ≡ false
+  pub jump : wellFormed (at32 (statement arms 3 4 6)) ≡ false
   -- a goto to a row without a label
-  pub goto-place : wellFormed (statement frames 13 4 11) ≡ false
+  pub goto-place : wellFormed (at32 (statement frames 13 4 11)) ≡ false
   -- a goto out of its block, to a labelled row
-  pub goto-scope : wellFormed (statement frames 13 4 9) ≡ false
+  pub goto-scope : wellFormed (at32 (statement frames 13 4 9)) ≡ false
   -- a call to a row that is no function
-  pub callee : wellFormed (statement frames 5 7 2) ≡ false
+  pub callee : wellFormed (at32 (statement frames 5 7 2)) ≡ false
   -- a call with an argument more
-  pub arguments : wellFormed (statement frames 5 8 2) ≡ false
+  pub arguments : wellFormed (at32 (statement frames 5 8 2)) ≡ false
   -- an operator with an operand too few
-  pub operands : wellFormed (statement page 2 8 1) ≡ false
+  pub operands : wellFormed (at32 (statement page 2 8 1)) ≡ false
   -- an operand of an unlisted kind
-  pub operand-kind : wellFormed (statement page 3 11 7) ≡ false
+  pub operand-kind : wellFormed (at32 (statement page 3 11 7)) ≡ false
   -- an expression kind that is no operator
-  pub expression : wellFormed (statement page 2 6 52) ≡ false
+  pub expression : wellFormed (at32 (statement page 2 6 52)) ≡ false
   -- a let that reads its own word
-  pub own-word : wellFormed (statement page 2 12 5) ≡ false
+  pub own-word : wellFormed (at32 (statement page 2 12 5)) ≡ false
   -- a set of a header word
-  pub header : wellFormed (statement arms 2 4 2) ≡ false
+  pub header : wellFormed (at32 (statement arms 2 4 2)) ≡ false
   -- an operand that names a let of the frame outside, which stands after the block
-  pub later-let : wellFormed (statement frames 3 12 5) ≡ false
+  pub later-let : wellFormed (at32 (statement frames 3 12 5)) ≡ false
   -- a data address without a label
-  pub address : wellFormed (statement page 2 14 4) ≡ false
+  pub address : wellFormed (at32 (statement page 2 14 4)) ≡ false
   -- the address of `set @` with a second `@`
-  pub address-slot : wellFormed (statement frames 12 9 5) ≡ false
+  pub address-slot : wellFormed (at32 (statement frames 12 9 5)) ≡ false
   -- a let behind a block that takes the block's word
-  pub let-word : wellFormed (statement frames 8 4 6) ≡ false
+  pub let-word : wellFormed (at32 (statement frames 8 4 6)) ≡ false
   -- a block with the word of a let behind it
-  pub base : wellFormed (statement frames 2 4 5) ≡ false
+  pub base : wellFormed (at32 (statement frames 2 4 5)) ≡ false
   -- an `end block` with another word than its block
-  pub end-base : wellFormed (statement frames 7 4 8) ≡ false
+  pub end-base : wellFormed (at32 (statement frames 7 4 8)) ≡ false
   -- a block with another number of lets
-  pub own-lets : wellFormed (statement page 1 5 2) ≡ false
+  pub own-lets : wellFormed (at32 (statement page 1 5 2)) ≡ false
   -- a block with another number of locals before it
-  pub before : wellFormed (statement frames 9 7 2) ≡ false
+  pub before : wellFormed (at32 (statement frames 9 7 2)) ≡ false
   -- a frame size one word too big
-  pub size : wellFormed (statement page 0 4 7) ≡ false
+  pub size : wellFormed (at32 (statement page 0 4 7)) ≡ false
   -- a frame size one word too small
-  pub size-small : wellFormed (statement frames 0 4 9) ≡ false
+  pub size-small : wellFormed (at32 (statement frames 0 4 9)) ≡ false
   -- an unlisted label kind
-  pub label-kind : wellFormed (label page 0 0 6) ≡ false
+  pub label-kind : wellFormed (at32 (label page 0 0 6)) ≡ false
   -- a function label on another row
-  pub label-function : wellFormed (label page 1 1 1) ≡ false
+  pub label-function : wellFormed (at32 (label page 1 1 1)) ≡ false
   -- a place label on the `function` row
-  pub label-place : wellFormed (label frames 1 1 0) ≡ false
+  pub label-place : wellFormed (at32 (label frames 1 1 0)) ≡ false
   -- a data label past the data's end
-  pub label-address : wellFormed (label page 0 1 5) ≡ false
+  pub label-address : wellFormed (at32 (label page 0 1 5)) ≡ false
   -- an empty name
-  pub label-empty : wellFormed (label page 1 3 0) ≡ false
+  pub label-empty : wellFormed (at32 (label page 1 3 0)) ≡ false
   -- a name of 65 bytes
-  pub label-long : wellFormed (label page 1 3 65) ≡ false
+  pub label-long : wellFormed (at32 (label page 1 3 65)) ≡ false
   -- the reserved name `or`
-  pub label-reserved : wellFormed (label (name (name arms 0 0 111) 0 1 114) 0 3 2) ≡ false
+  pub label-reserved : wellFormed (at32 (label (name (name arms 0 0 111) 0 1 114) 0 3 2)) ≡ false
   -- two labels of one name
-  pub label-twice : wellFormed (label (name frames 2 0 102) 2 3 1) ≡ false
+  pub label-twice : wellFormed (at32 (label (name frames 2 0 102) 2 3 1)) ≡ false
   -- a local word at the frame size is broken
-  pub fault-word : tablesFault (statement page 3 12 6) ≡ true
+  pub fault-word : tablesFault (at32 (statement page 3 12 6)) ≡ true
   -- a header word is not
-  pub fault-header : tablesFault (statement page 3 12 0) ≡ false
+  pub fault-header : tablesFault (at32 (statement page 3 12 0)) ≡ false
   -- a data address above the data's length is broken
-  pub fault-address : tablesFault (statement page 2 14 5) ≡ true
+  pub fault-address : tablesFault (at32 (statement page 2 14 5)) ≡ true
   -- a data address at the data's length is not
-  pub fault-address-end : tablesFault (statement page 2 14 4) ≡ false
+  pub fault-address-end : tablesFault (at32 (statement page 2 14 4)) ≡ false
   -- a block's last let at the frame size is broken
-  pub fault-block : tablesFault (statement page 1 5 2) ≡ true
+  pub fault-block : tablesFault (at32 (statement page 1 5 2)) ≡ true
   -- a frame size below 3 + parameters is broken
-  pub fault-size : tablesFault (statement arms 0 4 3) ≡ true
+  pub fault-size : tablesFault (at32 (statement arms 0 4 3)) ≡ true
   -- a target past the rows is broken
-  pub fault-target : tablesFault (statement arms 1 4 11) ≡ true
+  pub fault-target : tablesFault (at32 (statement arms 1 4 11)) ≡ true
   -- a wrong target in the function is not
-  pub fault-else : tablesFault (statement arms 1 4 3) ≡ false
+  pub fault-else : tablesFault (at32 (statement arms 1 4 3)) ≡ false
   -- a goto out of its block is not
-  pub fault-goto : tablesFault (statement frames 13 4 9) ≡ false
+  pub fault-goto : tablesFault (at32 (statement frames 13 4 9)) ≡ false
   -- a call to a row that is no function is broken
-  pub fault-callee : tablesFault (statement frames 5 7 2) ≡ true
+  pub fault-callee : tablesFault (at32 (statement frames 5 7 2)) ≡ true
   -- another number of arguments is broken
-  pub fault-arguments : tablesFault (statement frames 5 8 2) ≡ true
+  pub fault-arguments : tablesFault (at32 (statement frames 5 8 2)) ≡ true
   -- a row of zeros is broken
-  pub fault-kind : tablesFault (statement arms 8 0 0) ≡ true
+  pub fault-kind : tablesFault (at32 (statement arms 8 0 0)) ≡ true
   -- an unused word that is not 0 is not
-  pub fault-unused : tablesFault (statement arms 8 5 9) ≡ false
+  pub fault-unused : tablesFault (at32 (statement arms 8 5 9)) ≡ false
   -- a data label past the data's end is broken
-  pub fault-label : tablesFault (label page 0 1 5) ≡ true
+  pub fault-label : tablesFault (at32 (label page 0 1 5)) ≡ true
   -- a data label at the data's end is not
-  pub fault-label-end : tablesFault (label page 0 1 4) ≡ false
+  pub fault-label-end : tablesFault (at32 (label page 0 1 4)) ≡ false
   -- a place label past the rows is broken
-  pub fault-place : tablesFault (label frames 1 1 19) ≡ true
+  pub fault-place : tablesFault (at32 (label frames 1 1 19)) ≡ true
   -- a name of 65 bytes is broken
-  pub fault-name : tablesFault (label page 1 3 65) ≡ true
+  pub fault-name : tablesFault (at32 (label page 1 3 65)) ≡ true
   -- a count past its table is broken
-  pub fault-count : tablesFault (counted page 7) ≡ true
+  pub fault-count : tablesFault (at32 (counted page 7)) ≡ true
   -- an unused word that is not 0 is not canonical
   pub unused : canonical (statement arms 8 5 9) ≡ false
 

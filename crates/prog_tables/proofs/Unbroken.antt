@@ -3,20 +3,20 @@
 use mathlib.Core.Path.{_≡_, refl, sym, _∙_, ap}
 use mathlib.Core.Bool.{Bool, true, false, not}
 use mathlib.Core.List.{List, [], _∷_}
-use Prim.Native.Nat.{ℕ, zero, suc, _*_, _<_}
+use Prim.Native.Nat.{ℕ, zero, suc, _<_}
 use native.Mathlib.Omega.{arith}
 use borrow.Author.Tests.{eqb-true, leb-true, ltb-true, le-ltb, lt-leb}
 use lib.Dec.{eqb, ltb, leb}
-use lib.ListN.{length}
 use Rattle.base_prelude.specs.Choice.{ifEq, ifTrue}
 use Rattle.base_prelude.proofs.Choice.{ifEq-yes, ifTrue-yes, ifTrue-no}
 use Rattle.base_limits.specs.Limits as limits
 use Rattle.base_limits.specs.Limits.{nameBytes, dataBytes}
 use Rattle.lang_words.specs.Words.{numberOf}
-use Rattle.prog_tables.specs.Layout.{statementRow, labelRow}
+use Rattle.base_limits.specs.declared.Width.{Width}
 use Rattle.prog_tables.specs.Tests.{both, oneOf, all, some, someBelow}
 use Rattle.prog_tables.specs.Statement.{Row}
 use Rattle.prog_tables.specs.Label.{Label, Tables, rows, labelsOf, isData, isFunctionLabel}
+use Rattle.prog_tables.specs.Program.{Program, programFrom}
 use Rattle.prog_tables.specs.Nesting.{followsJump}
 use Rattle.prog_tables.specs.Faults.{rowFault, labelFault, countFault, tablesFault}
 use Rattle.prog_tables.specs.WellFormed.{names, nameGood, countsGood, WellFormed}
@@ -43,8 +43,17 @@ kinds f l = ifTrue (isFunctionLabel (l .kind)) (eqb (f (l .number) .kind) 1) (al
 abbrev sizes : Label → List Bool
 sizes l = leb 1 (l .size) ∷ leb (l .size) nameBytes ∷ eqb (numberOf (l .name)) 0 ∷ []
 
-module _ (f : ℕ → Row) (c d : ℕ) (l : Label) where
-  what : names f c d l ≡ true → ifTrue (isData (l .kind)) (ltb d (l .number)) (ifTrue (isFunctionLabel (l .kind)) (not (both (ltb (l .number) c) (eqb (f (l .number) .kind) 1))) (ifEq (l .kind) 5 (leb c (l .number)) true)) ≡ false
+module _ (p : Program) (l : Label) where
+  abbrev f : ℕ → Row
+  f = p .rows
+
+  abbrev c : ℕ
+  c = p .count
+
+  abbrev d : ℕ
+  d = p .dataLength
+
+  what : names p l ≡ true → ifTrue (isData (l .kind)) (ltb d (l .number)) (ifTrue (isFunctionLabel (l .kind)) (not (both (ltb (l .number) c) (eqb (f (l .number) .kind) 1))) (ifEq (l .kind) 5 (leb c (l .number)) true)) ≡ false
   unfolding names
   what e = split (isData (l .kind)) refl
     where
@@ -71,7 +80,7 @@ module _ (f : ℕ → Row) (c d : ℕ) (l : Label) where
           ifTrue-no (ltb d (l .number)) (ifTrue (isFunctionLabel (l .kind)) (not (both (ltb (l .number) c) (eqb (f (l .number) .kind) 1))) (ifEq (l .kind) 5 (leb c (l .number)) true)) q
           ∙ other (far e q) (isFunctionLabel (l .kind)) refl
 
-  label-sound : names f c d l ≡ true → nameGood l ≡ true → labelFault f c d l ≡ false
+  label-sound : names p l ≡ true → nameGood l ≡ true → labelFault p l ≡ false
   unfolding labelFault nameGood
   label-sound e g =
       ap (λ (b : Bool). oneOf b (ifTrue (isData (l .kind)) (ltb d (l .number)) (ifTrue (isFunctionLabel (l .kind)) (not (both (ltb (l .number) c) (eqb (f (l .number) .kind) 1))) (ifEq (l .kind) 5 (leb c (l .number)) true))))
@@ -80,33 +89,28 @@ module _ (f : ℕ → Row) (c d : ℕ) (l : Label) where
 
 -- ---- tables
 
-abbrev counts : Tables → List Bool
-counts t =
-    leb (t .count) limits.statements
-    ∷ leb (t .labelCount) limits.labels
-    ∷ leb (t .dataLength) dataBytes
-    ∷ leb (t .count * statementRow) (length (t .statements))
-    ∷ leb (t .labelCount * labelRow) (length (t .labels))
-    ∷ leb (t .labelCount * nameBytes) (length (t .names))
-    ∷ []
+abbrev pub counts : Program → List Bool
+counts p =
+    leb (p .count) limits.statements ∷ leb (p .labelCount) limits.labels ∷ leb (p .dataLength) dataBytes ∷ not (p .statementsPast) ∷ not (p .labelsPast) ∷ []
 
-module _ (t : Tables) (w : WellFormed t) where
-  count-sound : countFault t ≡ false
-  unfolding countFault countsGood some
-  count-sound =
-      rw (
-        le-ltb (length (t .statements)) (t .count * statementRow) (leb-true (t .count * statementRow) (length (t .statements)) (all-at (counts t) 3 (counts-good t w) (omega arith))),
-        le-ltb (length (t .labels)) (t .labelCount * labelRow) (leb-true (t .labelCount * labelRow) (length (t .labels)) (all-at (counts t) 4 (counts-good t w) (omega arith))),
-        le-ltb (length (t .names)) (t .labelCount * nameBytes) (leb-true (t .labelCount * nameBytes) (length (t .names)) (all-at (counts t) 5 (counts-good t w) (omega arith))),
-      )
+pub not-true : (b : Bool) → not b ≡ true → b ≡ false
+not-true true e = sym e
+not-true false e = refl
 
+pub counts-sound : (p : Program) → countsGood p ≡ true → countFault p ≡ false
+unfolding countFault countsGood
+counts-sound p e =
+    ap (λ (b : Bool). oneOf b (p .labelsPast)) (not-true (p .statementsPast) (all-at (counts p) 3 e (omega arith)))
+    ∙ not-true (p .labelsPast) (all-at (counts p) 4 e (omega arith))
+
+module _ (bits : Width) (t : Tables) (w : WellFormed (programFrom bits t)) where
   -- well-formed tables give no 35
-  pub tables-sound : tablesFault t ≡ false
+  pub tables-sound : tablesFault (programFrom bits t) ≡ false
   unfolding tablesFault some
   tables-sound =
       rw (
-        count-sound,
-        none-below (rowFault (rows t) (t .count) (t .dataLength)) (t .count) (row-sound t w),
-        none-below (λ n. labelFault (rows t) (t .count) (t .dataLength) (labelsOf t n)) (t .labelCount)
-            (λ i l. label-sound (rows t) (t .count) (t .dataLength) (labelsOf t i) (names-at t w i l) (name-good-at t w i l)),
+        counts-sound (programFrom bits t) (counts-good bits t w),
+        none-below (rowFault (programFrom bits t)) (t .count) (row-sound bits t w),
+        none-below (λ n. labelFault (programFrom bits t) (labelsOf t n)) (t .labelCount)
+            (λ i l. label-sound (programFrom bits t) (labelsOf t i) (names-at bits t w i l) (name-good-at bits t w i l)),
       )

@@ -3,18 +3,18 @@
 -- or past its function's frame size; a data address above the data's length; a label row or count past its table". What the list
 -- says of a step's record and frames belongs to the machine.
 -- Assumes nothing.
-use Prim.Native.Nat.{ℕ, _+_, _*_}
+use Prim.Native.Nat.{ℕ, _+_}
 use mathlib.Core.Bool.{Bool, true, false, not}
 use mathlib.Core.List.{[], _∷_}
 use lib.Dec.{ltb, leb, eqb}
-use lib.ListN.{length}
 use Rattle.base_prelude.specs.Choice.{ifLt, ifEq, ifTrue}
 use Rattle.base_limits.specs.Limits.{nameBytes}
 use Rattle.lang_kinds.specs.Kinds as kind
-use Rattle.prog_tables.specs.Layout.{statementRow, labelRow, operandSlots, frameHead, noExpression, plain, callExpression, placeLabel}
+use Rattle.prog_tables.specs.Layout.{operandSlots, frameHead, noExpression, plain, callExpression, placeLabel}
 use Rattle.prog_tables.specs.Tests.{both, oneOf, some, someOf, someBelow}
 use Rattle.prog_tables.specs.Statement.{Row, hasExpression, isOperator, isCall}
-use Rattle.prog_tables.specs.Label.{Label, Tables, rows, labelsOf, isData, isFunctionLabel}
+use Rattle.prog_tables.specs.Label.{Label, isData, isFunctionLabel}
+use Rattle.prog_tables.specs.Program.{Program}
 use Rattle.prog_tables.specs.Nesting.{isListed, hasTarget}
 use Rattle.prog_tables.specs.declared.Operand.{Operand}
 use Rattle.prog_tables.specs.declared.Operand.the-variants.{Constant, Local, Address, AtConstant, AtLocal, AtAddress, Unlisted}
@@ -59,29 +59,32 @@ addressListed (AtLocal w) = false
 addressListed (AtAddress v) = false
 addressListed Unlisted = false
 
--- ---- causes, each a test of row n of c rows
+-- ---- causes, each a test of statement n
 
 -- "a kind not listed"; those of operands are in `operandsFault`
-unfoldable pub kindFault : (ℕ → Row) → ℕ → Bool
-kindFault f n = ifTrue (isListed (f n .kind)) (expressionFault (f n .kind) (f n .expr)) true
+unfoldable pub kindFault : Program → ℕ → Bool
+kindFault p n = ifTrue (isListed (p .rows n .kind)) (expressionFault (p .rows n .kind) (p .rows n .expr)) true
 
 -- "a target that is no statement of the same function"
-unfoldable pub targetFault : (ℕ → Row) → ℕ → ℕ → Bool
-targetFault f c n =
-    both (oneOf (hasTarget (f n .kind)) (eqb (f n .kind) kind.goto))
-    (not (both (inFunction f c n) (both (ltb (f n .a) c) (eqb (f (f n .a) .func) (f n .func)))))
+unfoldable pub targetFault : Program → ℕ → Bool
+targetFault p n =
+    both (oneOf (hasTarget (p .rows n .kind)) (eqb (p .rows n .kind) kind.goto))
+    (not
+    (both (inFunction (p .rows) (p .count) n)
+    (both (ltb (p .rows n .a) (p .count)) (eqb (p .rows (p .rows n .a) .func) (p .rows n .func)))))
 
 -- "a callee that is no function or has another parameter count"; a count of arguments past the row's slots
-unfoldable pub calleeFault : (ℕ → Row) → ℕ → ℕ → Bool
-calleeFault f c n =
-    both (isCall (f n .kind) (f n .expr))
+unfoldable pub calleeFault : Program → ℕ → Bool
+calleeFault p n =
+    both (isCall (p .rows n .kind) (p .rows n .expr))
     (not
-    (both (ltb (f n .callee) c)
-    (both (eqb (f (f n .callee) .kind) kind.function) (both (eqb (f (f n .callee) .b) (f n .count)) (leb (f n .count) operandSlots)))))
+    (both (ltb (p .rows n .callee) (p .count))
+    (both (eqb (p .rows (p .rows n .callee) .kind) kind.function)
+    (both (eqb (p .rows (p .rows n .callee) .b) (p .rows n .count)) (leb (p .rows n .count) operandSlots)))))
 
 -- "a function's frame size below 3 + parameters"
-unfoldable pub sizeFault : (ℕ → Row) → ℕ → Bool
-sizeFault f n = both (eqb (f n .kind) kind.function) (ltb (f n .a) (frameHead + f n .b))
+unfoldable pub sizeFault : Program → ℕ → Bool
+sizeFault p n = both (eqb (p .rows n .kind) kind.function) (ltb (p .rows n .a) (frameHead + p .rows n .b))
 
 -- the last word that a row itself names: destination of `let` and `set`, a block's saved auto top, the last let of a `block` row
 unfoldable pub ownWord : Row → ℕ
@@ -91,53 +94,49 @@ unfoldable pub hasWord : ℕ → Bool
 hasWord k = ifLt k kind.block false (ltb k kind.setAt)
 
 -- "a parameter, local or block word at or past its function's frame size"; those of operands are in `operandsFault`
-unfoldable pub wordFault : (ℕ → Row) → ℕ → ℕ → Bool
-wordFault f c n = both (hasWord (f n .kind)) (leb (sizeAt f c n) (ownWord (f n)))
+unfoldable pub wordFault : Program → ℕ → Bool
+wordFault p n = both (hasWord (p .rows n .kind)) (leb (sizeAt (p .rows) (p .count) n) (ownWord (p .rows n)))
 
 -- operands: their kinds, words and data addresses
-unfoldable pub operandsFault : (ℕ → Row) → ℕ → ℕ → ℕ → Bool
-operandsFault f c d n = someOf (operandFault (sizeAt f c n) d) (f n .operands)
+unfoldable pub operandsFault : Program → ℕ → Bool
+operandsFault p n = someOf (operandFault (sizeAt (p .rows) (p .count) n) (p .dataLength)) (p .rows n .operands)
 
-unfoldable pub addressFault : (ℕ → Row) → ℕ → ℕ → ℕ → Bool
-addressFault f c d n =
-    both (eqb (f n .kind) kind.setAt) (oneOf (not (addressListed (f n .address))) (operandFault (sizeAt f c n) d (f n .address)))
+unfoldable pub addressFault : Program → ℕ → Bool
+addressFault p n =
+    both (eqb (p .rows n .kind) kind.setAt)
+    (oneOf (not (addressListed (p .rows n .address))) (operandFault (sizeAt (p .rows) (p .count) n) (p .dataLength) (p .rows n .address)))
 
--- row n of c rows is broken, d being the data's length
-unfoldable pub rowFault : (ℕ → Row) → ℕ → ℕ → ℕ → Bool
-rowFault f c d n =
+-- statement n is broken
+unfoldable pub rowFault : Program → ℕ → Bool
+rowFault p n =
     some
-    (kindFault f n
-    ∷ targetFault f c n
-    ∷ calleeFault f c n
-    ∷ sizeFault f n
-    ∷ wordFault f c n
-    ∷ operandsFault f c d n
-    ∷ addressFault f c d n
+    (kindFault p n
+    ∷ targetFault p n
+    ∷ calleeFault p n
+    ∷ sizeFault p n
+    ∷ wordFault p n
+    ∷ operandsFault p n
+    ∷ addressFault p n
     ∷ [])
 
 -- a label row is broken: an unlisted kind, an address above the data's length, a function label on no `function` row, a place past
 -- the statements, a name longer than its bytes
-unfoldable pub labelFault : (ℕ → Row) → ℕ → ℕ → Label → Bool
-labelFault f c d l =
+unfoldable pub labelFault : Program → Label → Bool
+labelFault p l =
     oneOf (ltb nameBytes (l .size))
-    (ifTrue (isData (l .kind)) (ltb d (l .number))
-    (ifTrue (isFunctionLabel (l .kind)) (not (both (ltb (l .number) c) (eqb (f (l .number) .kind) kind.function)))
-    (ifEq (l .kind) placeLabel (leb c (l .number)) true)))
+    (ifTrue (isData (l .kind)) (ltb (p .dataLength) (l .number))
+    (ifTrue (isFunctionLabel (l .kind)) (not (both (ltb (l .number) (p .count)) (eqb (p .rows (l .number) .kind) kind.function)))
+    (ifEq (l .kind) placeLabel (leb (p .count) (l .number)) true)))
 
 -- a count past its table
-unfoldable pub countFault : Tables → Bool
-countFault t =
-    some
-    (ltb (length (t .statements)) (t .count * statementRow)
-    ∷ ltb (length (t .labels)) (t .labelCount * labelRow)
-    ∷ ltb (length (t .names)) (t .labelCount * nameBytes)
-    ∷ [])
+unfoldable pub countFault : Program → Bool
+countFault p = oneOf (p .statementsPast) (p .labelsPast)
 
--- some row or count of the tables is broken
-unfoldable pub tablesFault : Tables → Bool
-tablesFault t =
+-- some row or count is broken
+unfoldable pub tablesFault : Program → Bool
+tablesFault p =
     some
-    (countFault t
-    ∷ someBelow (rowFault (rows t) (t .count) (t .dataLength)) (t .count)
-    ∷ someBelow (λ n. labelFault (rows t) (t .count) (t .dataLength) (labelsOf t n)) (t .labelCount)
+    (countFault p
+    ∷ someBelow (rowFault p) (p .count)
+    ∷ someBelow (λ n. labelFault p (p .labels n)) (p .labelCount)
     ∷ [])

@@ -7,6 +7,7 @@ pub mod Statement
 pub mod Places
 pub mod Label
 pub mod Nesting
+pub mod Program
 pub mod Frames
 pub mod Faults
 pub mod WellFormed

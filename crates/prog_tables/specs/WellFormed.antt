@@ -3,28 +3,28 @@
 -- frames, `goto` and calls (to labels), counts and limits" (02, 7). Each rule is a test of one row in its tables.
 -- Assumes nothing.
 use mathlib.Core.Path.{_≡_}
-use Prim.Native.Nat.{ℕ, _*_}
+use Prim.Native.Nat.{ℕ}
 use mathlib.Core.Bool.{Bool, true, false, not}
 use mathlib.Core.List.{List, [], _∷_}
 use lib.Dec.{ltb, leb, eqb}
-use lib.ListN.{length}
 use Rattle.base_prelude.specs.Choice.{ifTrue}
 use Rattle.base_prelude.specs.Lists.{sameList}
 use Rattle.base_limits.specs.Limits as limits
 use Rattle.base_limits.specs.Limits.{nameBytes, dataBytes, parameters, locals, blockDepth}
 use Rattle.lang_kinds.specs.Kinds as kind
 use Rattle.lang_words.specs.Words.{numberOf}
-use Rattle.prog_tables.specs.Layout.{statementRow, labelRow, placeLabel}
+use Rattle.prog_tables.specs.Layout.{placeLabel}
 use Rattle.prog_tables.specs.Tests.{both, oneOf, given, all, allOf, allBelow, someBelow}
 use Rattle.prog_tables.specs.Statement.{Row, hasExpression, isTest, isCall, usedBy}
-use Rattle.prog_tables.specs.Label.{Label, Tables, rows, labelsOf, isData, isFunctionLabel}
+use Rattle.prog_tables.specs.Label.{Label, isData, isFunctionLabel}
+use Rattle.prog_tables.specs.Program.{Program}
 use Rattle.prog_tables.specs.Nesting.{stands, allClosed, hasTarget, targetOf, depthOf, followsJump}
 use Rattle.prog_tables.specs.Frames.{frameDepth, frameSize, blockWord, letWord, letsBefore, inScope, localsAt}
 use Rattle.prog_tables.specs.Faults.{expressionFault, addressListed}
 use Rattle.prog_tables.specs.declared.Operand.{Operand}
 use Rattle.prog_tables.specs.declared.Operand.the-variants.{Constant, Local, Address, AtConstant, AtLocal, AtAddress, Unlisted}
 
--- ---- statements: f the view of c rows, g the view of l labels
+-- ---- statements: f the view of c rows, g that of l labels
 
 -- "blocks nested 16 deep"
 unfoldable pub shallow : (ℕ → Row) → ℕ → Bool
@@ -39,26 +39,26 @@ unfoldable pub labelled : (ℕ → Label) → ℕ → (ℕ → Bool) → ℕ →
 labelled g l p v = someBelow (λ i. both (p (g i .kind)) (eqb (g i .number) v)) l
 
 -- "`goto` takes a statement's label in the same function and innermost block."
-unfoldable pub jumps : (ℕ → Row) → ℕ → (ℕ → Label) → ℕ → ℕ → Bool
-jumps f c g l n =
-    given (eqb (f n .kind) kind.goto)
+unfoldable pub jumps : Program → ℕ → Bool
+jumps p n =
+    given (eqb (p .rows n .kind) kind.goto)
     (all
-    (ltb (f n .a) c
-    ∷ eqb (f (f n .a) .func) (f n .func)
-    ∷ eqb (f (f n .a) .scope) (f n .scope)
-    ∷ labelled g l (λ k. eqb k placeLabel) (f n .a)
+    (ltb (p .rows n .a) (p .count)
+    ∷ eqb (p .rows (p .rows n .a) .func) (p .rows n .func)
+    ∷ eqb (p .rows (p .rows n .a) .scope) (p .rows n .scope)
+    ∷ labelled (p .labels) (p .labelCount) (λ k. eqb k placeLabel) (p .rows n .a)
     ∷ []))
 
 -- "`call` and `tail-call` take a function label with its parameter count."
-unfoldable pub calls : (ℕ → Row) → ℕ → (ℕ → Label) → ℕ → ℕ → Bool
-calls f c g l n =
-    given (isCall (f n .kind) (f n .expr))
+unfoldable pub calls : Program → ℕ → Bool
+calls p n =
+    given (isCall (p .rows n .kind) (p .rows n .expr))
     (all
-    (ltb (f n .callee) c
-    ∷ eqb (f (f n .callee) .kind) kind.function
-    ∷ eqb (f (f n .callee) .b) (f n .count)
-    ∷ leb (f n .count) parameters
-    ∷ labelled g l isFunctionLabel (f n .callee)
+    (ltb (p .rows n .callee) (p .count)
+    ∷ eqb (p .rows (p .rows n .callee) .kind) kind.function
+    ∷ eqb (p .rows (p .rows n .callee) .b) (p .rows n .count)
+    ∷ leb (p .rows n .count) parameters
+    ∷ labelled (p .labels) (p .labelCount) isFunctionLabel (p .rows n .callee)
     ∷ []))
 
 -- `set-byte`, `set-word`, calls, tests, and what has an expression
@@ -73,21 +73,22 @@ shaped f n =
 
 -- "A value is a local or a data label (its address)": at row n, of a listed kind, "a local's word or a data address that of one in
 -- scope there"
-unfoldable pub operandGood : (ℕ → Row) → (ℕ → Label) → ℕ → ℕ → Operand → Bool
-operandGood f g l n (Constant v) = true
-operandGood f g l n (Local w) = inScope f n w
-operandGood f g l n (Address v) = labelled g l isData v
-operandGood f g l n (AtConstant v) = true
-operandGood f g l n (AtLocal w) = inScope f n w
-operandGood f g l n (AtAddress v) = labelled g l isData v
-operandGood f g l n Unlisted = false
+unfoldable pub operandGood : Program → ℕ → Operand → Bool
+operandGood p n (Constant v) = true
+operandGood p n (Local w) = inScope (p .rows) n w
+operandGood p n (Address v) = labelled (p .labels) (p .labelCount) isData v
+operandGood p n (AtConstant v) = true
+operandGood p n (AtLocal w) = inScope (p .rows) n w
+operandGood p n (AtAddress v) = labelled (p .labels) (p .labelCount) isData v
+operandGood p n Unlisted = false
 
-unfoldable pub operandsGood : (ℕ → Row) → (ℕ → Label) → ℕ → ℕ → Bool
-operandsGood f g l n = allOf (operandGood f g l n) (f n .operands)
+unfoldable pub operandsGood : Program → ℕ → Bool
+operandsGood p n = allOf (operandGood p n) (p .rows n .operands)
 
 -- the operand behind the `@` of `set @`
-unfoldable pub addressGood : (ℕ → Row) → (ℕ → Label) → ℕ → ℕ → Bool
-addressGood f g l n = given (eqb (f n .kind) kind.setAt) (both (addressListed (f n .address)) (operandGood f g l n (f n .address)))
+unfoldable pub addressGood : Program → ℕ → Bool
+addressGood p n =
+    given (eqb (p .rows n .kind) kind.setAt) (both (addressListed (p .rows n .address)) (operandGood p n (p .rows n .address)))
 
 -- "`set` takes a local."
 unfoldable pub setsLocal : (ℕ → Row) → ℕ → Bool
@@ -109,31 +110,31 @@ unfoldable pub fewLocals : (ℕ → Row) → ℕ → Bool
 fewLocals f n = both (given (eqb (f n .kind) kind.function) (leb (f n .b) parameters)) (given (eqb (f n .kind) kind.letLocal) (ltb (localsAt f n) locals))
 
 -- the tests of statement n, in the order of proofs/Each
-unfoldable pub rowTests : (ℕ → Row) → ℕ → (ℕ → Label) → ℕ → ℕ → List Bool
-rowTests f c g l n =
-    stands f n
-    ∷ shallow f n
-    ∷ aimed f c n
-    ∷ jumps f c g l n
-    ∷ calls f c g l n
-    ∷ shaped f n
-    ∷ operandsGood f g l n
-    ∷ addressGood f g l n
-    ∷ setsLocal f n
-    ∷ framed f c n
-    ∷ fewLocals f n
+unfoldable pub rowTests : Program → ℕ → List Bool
+rowTests p n =
+    stands (p .rows) n
+    ∷ shallow (p .rows) n
+    ∷ aimed (p .rows) (p .count) n
+    ∷ jumps p n
+    ∷ calls p n
+    ∷ shaped (p .rows) n
+    ∷ operandsGood p n
+    ∷ addressGood p n
+    ∷ setsLocal (p .rows) n
+    ∷ framed (p .rows) (p .count) n
+    ∷ fewLocals (p .rows) n
     ∷ []
 
 -- ---- labels
 
 -- "A label names a data definition [..] in data, a function in functions, or a statement inside a function"; that of an `else
 -- if..` line "names the jump", not the test behind it
-unfoldable pub names : (ℕ → Row) → ℕ → ℕ → Label → Bool
-names f c d l =
-    ifTrue (isData (l .kind)) (leb (l .number) d)
-    (both (ltb (l .number) c)
-    (ifTrue (isFunctionLabel (l .kind)) (eqb (f (l .number) .kind) kind.function)
-    (all (eqb (l .kind) placeLabel ∷ not (eqb (f (l .number) .kind) kind.function) ∷ not (followsJump f (l .number)) ∷ []))))
+unfoldable pub names : Program → Label → Bool
+names p l =
+    ifTrue (isData (l .kind)) (leb (l .number) (p .dataLength))
+    (both (ltb (l .number) (p .count))
+    (ifTrue (isFunctionLabel (l .kind)) (eqb (p .rows (l .number) .kind) kind.function)
+    (all (eqb (l .kind) placeLabel ∷ not (eqb (p .rows (l .number) .kind) kind.function) ∷ not (followsJump (p .rows) (l .number)) ∷ []))))
 
 -- "a name 64 decoded bytes", "none empty or reserved"
 unfoldable pub nameGood : Label → Bool
@@ -143,37 +144,36 @@ nameGood l = all (leb 1 (l .size) ∷ leb (l .size) nameBytes ∷ eqb (numberOf 
 unfoldable pub nameNew : (ℕ → Label) → ℕ → Bool
 nameNew g n = not (someBelow (λ i. sameList (g i .name) (g n .name)) n)
 
-unfoldable pub labelTests : (ℕ → Row) → ℕ → ℕ → (ℕ → Label) → ℕ → List Bool
-labelTests f c d g n = names f c d (g n) ∷ nameGood (g n) ∷ nameNew g n ∷ []
+unfoldable pub labelTests : Program → ℕ → List Bool
+labelTests p n = names p (p .labels n) ∷ nameGood (p .labels n) ∷ nameNew (p .labels) n ∷ []
 
--- ---- tables
+-- ---- programs
 
 -- "statements 1,024; labels 256; [..] data 32,768 bytes"; and the rows are in their tables
-unfoldable pub countsGood : Tables → Bool
-countsGood t =
+unfoldable pub countsGood : Program → Bool
+countsGood p =
     all
-    (leb (t .count) limits.statements
-    ∷ leb (t .labelCount) limits.labels
-    ∷ leb (t .dataLength) dataBytes
-    ∷ leb (t .count * statementRow) (length (t .statements))
-    ∷ leb (t .labelCount * labelRow) (length (t .labels))
-    ∷ leb (t .labelCount * nameBytes) (length (t .names))
+    (leb (p .count) limits.statements
+    ∷ leb (p .labelCount) limits.labels
+    ∷ leb (p .dataLength) dataBytes
+    ∷ not (p .statementsPast)
+    ∷ not (p .labelsPast)
     ∷ [])
 
-abbrev pub rowGood : Tables → ℕ → Bool
-rowGood t n = all (rowTests (rows t) (t .count) (labelsOf t) (t .labelCount) n)
+abbrev pub rowGood : Program → ℕ → Bool
+rowGood p n = all (rowTests p n)
 
-abbrev pub labelGood : Tables → ℕ → Bool
-labelGood t n = all (labelTests (rows t) (t .count) (t .dataLength) (labelsOf t) n)
+abbrev pub labelGood : Program → ℕ → Bool
+labelGood p n = all (labelTests p n)
 
-unfoldable pub wellFormed : Tables → Bool
-wellFormed t =
+unfoldable pub wellFormed : Program → Bool
+wellFormed p =
     all
-    (countsGood t
-    ∷ allClosed (rows t) (t .count)
-    ∷ allBelow (rowGood t) (t .count)
-    ∷ allBelow (labelGood t) (t .labelCount)
+    (countsGood p
+    ∷ allClosed (p .rows) (p .count)
+    ∷ allBelow (rowGood p) (p .count)
+    ∷ allBelow (labelGood p) (p .labelCount)
     ∷ [])
 
-abbrev pub WellFormed : Tables → Type 0
-WellFormed t = wellFormed t ≡ true
+abbrev pub WellFormed : Program → Type 0
+WellFormed p = wellFormed p ≡ true

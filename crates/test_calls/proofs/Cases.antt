@@ -8,6 +8,7 @@ use mathlib.Core.List.{List, _++_}
 use lib.ListN.{length, take, drop}
 use Rattle.base_prelude.specs.Lists.{sameList}
 use Rattle.base_limits.specs.declared.Width.the-variants.{Bits32}
+use Rattle.prog_tables.specs.Program.{programFrom}
 use Rattle.vm_definitions.specs.Access.{storeFrom}
 use Rattle.vm_definitions.specs.Step.{World, After, stepOf, runOf}
 use Rattle.vm_definitions.specs.Lent.{tablesOf, world, left}
@@ -34,20 +35,20 @@ module _ (q : Progress) (t b w1 w2 w3 n1 : List ℕ) (e1 : w1 ≡ take (q .lent 
   unfolding tablesIn
   tables-are = rw (← e2, ← e1, ← e3, ← e4)
 
-  pub call-step-is : (x : World) (z : After) → z ≡ stepOf Bits32 (tablesOf w1 (q .counts .statements) w3 (q .counts .labels) n1 (q .counts .bytes)) x → z ≡ stepOf Bits32 (tablesIn q t b) x
-  call-step-is x z e = e ∙ ap (λ (y : Tables). stepOf Bits32 y x) tables-are
+  pub call-step-is : (x : World) (z : After) → z ≡ stepOf (programFrom Bits32 (tablesOf w1 (q .counts .statements) w3 (q .counts .labels) n1 (q .counts .bytes))) x → z ≡ stepOf (programFrom Bits32 (tablesIn q t b)) x
+  call-step-is x z e = e ∙ ap (λ (y : Tables). stepOf (programFrom Bits32 y) x) tables-are
 
-  pub call-run-is : (budget : ℕ) (x : World) (z : After) → z ≡ runOf Bits32 (tablesOf w1 (q .counts .statements) w3 (q .counts .labels) n1 (q .counts .bytes)) budget x
-      → z ≡ runOf Bits32 (tablesIn q t b) budget x
-  call-run-is budget x z e = e ∙ ap (λ (y : Tables). runOf Bits32 y budget x) tables-are
+  pub call-run-is : (budget : ℕ) (x : World) (z : After) → z ≡ runOf (programFrom Bits32 (tablesOf w1 (q .counts .statements) w3 (q .counts .labels) n1 (q .counts .bytes))) budget x
+      → z ≡ runOf (programFrom Bits32 (tablesIn q t b)) budget x
+  call-run-is budget x z e = e ∙ ap (λ (y : Tables). runOf (programFrom Bits32 y) budget x) tables-are
 
   pub call-start-is : (n2 n3 name arguments : List ℕ) (x : World) (z : Opened) → n2 ≡ behindOf 16384 b → n3 ≡ take (q .lent .bytes) n2
-      → z ≡ openingOf Bits32 (tablesOf w1 (q .counts .statements) w3 (q .counts .labels) n1 (q .counts .bytes)) n3 name arguments x
-      → z ≡ openingOf Bits32 (tablesIn q t b) (dataIn q b) name arguments x
+      → z ≡ openingOf (programFrom Bits32 (tablesOf w1 (q .counts .statements) w3 (q .counts .labels) n1 (q .counts .bytes))) n3 name arguments x
+      → z ≡ openingOf (programFrom Bits32 (tablesIn q t b)) (dataIn q b) name arguments x
   unfolding dataIn
   call-start-is n2 n3 name arguments x z f g e =
       let h : n3 ≡ take (q .lent .bytes) (behindOf 16384 b) = g ∙ ap (λ (y : List ℕ). take (q .lent .bytes) y) f in
-      e ∙ ap (λ (y : Tables). openingOf Bits32 y n3 name arguments x) tables-are ∙ ap (λ (y : List ℕ). openingOf Bits32 (tablesIn q t b) y name arguments x) h
+      e ∙ ap (λ (y : Tables). openingOf (programFrom Bits32 y) n3 name arguments x) tables-are ∙ ap (λ (y : List ℕ). openingOf (programFrom Bits32 (tablesIn q t b)) y name arguments x) h
 
 -- `read_name`
 pub read-name-is : (l name : List ℕ) (from end : ℕ) (z : Source) → from ≡ fieldStart l 1 → end ≡ wordEnd l from → z ≡ addText (take (end - from) (drop from l)) 0 (source 0 name) → z ≡ readName l name
@@ -76,26 +77,26 @@ module _ (q : Progress) (got t b k m : List ℕ) (n h : ℕ) (st mem : List ℕ)
       ∙ ap (λ (i : ℕ). ran (w .progress) (w .buffer) (st ++ drop i k) (mem ++ drop (h - 0) m)) lent-stack
       ∙ ap (λ (i : ℕ). ran (w .progress) (w .buffer) (over st (stackIn q k) k) (mem ++ drop i m)) lent-memory
 
-  pub do-step-is : (o : Outcome) → left o st mem ≡ stepOf Bits32 (tablesIn q t b) (world (q .machine) (take (n - 0) k) (take (h - 0) m)) → on z u ≡ withOutcome q o got
+  pub do-step-is : (o : Outcome) → left o st mem ≡ stepOf (programFrom Bits32 (tablesIn q t b)) (world (q .machine) (take (n - 0) k) (take (h - 0) m)) → on z u ≡ withOutcome q o got
       → ran z u (st ++ drop (n - 0) k) (mem ++ drop (h - 0) m) ≡ doStep q got t b k m
   unfolding doStep
   do-step-is o e f =
       ran-over (withOutcome q o got) f
-      ∙ ap (λ (x : After). ranBy x q got k m) (e ∙ ap (λ (y : World). stepOf Bits32 (tablesIn q t b) y) world-is)
+      ∙ ap (λ (x : After). ranBy x q got k m) (e ∙ ap (λ (y : World). stepOf (programFrom Bits32 (tablesIn q t b)) y) world-is)
 
-  pub do-run-is : (budget : ℕ) (o : Outcome) → left o st mem ≡ runOf Bits32 (tablesIn q t b) budget (world (q .machine) (take (n - 0) k) (take (h - 0) m)) → on z u ≡ withOutcome q o got
+  pub do-run-is : (budget : ℕ) (o : Outcome) → left o st mem ≡ runOf (programFrom Bits32 (tablesIn q t b)) budget (world (q .machine) (take (n - 0) k) (take (h - 0) m)) → on z u ≡ withOutcome q o got
       → ran z u (st ++ drop (n - 0) k) (mem ++ drop (h - 0) m) ≡ doRun budget q got t b k m
   unfolding doRun
   do-run-is budget o e f =
       ran-over (withOutcome q o got) f
-      ∙ ap (λ (x : After). ranBy x q got k m) (e ∙ ap (λ (y : World). runOf Bits32 (tablesIn q t b) budget y) world-is)
+      ∙ ap (λ (x : After). ranBy x q got k m) (e ∙ ap (λ (y : World). runOf (programFrom Bits32 (tablesIn q t b)) budget y) world-is)
 
-  pub do-start-is : (name arguments : List ℕ) (o : Opening) → opened o st mem ≡ openingOf Bits32 (tablesIn q t b) (dataIn q b) name arguments (world (q .machine) (take (n - 0) k) (take (h - 0) m))
+  pub do-start-is : (name arguments : List ℕ) (o : Opening) → opened o st mem ≡ openingOf (programFrom Bits32 (tablesIn q t b)) (dataIn q b) name arguments (world (q .machine) (take (n - 0) k) (take (h - 0) m))
       → on z u ≡ withOpening q o got → ran z u (st ++ drop (n - 0) k) (mem ++ drop (h - 0) m) ≡ doStart name arguments q got t b k m
   unfolding doStart
   do-start-is name arguments o e f =
       ran-over (withOpening q o got) f
-      ∙ ap (λ (x : Opened). openedBy x q got k m) (e ∙ ap (λ (y : World). openingOf Bits32 (tablesIn q t b) (dataIn q b) name arguments y) world-is)
+      ∙ ap (λ (x : Opened). openedBy x q got k m) (e ∙ ap (λ (y : World). openingOf (programFrom Bits32 (tablesIn q t b)) (dataIn q b) name arguments y) world-is)
 
 -- `with_outcome`
 module _ (q : Progress) (o : Outcome) (got : List ℕ) where

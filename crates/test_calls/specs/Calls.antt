@@ -7,6 +7,7 @@ use lib.ListN.{length, take, drop}
 use Rattle.base_prelude.specs.Choice.{ifLt, ifTrue}
 use Rattle.base_prelude.specs.Lists.{sameList, zeros}
 use Rattle.base_limits.specs.declared.Width.the-variants.{Bits32}
+use Rattle.prog_tables.specs.Program.{programFrom}
 use Rattle.vm_definitions.specs.Access.{storeFrom}
 use Rattle.vm_definitions.specs.Step.{World, After, stepOf, runOf}
 use Rattle.vm_definitions.specs.Lent.{tablesOf, world}
@@ -83,16 +84,16 @@ openedBy x q got k m =
 
 -- `step`
 unfoldable pub doStep : Progress → List ℕ → List ℕ → List ℕ → List ℕ → List ℕ → Ran
-doStep q got t b k m = ranBy (stepOf Bits32 (tablesIn q t b) (worldIn q k m)) q got k m
+doStep q got t b k m = ranBy (stepOf (programFrom Bits32 (tablesIn q t b)) (worldIn q k m)) q got k m
 
 -- `run BUDGET`
 unfoldable pub doRun : ℕ → Progress → List ℕ → List ℕ → List ℕ → List ℕ → List ℕ → Ran
-doRun budget q got t b k m = ranBy (runOf Bits32 (tablesIn q t b) budget (worldIn q k m)) q got k m
+doRun budget q got t b k m = ranBy (runOf (programFrom Bits32 (tablesIn q t b)) budget (worldIn q k m)) q got k m
 
 -- `start NAME ARGUMENT ..`
 unfoldable pub doStart : List ℕ → List ℕ → Progress → List ℕ → List ℕ → List ℕ → List ℕ → List ℕ → Ran
 doStart name arguments q got t b k m =
-    openedBy (openingOf Bits32 (tablesIn q t b) (dataIn q b) name arguments (worldIn q k m)) q got k m
+    openedBy (openingOf (programFrom Bits32 (tablesIn q t b)) (dataIn q b) name arguments (worldIn q k m)) q got k m
 
 -- the bytes of the name of a start
 unfoldable pub readName : List ℕ → List ℕ → Source

@@ -20,6 +20,7 @@ use vm_definitions::Opening;
 use vm_definitions::Outcome;
 ghost use mathlib.Core.Path.{_≡_};
 ghost use Rattle.base_limits.specs.declared.Width.the-variants.{Bits32};
+ghost use Rattle.prog_tables.specs.Program.{programFrom};
 ghost use Rattle.vm_definitions.specs.Step.{stepOf, runOf};
 ghost use Rattle.vm_definitions.specs.Lent.{world, left};
 ghost use Rattle.vm_start.specs.Opening.{opened, openingOf};
@@ -58,7 +59,7 @@ fn with_opening(q: Progress, o: Opening, got: &mut Text) -> Progress
 }
 
 fn call_step(q: Progress, t: &[u32], b: &[u8], stack: &mut [u32], memory: &mut [u8]) -> Outcome
-    ensures { λ o. ⌜ left o (now (stack .exit)) (now (memory .exit)) ≡ stepOf Bits32 (tablesIn q (now (t .entry)) (now (b .entry))) (world (q .machine) (now (stack .entry)) (now (memory .entry))) ⌝ }
+    ensures { λ o. ⌜ left o (now (stack .exit)) (now (memory .exit)) ≡ stepOf (programFrom Bits32 (tablesIn q (now (t .entry)) (now (b .entry)))) (world (q .machine) (now (stack .entry)) (now (memory .entry))) ⌝ }
 {
     let a = q.lent;
     let c = q.counts;
@@ -84,7 +85,7 @@ fn call_run(
     stack: &mut [u32],
     memory: &mut [u8],
 ) -> Outcome
-    ensures { λ o. ⌜ left o (now (stack .exit)) (now (memory .exit)) ≡ runOf Bits32 (tablesIn q (now (t .entry)) (now (b .entry))) budget (world (q .machine) (now (stack .entry)) (now (memory .entry))) ⌝ }
+    ensures { λ o. ⌜ left o (now (stack .exit)) (now (memory .exit)) ≡ runOf (programFrom Bits32 (tablesIn q (now (t .entry)) (now (b .entry)))) budget (world (q .machine) (now (stack .entry)) (now (memory .entry))) ⌝ }
 {
     let a = q.lent;
     let c = q.counts;
@@ -112,7 +113,7 @@ fn call_start(
     stack: &mut [u32],
     memory: &mut [u8],
 ) -> Opening
-    ensures { λ o. ⌜ opened o (now (stack .exit)) (now (memory .exit)) ≡ openingOf Bits32 (tablesIn q (now (t .entry)) (now (b .entry))) (dataIn q (now (b .entry))) (now (name .entry)) (now (arguments .entry)) (world (q .machine) (now (stack .entry)) (now (memory .entry))) ⌝ }
+    ensures { λ o. ⌜ opened o (now (stack .exit)) (now (memory .exit)) ≡ openingOf (programFrom Bits32 (tablesIn q (now (t .entry)) (now (b .entry)))) (dataIn q (now (b .entry))) (now (name .entry)) (now (arguments .entry)) (world (q .machine) (now (stack .entry)) (now (memory .entry))) ⌝ }
 {
     let a = q.lent;
     let c = q.counts;

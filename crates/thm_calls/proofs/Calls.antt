@@ -10,7 +10,7 @@ use lib.ListN.{length}
 use borrow.Author.Tests.{eq-eqb}
 use Rattle.base_prelude.specs.Choice.{ifLt}
 use Rattle.base_prelude.proofs.Choice.{true-false, ifLt-no, either, either-eq, either-true}
-use Rattle.base_limits.specs.Fresh.{freshOf}
+use Rattle.base_limits.specs.Record.{freshOf}
 use Rattle.base_limits.specs.declared.Width.the-variants.{Bits32}
 use Rattle.base_limits.specs.declared.State.{State}
 use Rattle.base_limits.specs.declared.State.the-variants.{Running, Finished, Stopped}

@@ -17,6 +17,7 @@ use Rattle.base_limits.specs.declared.State.{State}
 use Rattle.base_limits.specs.declared.State.the-variants.{Running, Finished, Stopped}
 use Rattle.base_limits.specs.declared.Machine.{Machine}
 use Rattle.base_limits.specs.Record.{freshOf, stopped}
+use Rattle.prog_tables.specs.Program.{programFrom}
 use Rattle.prog_tables.specs.Label.{Tables, rows}
 use Rattle.vm_definitions.specs.Broken.{stepBroken}
 use Rattle.vm_definitions.specs.Step.{World, Effect, stops, leaves, After, idle, effected, guarded, inState, counting, effectOf, stepOf, runOf}
@@ -70,24 +71,24 @@ quiet-in x Running e b q = quiet-guarded x e b q
 quiet-in x (Finished v) e b q = quiet-idle x No
 quiet-in x (Stopped k i) e b q = quiet-idle x No
 
-quiet-step : (t : Tables) (x : World) → Quiet x (stepOf Bits32 t x)
+quiet-step : (t : Tables) (x : World) → Quiet x (stepOf (programFrom Bits32 t) x)
 unfolding stepOf
 quiet-step t x =
-    quiet-in x (x .machine .state) (effectOf Bits32 (rows t) (t .count) x) (stepBroken Bits32 t (x .machine) (x .stack) (length (x .memory))) refl
+    quiet-in x (x .machine .state) (effectOf (programFrom Bits32 t) x) (stepBroken (programFrom Bits32 t) (x .machine) (x .stack) (length (x .memory))) refl
 
-quiet-run : (t : Tables) (budget : ℕ) (x : World) → Quiet x (runOf Bits32 t budget x)
+quiet-run : (t : Tables) (budget : ℕ) (x : World) → Quiet x (runOf (programFrom Bits32 t) budget x)
 unfolding runOf ifEq counting
 quiet-run t zero x = quiet-idle x No
-quiet-run t (suc b) x = by (eqb (stepOf Bits32 t x .count) 0)
+quiet-run t (suc b) x = by (eqb (stepOf (programFrom Bits32 t) x .count) 0)
   where
-    by : (v : Bool) → Quiet x (pick v (stepOf Bits32 t x) (counting 1 (runOf Bits32 t b (stepOf Bits32 t x .world))))
+    by : (v : Bool) → Quiet x (pick v (stepOf (programFrom Bits32 t) x) (counting 1 (runOf (programFrom Bits32 t) b (stepOf (programFrom Bits32 t) x .world))))
     by true = quiet-step t x
     by false =
         λ h.
         true-false
         (sym
-        (counts (stateNumber (x .machine .state)) (runOf Bits32 t b (stepOf Bits32 t x .world) .count)
-        (runOf Bits32 t b (stepOf Bits32 t x .world) .world .machine) (runOf Bits32 t b (stepOf Bits32 t x .world) .broken))
+        (counts (stateNumber (x .machine .state)) (runOf (programFrom Bits32 t) b (stepOf (programFrom Bits32 t) x .world) .count)
+        (runOf (programFrom Bits32 t) b (stepOf (programFrom Bits32 t) x .world) .world .machine) (runOf (programFrom Bits32 t) b (stepOf (programFrom Bits32 t) x .world) .broken))
         ∙ h)
 
 -- ---- the state that a step or a run leaves is one that words can hold
@@ -138,31 +139,31 @@ words-after ws x y e l q = by (changes (getD ws word.state 0) (outcomeOf y)) ref
 
 module _ (ws st m out : List ℕ) (t : Tables) (r : Machine) (e : recordOf ws ≡ Fit r) where
   -- a step of a lent record is a step of the record that it holds
-  pub step-words : recordOf (stepCall ws st m out t .words) ≡ Fit (stepOf Bits32 t (world r st m) .world .machine)
+  pub step-words : recordOf (stepCall ws st m out t .words) ≡ Fit (stepOf (programFrom Bits32 t) (world r st m) .world .machine)
   unfolding stepCall stepBy outcomeAnswer outcomeReply
   step-words =
       ap (λ (x : Loaded). recordOf (stepBy ws st m out t x .words)) e
-      ∙ words-after ws (world r st m) (stepOf Bits32 t (world r st m)) e (step-listed t (world r st m) (record-listed ws r e)) (quiet-step t (world r st m))
+      ∙ words-after ws (world r st m) (stepOf (programFrom Bits32 t) (world r st m)) e (step-listed t (world r st m) (record-listed ws r e)) (quiet-step t (world r st m))
 
-  pub run-words : (budget : ℕ) → recordOf (runCall ws st m out t budget .words) ≡ Fit (runOf Bits32 t budget (world r st m) .world .machine)
+  pub run-words : (budget : ℕ) → recordOf (runCall ws st m out t budget .words) ≡ Fit (runOf (programFrom Bits32 t) budget (world r st m) .world .machine)
   unfolding runCall runBy outcomeAnswer outcomeReply
   run-words budget =
       ap (λ (x : Loaded). recordOf (runBy ws st m out t budget x .words)) e
-      ∙ words-after ws (world r st m) (runOf Bits32 t budget (world r st m)) e (run-listed t budget (world r st m) (record-listed ws r e)) (quiet-run t budget (world r st m))
+      ∙ words-after ws (world r st m) (runOf (programFrom Bits32 t) budget (world r st m)) e (run-listed t budget (world r st m) (record-listed ws r e)) (quiet-run t budget (world r st m))
 
 -- a start that has begun leaves the record of the definition
 module _ (ws st m out : List ℕ) (t : Tables) (bytes name args : List ℕ) where
   abbrev S : Started
-  S = startOf Bits32 t bytes name args (world (freshOf 0 0 0) st m)
+  S = startOf (programFrom Bits32 t) bytes name args (world (freshOf 0 0 0) st m)
 
-  begun-listed : S ≡ Begun → Listed (startLeaves Bits32 t bytes name args (world (freshOf 0 0 0) st m) .machine .state)
+  begun-listed : S ≡ Begun → Listed (startLeaves (programFrom Bits32 t) bytes name args (world (freshOf 0 0 0) st m) .machine .state)
   unfolding startLeaves begunBy startWorld freshOf Listed
-  begun-listed e = subst (λ (a : Started). Listed (begunBy Bits32 t bytes name args (world (freshOf 0 0 0) st m) a .machine .state)) (sym e) tt
+  begun-listed e = subst (λ (a : Started). Listed (begunBy (programFrom Bits32 t) bytes name args (world (freshOf 0 0 0) st m) a .machine .state)) (sym e) tt
 
   pub start-words : recordSize ≤ length ws → S ≡ Begun
-      → recordOf (startCall ws st m out t bytes name args .words) ≡ Fit (startLeaves Bits32 t bytes name args (world (freshOf 0 0 0) st m) .machine)
+      → recordOf (startCall ws st m out t bytes name args .words) ≡ Fit (startLeaves (programFrom Bits32 t) bytes name args (world (freshOf 0 0 0) st m) .machine)
   unfolding startCall openingAnswer openingReply recordBegun
   start-words h e =
       ap (λ (y : Answered). recordOf (y .words)) (ifLt-no (unfit ws st m out 35) _ h)
-      ∙ ap (λ (a : Started). recordOf (recordBegun a (recordWords (startLeaves Bits32 t bytes name args (world (freshOf 0 0 0) st m) .machine)) ws)) e
-      ∙ record-back (startLeaves Bits32 t bytes name args (world (freshOf 0 0 0) st m) .machine) ws (begun-listed e) h
+      ∙ ap (λ (a : Started). recordOf (recordBegun a (recordWords (startLeaves (programFrom Bits32 t) bytes name args (world (freshOf 0 0 0) st m) .machine)) ws)) e
+      ∙ record-back (startLeaves (programFrom Bits32 t) bytes name args (world (freshOf 0 0 0) st m) .machine) ws (begun-listed e) h

@@ -6,6 +6,7 @@ use mathlib.Core.List.{List, [], _∷_, _++_}
 use Prim.Native.Nat.{ℕ, zero, suc}
 use lib.ListN.{length}
 use Rattle.base_limits.specs.declared.Width.the-variants.{Bits32}
+use Rattle.prog_tables.specs.Program.{programFrom}
 use Rattle.prog_tables.specs.Label.{Tables}
 use Rattle.prog_tables.proofs.Samples.{program}
 use Rattle.thm_acceptance.specs.Accepts.{isAccepted}
@@ -43,5 +44,5 @@ pub case-two : CaseTwo (programOf case1-check) (case1-check .bytes)
 case-two = subst (λ (t : Tables). CaseTwo t (case1-check .bytes)) (sym (check-is .0)) (subst (CaseTwo case1-program) (sym (check-is .1)) rows-run)
 
 -- the demand of this source
-pub case1-demand : Demand Bits32 (programOf case1-check) (case1-check .bytes)
+pub case1-demand : Demand (programFrom Bits32 (programOf case1-check)) (case1-check .bytes)
 case1-demand = demand-three Bits32 case1 (lent 1000 162 8 128 4) (check-is .2)

@@ -9,6 +9,7 @@ use native.Mathlib.Omega.{arith}
 use lib.ListN.{length, length-replicate}
 use Rattle.base_prelude.specs.Lists.{zeros}
 use Rattle.base_limits.specs.declared.Width.{Width}
+use Rattle.prog_tables.specs.Program.{programFrom}
 use Rattle.thm_acceptance.specs.Accepts.{isAccepted}
 use Rattle.check_fill.specs.Fill.{fillOf}
 use Rattle.check_source.specs.Check.{Lent, Filled, accept, checkOf}
@@ -29,5 +30,5 @@ module _ (w : Width) (s : List ℕ) (b : Lent) (h : isAccepted (checkOf w s b .a
       subst (λ (y : Filled). programOf y .dataLength ≤ length (y .bytes)) (sym (q .leaves))
       (omega (arith, room-bytes (b .tokens) (b .statements) (b .labels) (b .names) (b .bytes) (length (q .tokens)) (q .c) (q .l) (q .size) (q .held), image-long w s (tokenTable (q .tokens)) (zeros (b .bytes)), length-replicate {A = ℕ} (b .bytes) 0))
 
-  pub demand-three : Demand w (programOf (checkOf w s b)) (checkOf w s b .bytes)
+  pub demand-three : Demand (programFrom w (programOf (checkOf w s b))) (checkOf w s b .bytes)
   demand-three = demanded w (programOf (checkOf w s b)) (accepted-sound w s b h .0) (checkOf w s b .bytes) data-lent

@@ -7,6 +7,7 @@ use lib.ListN.{replicate}
 use Rattle.base_limits.specs.declared.Width.the-variants.{Bits32}
 use Rattle.base_limits.specs.declared.State.the-variants.{Finished}
 use Rattle.base_limits.specs.Record.{freshOf}
+use Rattle.prog_tables.specs.Program.{programFrom}
 use Rattle.prog_tables.specs.Label.{Tables}
 use Rattle.check_source.specs.Check.{Filled, lent, checkOf}
 use Rattle.app_listing.specs.Cases.{case1}
@@ -24,10 +25,10 @@ lentStack n = record { machine = freshOf 7 7 7; stack = replicate n 9; memory = 
 
 -- a run of three steps
 abbrev pub ran : Tables → List ℕ → After
-ran t d = runOf Bits32 t 3 (startLeaves Bits32 t d (116 ∷ 111 ∷ 112 ∷ []) (30 ∷ []) (lentStack 6))
+ran t d = runOf (programFrom Bits32 t) 3 (startLeaves (programFrom Bits32 t) d (116 ∷ 111 ∷ 112 ∷ []) (30 ∷ []) (lentStack 6))
 
 -- "`top` with 30 gives 42 in 3 steps; 6 stack words suffice, 5 give 23"
 abbrev pub CaseTwo : Tables → List ℕ → Type 0
 CaseTwo t d =
-    (startOf Bits32 t d (116 ∷ 111 ∷ 112 ∷ []) (30 ∷ []) (lentStack 6) ≡ Begun) × (ran t d .world .machine .state ≡ Finished 42) × (ran t d .count ≡ 3)
-    × (startOf Bits32 t d (116 ∷ 111 ∷ 112 ∷ []) (30 ∷ []) (lentStack 5) ≡ Refused 23)
+    (startOf (programFrom Bits32 t) d (116 ∷ 111 ∷ 112 ∷ []) (30 ∷ []) (lentStack 6) ≡ Begun) × (ran t d .world .machine .state ≡ Finished 42) × (ran t d .count ≡ 3)
+    × (startOf (programFrom Bits32 t) d (116 ∷ 111 ∷ 112 ∷ []) (30 ∷ []) (lentStack 5) ≡ Refused 23)

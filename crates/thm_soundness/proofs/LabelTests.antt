@@ -28,6 +28,7 @@ use Rattle.prog_tables.specs.Statement.{Row, rowAt}
 use Rattle.prog_tables.specs.Nesting.{followsJump}
 use Rattle.prog_tables.specs.Label.{Label, labelAt, isData, isFunctionLabel}
 use Rattle.prog_tables.specs.WellFormed.{names, nameGood, nameNew, labelTests}
+use Rattle.prog_tables.specs.Program.{Program}
 use Rattle.parse_outline.specs.Outline.{Outlined, outlineOf}
 use Rattle.parse_outline.specs.Outline as outline
 use Rattle.parse_outline.specs.declared.Parsed.the-variants as answer
@@ -42,7 +43,7 @@ use Rattle.res_text.specs.Same.{nameOf}
 use Rattle.thm_label_rows.proofs.LabelRows.{LabelRow, label-rows}
 use Rattle.thm_label_rows.proofs.Addresses.{address-within}
 use Rattle.thm_label_rows.proofs.Tokens.{LabelToken, label-token}
-use Rattle.thm_statement_rows.proofs.Views.{Alike}
+use Rattle.thm_statement_rows.proofs.Views.{viewing, Alike}
 use Rattle.thm_soundness.proofs.Labels.{kind-of, number-of, number-same, statement-of, word-of, final-data, final-function, final-place}
 
 -- ---- the name over 64 zeros
@@ -86,7 +87,7 @@ jumps-same f g h (suc n) = ap (λ (v : ℕ). eqb v 21) (h .kinds n)
 
 module _ (w : Width) (s : List ℕ) (ts : List Token) (lx : lexOf w s ≡ accepted ts) (n c l : ℕ) (x y flags : List ℕ) (long : length (tokenTable ts) ≡ 32768)
     (oh : outlineOf w (tokenTable ts) n ≡ outline.parsed (answer.Accepted c l) x y) (i j d : ℕ) (labels-room : l * 4 ≤ i) (names-room : l * 64 ≤ j)
-    (sized : lengthOf w (tokenTable ts) ≡ Length d) (f : ℕ → Row) (al : Alike f (rowAt (skeletonOf x c))) where
+    (sized : lengthOf w (tokenTable ts) ≡ Length d) (f : ℕ → Row) (al : Alike f (rowAt (skeletonOf x c))) (prog : Program) where
   abbrev t : List ℕ
   t = tokenTable ts
 
@@ -162,13 +163,13 @@ module _ (w : Width) (s : List ℕ) (ts : List Token) (lx : lexOf w s ≡ accept
       omega (arith, a, b)
 
   -- what a label names
-  names-data : (e : ℕ) → e < l → labelKind y e ≡ 1 → names f c d (h e) ≡ true
+  names-data : (e : ℕ) → e < l → labelKind y e ≡ 1 → names (viewing prog f c h l d) (h e) ≡ true
   unfolding names
   names-data e g q =
       ifTrue-yes _ _ (ap isData (kind-here e g ∙ ap (λ (v : ℕ). finalKind v (flagAt flags e)) q) ∙ final-data (flagAt flags e))
       ∙ le-leb (h e .number) d (address-here e g q)
 
-  names-function : (e : ℕ) → e < l → labelKind y e ≡ 3 → names f c d (h e) ≡ true
+  names-function : (e : ℕ) → e < l → labelKind y e ≡ 3 → names (viewing prog f c h l d) (h e) ≡ true
   unfolding names
   names-function e g q =
       let v = row e g in
@@ -180,7 +181,7 @@ module _ (w : Width) (s : List ℕ) (ts : List Token) (lx : lexOf w s ≡ accept
       (ifTrue-yes _ _ (ap isFunctionLabel k ∙ final-function (flagAt flags e))
       ∙ eq-eqb (f (h e .number) .kind) 1 (al .kinds (h e .number) ∙ ap (λ (o : ℕ). rowAt (skeletonOf x c) o .kind) a ∙ v .function q))
 
-  names-place : (e : ℕ) → e < l → labelKind y e ≡ 5 → names f c d (h e) ≡ true
+  names-place : (e : ℕ) → e < l → labelKind y e ≡ 5 → names (viewing prog f c h l d) (h e) ≡ true
   unfolding names all
   names-place e g q =
       let v = row e g in
@@ -194,11 +195,11 @@ module _ (w : Width) (s : List ℕ) (ts : List Token) (lx : lexOf w s ≡ accept
       (both-true _ _ (not-eqb (f (h e .number) .kind) 1 (λ o. v .place q (ap (λ (u : ℕ). rowAt (skeletonOf x c) u .kind) (sym a) ∙ sym (al .kinds (h e .number)) ∙ o)))
       (both-true _ _ (ap not (jumps-same f (rowAt (skeletonOf x c)) al (h e .number) ∙ ap (followsJump (rowAt (skeletonOf x c))) a ∙ v .first p)) refl)))
 
-  names-pass : (e : ℕ) → e < l → names f c d (h e) ≡ true
+  names-pass : (e : ℕ) → e < l → names (viewing prog f c h l d) (h e) ≡ true
   names-pass e g = ⊎-elim (λ q. names-data e g q) (λ o. ⊎-elim (λ q. names-function e g q) (λ q. names-place e g q) o) (row e g .kinds)
 
   -- the three tests
-  pub label-passes : ((e : ℕ) → e < l → nameNew h e ≡ true) → (e : ℕ) → e < l → all (labelTests f c d h e) ≡ true
+  pub label-passes : ((e : ℕ) → e < l → nameNew h e ≡ true) → (e : ℕ) → e < l → all (labelTests (viewing prog f c h l d) e) ≡ true
   unfolding labelTests all
   label-passes new e g = both-true _ _ (names-pass e g) (both-true _ _ (good e g) (both-true _ _ (new e g) refl))
 

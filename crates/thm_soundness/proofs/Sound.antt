@@ -16,6 +16,7 @@ use Rattle.prog_tables.specs.Statement.{rowAt}
 use Rattle.prog_tables.specs.Label.{Tables, labelAt}
 use Rattle.prog_tables.specs.WellFormed.{WellFormed}
 use Rattle.prog_tables.specs.Canonical.{Canonical}
+use Rattle.prog_tables.specs.Program.{programFrom}
 use Rattle.parse_outline.specs.Outline.{Outlined, outlineOf}
 use Rattle.parse_outline.specs.Outline as outline
 use Rattle.parse_outline.specs.declared.Parsed.{Parsed}
@@ -89,23 +90,23 @@ module _ (w : Width) (s : List ℕ) (b : Lent) (q : Checks w s b) where
         dataLength = q .size;
       }
 
-  program-formed : WellFormed program
+  program-formed : WellFormed (programFrom w program)
   program-formed =
       let like = alike w t (length s) (q .c) (q .l) x y long oh same (labelTable w t y flags (q .l) (zeros (b .labels))) (b .statements) rows-room in
       let clean = names-clean same t (length s) (skeletonOf x (q .c)) y (q .l) (q .c) (q .names) in
-      let tokens = label-tokens w s (q .tokens) (q .lexes) (length s) (q .c) (q .l) x y flags long oh (b .labels) (b .names) (q .size) labels-room names-room (q .sized) _ like in
-      let bytes = name-bytes w s (q .tokens) (q .lexes) (length s) (q .c) (q .l) x y flags long oh (b .labels) (b .names) (q .size) labels-room names-room (q .sized) _ like in
+      let tokens = label-tokens w s (q .tokens) (q .lexes) (length s) (q .c) (q .l) x y flags long oh (b .labels) (b .names) (q .size) labels-room names-room (q .sized) _ like (programFrom w program) in
+      let bytes = name-bytes w s (q .tokens) (q .lexes) (length s) (q .c) (q .l) x y flags long oh (b .labels) (b .names) (q .size) labels-room names-room (q .sized) _ like (programFrom w program) in
       let new = names-new s t (length s) y (q .l) (labelAt (labelTable w t y flags (q .l) (zeros (b .labels))) (nameTable s t y (q .l) (zeros (b .names)))) tokens bytes (skeletonOf x (q .c)) (q .c) clean in
       let low : q .size ≤ 32768 = let a = measure-low w t 4098 (q .size) (q .sized) in let c = limit-low w in omega (arith, a, c) in
       outline-wellformed w t (length s) (q .c) (q .l) x y long oh same s flags (b .statements) (b .labels) (b .names) (q .size) rows-room labels-room names-room
       (labels-are w s t y flags (q .l) (b .labels) (b .names) labels-room (length s) (q .c) x long oh) clean low
-      (label-passes w s (q .tokens) (q .lexes) (length s) (q .c) (q .l) x y flags long oh (b .labels) (b .names) (q .size) labels-room names-room (q .sized) _ like new)
+      (label-passes w s (q .tokens) (q .lexes) (length s) (q .c) (q .l) x y flags long oh (b .labels) (b .names) (q .size) labels-room names-room (q .sized) _ like (programFrom w program) new)
 
   program-canonical : Canonical program
   program-canonical =
       let like = alike w t (length s) (q .c) (q .l) x y long oh same (labelTable w t y flags (q .l) (zeros (b .labels))) (b .statements) rows-room in
       outline-canonical w t (length s) (q .c) (q .l) x y long oh same s flags (labelTable w t y flags (q .l) (zeros (b .labels))) (b .statements) (b .labels) (b .names) (q .size) rows-room labels-room names-room
-      (size-of w s (q .tokens) (q .lexes) (length s) (q .c) (q .l) x y flags long oh (b .labels) (b .names) (q .size) labels-room names-room (q .sized) _ like)
+      (size-of w s (q .tokens) (q .lexes) (length s) (q .c) (q .l) x y flags long oh (b .labels) (b .names) (q .size) labels-room names-room (q .sized) _ like (programFrom w program))
 
   accept-is : programOf (accept w s (known (length (q .tokens)) t (q .c) (skeletonOf x (q .c)) (q .l) y flags) (q .size) b) ≡ program
   unfolding accept fillOf labelsIn programBy
@@ -115,9 +116,9 @@ module _ (w : Width) (s : List ℕ) (b : Lent) (q : Checks w s b) where
   program-is = ap programOf (q .leaves) ∙ accept-is
 
 -- "Take any source you accepted": the tables, names, counts and data that an accepted check leaves in the lent buffers, of any lengths
-pub accepted-sound : (w : Width) (s : List ℕ) (b : Lent) → isAccepted (checkOf w s b .answer) ≡ true → WellFormed (programOf (checkOf w s b)) × Canonical (programOf (checkOf w s b))
+pub accepted-sound : (w : Width) (s : List ℕ) (b : Lent) → isAccepted (checkOf w s b .answer) ≡ true → WellFormed (programFrom w (programOf (checkOf w s b))) × Canonical (programOf (checkOf w s b))
 accepted-sound w s b h =
     let q = checks w s b h in (
-      subst WellFormed (sym (program-is w s b q)) (program-formed w s b q),
+      subst (λ (t : Tables). WellFormed (programFrom w t)) (sym (program-is w s b q)) (program-formed w s b q),
       subst Canonical (sym (program-is w s b q)) (program-canonical w s b q),
     )

@@ -19,6 +19,7 @@ use Rattle.prog_tables.specs.Statement.{Row, rowAt, isCall, hasExpression}
 use Rattle.prog_tables.specs.Nesting.{stands}
 use Rattle.prog_tables.specs.Label.{Label, isData, isFunctionLabel}
 use Rattle.prog_tables.specs.WellFormed.{shallow, fewLocals, rowTests}
+use Rattle.prog_tables.specs.Program.{Program}
 use Rattle.parse_outline.specs.Outline.{Outlined, outlineOf}
 use Rattle.parse_outline.specs.Outline as outline
 use Rattle.parse_outline.specs.declared.Parsed.the-variants as answer
@@ -29,7 +30,7 @@ use Rattle.res_rows.specs.Rows.{labelNumber, aOf, rowWith, rowOf, statementTabl
 use Rattle.parse_verdict.specs.Verdict.{Clean}
 use Rattle.thm_acceptance.specs.Faults.{allNameFaults}
 use Rattle.thm_line_rows.proofs.Rows.{kindOf, partsAt, row-shaped, row-listed, row-few, row-operands, address-marked, callee-some, function-parameters}
-use Rattle.thm_statement_rows.proofs.Views.{Alike, stands-same, shallow-same, few-same}
+use Rattle.thm_statement_rows.proofs.Views.{viewing, Alike, stands-same, shallow-same, few-same}
 use Rattle.thm_statement_rows.proofs.Operands.{Known}
 use Rattle.thm_statement_rows.proofs.Statements.{statement-clean, operands-pass, address-passes, set-passes, goto-passes, calls-pass, shape-passes}
 use Rattle.thm_statement_rows.proofs.Framing.{aimed-passes, framed-passes}
@@ -101,23 +102,23 @@ module _ (w : Width) (t : List ℕ) (n c l : ℕ) (x y : List ℕ) (long : lengt
       }
 
   -- the eleven tests
-  pub row-passes : (r : ℕ) → r < c → all (rowTests (rowAt table) c h l r) ≡ true
+  pub row-passes : (prog : Program) (r : ℕ) → r < c → all (rowTests (viewing prog (rowAt table) c h l (prog .dataLength)) r) ≡ true
   unfolding rowTests all
-  row-passes r g =
+  row-passes prog r g =
       let few₈ = few-parameters w t n c l x y long oh in
       let hc = few-statements w t n c l x y long oh in
       let v = statement-clean same t n (skeletonOf x c) y l c r clean g in
       both-true _ _ (stands-same (rowAt table) (rowAt (skeletonOf x c)) like r ∙ stand w t n c l x y long oh r g)
       (both-true _ _ (shallow-same (rowAt table) (rowAt (skeletonOf x c)) like r ∙ deep r g)
       (both-true _ _ (aimed-passes same t (skeletonOf x c) y l z c (rowAt table) hc few₈ like r g (outside-table r g) (read r g))
-      (both-true _ _ (goto-passes same t (skeletonOf x c) y l frames z c (rowAt table) h known n r g (read r g) v)
-      (both-true _ _ (calls-pass same t (skeletonOf x c) y l frames z c (rowAt table) h known n r g (read r g) v
+      (both-true _ _ (goto-passes same t (skeletonOf x c) y l frames z c (rowAt table) h known prog n r g (read r g) v)
+      (both-true _ _ (calls-pass same t (skeletonOf x c) y l frames z c (rowAt table) h known prog n r g (read r g) v
       (λ e. (callee-some w t n c l x y long oh r g e, λ d. call-not _ _ d e)) (row-few w t n c l x y long oh r g))
-      (both-true _ _ (shape-passes same t (skeletonOf x c) y l frames z c (rowAt table) h known n r g (read r g) v (row-listed w t n c l x y long oh r g) (row-shaped w t n c l x y long oh r g))
-      (both-true _ _ (operands-pass same t (skeletonOf x c) y l frames z c (rowAt table) h known n r g (read r g) v
+      (both-true _ _ (shape-passes same t (skeletonOf x c) y l frames z c (rowAt table) h known prog n r g (read r g) v (row-listed w t n c l x y long oh r g) (row-shaped w t n c l x y long oh r g))
+      (both-true _ _ (operands-pass same t (skeletonOf x c) y l frames z c (rowAt table) h known prog n r g (read r g) v
       (λ j a b. let o = row-operands w t n c l x y long oh r g j a b in (o .0, omega (arith, o .1))))
-      (both-true _ _ (address-passes same t (skeletonOf x c) y l frames z c (rowAt table) h known n r g (read r g) v (λ e. address-marked w t n c l x y long oh r g e .1))
-      (both-true _ _ (set-passes same t (skeletonOf x c) y l frames z c (rowAt table) h known n r g (read r g) v)
+      (both-true _ _ (address-passes same t (skeletonOf x c) y l frames z c (rowAt table) h known prog n r g (read r g) v (λ e. address-marked w t n c l x y long oh r g e .1))
+      (both-true _ _ (set-passes same t (skeletonOf x c) y l frames z c (rowAt table) h known prog n r g (read r g) v)
       (both-true _ _ (framed-passes same t (skeletonOf x c) y l z c (rowAt table) hc few₈ like r g (outside-table r g) (read r g))
       (both-true _ _ (few-same (rowAt table) (rowAt (skeletonOf x c)) like r (outside-table r g) (λ e. like .counts r (λ d. absurd (omega arith))) ∙ few r g)
       refl))))))))))

@@ -1,20 +1,21 @@
 -- The tables of an accepted outline, put together.
 -- Assumes nothing.
 use mathlib.Core.Path.{_≡_, refl, sym, _∙_, ap, ap₂, subst}
-use mathlib.Core.Bool.{Bool, true, false}
+use mathlib.Core.Bool.{Bool, true, false, not}
 use mathlib.Core.List.{List, [], _∷_}
 use Prim.Native.Nat.{ℕ, zero, suc, _+_, _*_, _-_, _≤_, _<_}
 use native.Mathlib.Omega.{arith}
 use lib.Dec.{eqb, ltb, leb}
 use lib.ListN.{length, getD, length-replicate}
-use borrow.Author.Tests.{le-leb}
+use borrow.Author.Tests.{le-leb, le-ltb}
 use Rattle.base_prelude.specs.Lists.{zeros}
 use Rattle.base_limits.specs.declared.Width.{Width}
 use Rattle.prog_tables.proofs.Each.{both-true}
-use Rattle.prog_tables.specs.Tests.{both, all, allBelow}
+use Rattle.prog_tables.specs.Tests.{both, oneOf, all, allBelow}
 use Rattle.prog_tables.specs.Statement.{Row, rowAt}
 use Rattle.prog_tables.specs.Nesting.{allClosed}
 use Rattle.prog_tables.specs.Label.{Label, Tables, labelAt}
+use Rattle.prog_tables.specs.Program.{programFrom}
 use Rattle.prog_tables.specs.WellFormed.{shallow, fewLocals, rowTests, labelTests, countsGood, wellFormed, WellFormed}
 use Rattle.parse_outline.specs.Outline.{Outlined, outlineOf}
 use Rattle.parse_outline.specs.Outline as outline
@@ -38,7 +39,7 @@ module _ (w : Width) (t : List ℕ) (n c l : ℕ) (x y : List ℕ) (long : lengt
     (same : ℕ → ℕ → Bool) (s flags : List ℕ) (m i j d : ℕ) (rows-room : c * 27 ≤ m) (labels-room : l * 4 ≤ i) (names-room : l * 64 ≤ j)
     (lb : Labels (skeletonOf x c) y l (labelTable w t y flags l (zeros i)) c (labelAt (labelTable w t y flags l (zeros i)) (nameTable s t y l (zeros j))))
     (clean : Clean (allNameFaults same t n (skeletonOf x c) y l c)) (small : d ≤ 32768)
-    (good : (e : ℕ) → e < l → all (labelTests (rowAt (statementTable same t (skeletonOf x c) y l (wordsOf (rowAt (skeletonOf x c)) c) (labelTable w t y flags l (zeros i)) c (zeros m))) c d (labelAt (labelTable w t y flags l (zeros i)) (nameTable s t y l (zeros j))) e) ≡ true) where
+    (good : (e : ℕ) → e < l → all (labelTests (programFrom w (record { statements = statementTable same t (skeletonOf x c) y l (wordsOf (rowAt (skeletonOf x c)) c) (labelTable w t y flags l (zeros i)) c (zeros m); count = c; labels = labelTable w t y flags l (zeros i); labelCount = l; names = nameTable s t y l (zeros j); dataLength = d })) e) ≡ true) where
   -- the tables that the check leaves
   abbrev pub left : Tables
   left =
@@ -77,23 +78,24 @@ module _ (w : Width) (t : List ℕ) (n c l : ℕ) (x y : List ℕ) (long : lengt
   size-names : length (nameTable s t y l (zeros j)) ≡ j
   size-names = let e = length-replicate {A = ℕ} j 0 in names-long s t y l (zeros j) (omega (arith, e)) ∙ e
 
-  counts : countsGood left ≡ true
+  counts : countsGood (programFrom w left) ≡ true
   unfolding countsGood all
   counts =
       let a = accepted-counts w t n c l long accepted in
       both-true _ _ (le-leb c 1024 (a .0))
       (both-true _ _ (le-leb l 256 (a .1))
       (both-true _ _ (le-leb d 32768 small)
-      (both-true _ _ (le-leb (c * 27) (length (statementTable same t (skeletonOf x c) y l (wordsOf (rowAt (skeletonOf x c)) c) (labelTable w t y flags l (zeros i)) c (zeros m))) (omega (arith, size-rows)))
-      (both-true _ _ (le-leb (l * 4) (length (labelTable w t y flags l (zeros i))) (omega (arith, size-labels)))
-      (both-true _ _ (le-leb (l * 64) (length (nameTable s t y l (zeros j))) (omega (arith, size-names)))
-      refl)))))
+      (both-true _ _ (ap not (le-ltb (length (left .statements)) (c * 27) (omega (arith, size-rows))))
+      (both-true _ _
+      (ap not
+      (ap₂ (λ (p q : Bool). oneOf p q) (le-ltb (length (left .labels)) (l * 4) (omega (arith, size-labels))) (le-ltb (length (left .names)) (l * 64) (omega (arith, size-names)))))
+      refl))))
 
   -- every rule of well-formed tables
-  pub outline-wellformed : WellFormed left
+  pub outline-wellformed : WellFormed (programFrom w left)
   unfolding wellFormed all
   outline-wellformed =
       both-true _ _ counts
       (both-true _ _ (closed-same _ (rowAt (skeletonOf x c)) (alike w t n c l x y long oh same (labelTable w t y flags l (zeros i)) m rows-room) c ∙ closed)
-      (both-true _ _ (below-all _ c (λ r g. row-passes w t n c l x y long oh same (labelTable w t y flags l (zeros i)) m rows-room (labelAt (labelTable w t y flags l (zeros i)) (nameTable s t y l (zeros j))) lb clean deep few r g))
+      (both-true _ _ (below-all _ c (λ r g. row-passes w t n c l x y long oh same (labelTable w t y flags l (zeros i)) m rows-room (labelAt (labelTable w t y flags l (zeros i)) (nameTable s t y l (zeros j))) lb clean deep few (programFrom w left) r g))
       (both-true _ _ (below-all _ l good) refl)))

@@ -30,9 +30,10 @@ use Rattle.res_scope.specs.declared.Meaning.{Meaning}
 use Rattle.res_scope.specs.declared.Meaning.the-variants as meaning
 use Rattle.res_names.specs.Naming.{dataFault, valueFault, setFault, functionFault, calleeFault, placeFault, gotoFault}
 use Rattle.res_rows.specs.Rows.{labelNumber, wordOfLet, wordOfParameter, localWord, labelTarget, plainOperand, atOperand, constantOperand, tokenOperand, addressConstant, addressOperand, operandsFrom}
-use Rattle.thm_statement_rows.proofs.Views.{Alike, seen-same}
+use Rattle.thm_statement_rows.proofs.Views.{viewing, Alike, seen-same}
 use Rattle.thm_statement_rows.proofs.Meanings.{IsLet, IsParameter, From, meaning-from, data-kind, function-good, place-good, no-key}
 use Rattle.prog_tables.proofs.Each.{some-at}
+use Rattle.prog_tables.specs.Program.{Program}
 
 or-left : (a b : Bool) → a ≡ true → oneOf a b ≡ true
 or-left true b p = refl
@@ -105,15 +106,15 @@ module _ (same : ℕ → ℕ → Bool) (t k y : List ℕ) (l : ℕ) (w z : List 
       some-at (λ i. both (p (h i .kind)) (eqb (h i .number) (labelNumber z j))) l j g
       (both-true (p (h j .kind)) (eqb (h j .number) (labelNumber z j)) e (eq-eqb (h j .number) (labelNumber z j) (q .numbers j g)))
 
-  module _ (n r i : ℕ) (l₀ : r < c) where
-    pub plain-good : (m : Meaning) → From same k y l r i m → none ≤ valueFault t n y i m → operandGood f h l r (plainOperand w z m) ≡ true
+  module _ (prog : Program) (n r i : ℕ) (l₀ : r < c) where
+    pub plain-good : (m : Meaning) → From same k y l r i m → none ≤ valueFault t n y i m → operandGood (viewing prog f c h l (prog .dataLength)) r (plainOperand w z m) ≡ true
     unfolding valueFault plainOperand operandGood
     plain-good (meaning.Let m) x g = let-scope r i m l₀ x
     plain-good (meaning.Parameter j) x g = parameter-scope r i j l₀ x
     plain-good (meaning.Label j) x g = label-named isData j x (q .values j x (data-kind t n k y r i j g))
     plain-good meaning.Unknown x g = no-key t n i 10 (omega arith) g
 
-    pub at-good : (m : Meaning) → From same k y l r i m → none ≤ valueFault t n y i m → operandGood f h l r (atOperand w z m) ≡ true
+    pub at-good : (m : Meaning) → From same k y l r i m → none ≤ valueFault t n y i m → operandGood (viewing prog f c h l (prog .dataLength)) r (atOperand w z m) ≡ true
     unfolding valueFault atOperand operandGood
     at-good (meaning.Let m) x g = let-scope r i m l₀ x
     at-good (meaning.Parameter j) x g = parameter-scope r i j l₀ x

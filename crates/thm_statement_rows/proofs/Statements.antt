@@ -23,6 +23,7 @@ use Rattle.prog_tables.specs.Faults.{addressListed, expressionFault}
 use Rattle.prog_tables.specs.WellFormed.{labelled, jumps, calls, shaped, hasOperands, operandGood, operandsGood, addressGood, setsLocal}
 use Rattle.prog_tables.specs.declared.Operand.{Operand}
 use Rattle.prog_tables.specs.declared.Operand.the-variants.{Constant, Local, Address, AtConstant, AtLocal, AtAddress, Unlisted}
+use Rattle.prog_tables.specs.Program.{Program}
 use Rattle.res_scope.specs.Lines.{firstToken, endToken, labelKind, labelStatement}
 use Rattle.res_scope.specs.Names.{meaningOf}
 use Rattle.res_scope.specs.Parts.{partsOf}
@@ -33,6 +34,7 @@ use Rattle.thm_acceptance.specs.Faults.{operandFault, operandFaults, calleeFaul
 use Rattle.res_rows.specs.Rows.{labelTarget, localWord, plainOperand, atOperand, constantOperand, tokenOperand, addressConstant, addressOperand, operandsFrom, aOf, calleeOf, addressOf, rowWith, rowOf}
 use Rattle.thm_statement_rows.proofs.Meanings.{From, meaning-from}
 use Rattle.thm_statement_rows.proofs.Operands.{Known, plain-good, at-good, plain-listed, set-scope, callee-good, goto-good}
+use Rattle.thm_statement_rows.proofs.Views.{viewing}
 
 -- q where the test holds
 pub given-yes : (a : ℕ) (v : ℕ) (b : Bool) → (a ≡ v → b ≡ true) → given (eqb a v) b ≡ true
@@ -77,27 +79,27 @@ module _ (same : ℕ → ℕ → Bool) (t : List ℕ) (n : ℕ) (k y : List ℕ)
 abbrev pub OperandKind : ℕ → Type 0
 OperandKind v = (3 ≤ v) × (v ≤ 8)
 
-module _ (same : ℕ → ℕ → Bool) (t k y : List ℕ) (l : ℕ) (w z : List ℕ) (c : ℕ) (f : ℕ → Row) (h : ℕ → Label) (q : Known same t k y l w z c f h) (n r : ℕ) (l₀ : r < c) where
-  constant-good : (kind v : ℕ) → OperandKind kind → (kind ≡ 3 → ⊥) → (kind ≡ 5 → ⊥) → operandGood f h l r (constantOperand kind v) ≡ true
+module _ (same : ℕ → ℕ → Bool) (t k y : List ℕ) (l : ℕ) (w z : List ℕ) (c : ℕ) (f : ℕ → Row) (h : ℕ → Label) (q : Known same t k y l w z c f h) (prog : Program) (n r : ℕ) (l₀ : r < c) where
+  constant-good : (kind v : ℕ) → OperandKind kind → (kind ≡ 3 → ⊥) → (kind ≡ 5 → ⊥) → operandGood (viewing prog f c h l (prog .dataLength)) r (constantOperand kind v) ≡ true
   unfolding constantOperand operandGood
   constant-good kind v o a b =
-      either-eq (λ (x : Operand). operandGood f h l r x ≡ true) kind 7 _ _ (λ _. refl) (λ d.
-      either-eq (λ (x : Operand). operandGood f h l r x ≡ true) kind 4 _ _ (λ _. refl) (λ e.
-      either-eq (λ (x : Operand). operandGood f h l r x ≡ true) kind 8 _ _ (λ _. refl) (λ g.
-      either-eq (λ (x : Operand). operandGood f h l r x ≡ true) kind 6 _ _ (λ _. refl) (λ i.
+      either-eq (λ (x : Operand). operandGood (viewing prog f c h l (prog .dataLength)) r x ≡ true) kind 7 _ _ (λ _. refl) (λ d.
+      either-eq (λ (x : Operand). operandGood (viewing prog f c h l (prog .dataLength)) r x ≡ true) kind 4 _ _ (λ _. refl) (λ e.
+      either-eq (λ (x : Operand). operandGood (viewing prog f c h l (prog .dataLength)) r x ≡ true) kind 8 _ _ (λ _. refl) (λ g.
+      either-eq (λ (x : Operand). operandGood (viewing prog f c h l (prog .dataLength)) r x ≡ true) kind 6 _ _ (λ _. refl) (λ i.
       let z : ⊥ = omega arith in absurd z))))
 
-  operand-good : (i : ℕ) → Clean (operandFault same t n k y l r i) → OperandKind (kindAt t i) → operandGood f h l r (tokenOperand same t k y l w z r i) ≡ true
+  operand-good : (i : ℕ) → Clean (operandFault same t n k y l r i) → OperandKind (kindAt t i) → operandGood (viewing prog f c h l (prog .dataLength)) r (tokenOperand same t k y l w z r i) ≡ true
   unfolding operandFault tokenOperand
   operand-good i x o =
-      either-eq (λ (v : Operand). operandGood f h l r v ≡ true) (kindAt t i) 3 _ _
-      (λ e. plain-good same t k y l w z c f h q n r i l₀ (meaningOf same k y l r i) (meaning-from same k y l r i) (subst Clean (ifEq-yes _ _ e) x .0))
-      (λ d. either-eq (λ (v : Operand). operandGood f h l r v ≡ true) (kindAt t i) 5 _ _
-      (λ e. at-good same t k y l w z c f h q n r i l₀ (meaningOf same k y l r i) (meaning-from same k y l r i) (subst Clean (ifEq-no _ _ d ∙ ifEq-yes _ _ e) x .0))
+      either-eq (λ (v : Operand). operandGood (viewing prog f c h l (prog .dataLength)) r v ≡ true) (kindAt t i) 3 _ _
+      (λ e. plain-good same t k y l w z c f h q prog n r i l₀ (meaningOf same k y l r i) (meaning-from same k y l r i) (subst Clean (ifEq-yes _ _ e) x .0))
+      (λ d. either-eq (λ (v : Operand). operandGood (viewing prog f c h l (prog .dataLength)) r v ≡ true) (kindAt t i) 5 _ _
+      (λ e. at-good same t k y l w z c f h q prog n r i l₀ (meaningOf same k y l r i) (meaning-from same k y l r i) (subst Clean (ifEq-no _ _ d ∙ ifEq-yes _ _ e) x .0))
       (λ e. constant-good (kindAt t i) (valueAt t i) o d e))
 
   operands-good : (left total i : ℕ) → left ≤ total → Clean (operandFaults total same t n k y l r i) → ((j : ℕ) → i ≤ j → j < i + total → OperandKind (kindAt t j))
-      → allOf (operandGood f h l r) (operandsFrom left same t k y l w z r i) ≡ true
+      → allOf (operandGood (viewing prog f c h l (prog .dataLength)) r) (operandsFrom left same t k y l w z r i) ≡ true
   unfolding operandFaults operandsFrom allOf
   operands-good zero total i a x o = refl
   operands-good (suc left) zero i a x o = let z : ⊥ = omega arith in absurd z
@@ -163,36 +165,36 @@ module _ (same : ℕ → ℕ → Bool) (t k y : List ℕ) (l : ℕ) (w z : List 
     operands-are = ap (λ (v : Row). v .operands) back
 
     -- every operand is a constant, or a local or data label in scope
-    pub operands-pass : ((j : ℕ) → p .first ≤ j → j < next → OperandKind (kindAt t j)) → operandsGood f h l r ≡ true
+    pub operands-pass : ((j : ℕ) → p .first ≤ j → j < next → OperandKind (kindAt t j)) → operandsGood (viewing prog f c h l (prog .dataLength)) r ≡ true
     unfolding operandsGood
     operands-pass o =
-        ap (allOf (operandGood f h l r)) operands-are
+        ap (allOf (operandGood (viewing prog f c h l (prog .dataLength)) r)) operands-are
         ∙ operands-good (min (next - p .first) 8) (next - p .first) (p .first) (omega arith) operands-clean (λ j u v. o j u (omega arith))
 
-    constant-address : (v m : ℕ) → (v ≡ 6) ⊎ (v ≡ 8) → both (addressListed (addressConstant v m)) (operandGood f h l r (addressConstant v m)) ≡ true
+    constant-address : (v m : ℕ) → (v ≡ 6) ⊎ (v ≡ 8) → both (addressListed (addressConstant v m)) (operandGood (viewing prog f c h l (prog .dataLength)) r (addressConstant v m)) ≡ true
     unfolding addressConstant addressListed operandGood
     constant-address v m o =
-        either-eq (λ (u : Operand). both (addressListed u) (operandGood f h l r u) ≡ true) v 8 _ _ (λ _. refl) (λ d.
-        either-eq (λ (u : Operand). both (addressListed u) (operandGood f h l r u) ≡ true) v 6 _ _ (λ _. refl) (λ e.
+        either-eq (λ (u : Operand). both (addressListed u) (operandGood (viewing prog f c h l (prog .dataLength)) r u) ≡ true) v 8 _ _ (λ _. refl) (λ d.
+        either-eq (λ (u : Operand). both (addressListed u) (operandGood (viewing prog f c h l (prog .dataLength)) r u) ≡ true) v 6 _ _ (λ _. refl) (λ e.
         ⊎-elim (λ a. absurd (e a)) (λ a. absurd (d a)) o))
 
     address-by : Clean (operandFault same t n k y l r (first + 1)) → (kindAt t (first + 1) ≡ 5) ⊎ ((kindAt t (first + 1) ≡ 6) ⊎ (kindAt t (first + 1) ≡ 8))
-        → both (addressListed (addressOperand same t k y l w z r (first + 1))) (operandGood f h l r (addressOperand same t k y l w z r (first + 1))) ≡ true
+        → both (addressListed (addressOperand same t k y l w z r (first + 1))) (operandGood (viewing prog f c h l (prog .dataLength)) r (addressOperand same t k y l w z r (first + 1))) ≡ true
     unfolding addressOperand operandFault
     address-by u o =
-        either-eq (λ (v : Operand). both (addressListed v) (operandGood f h l r v) ≡ true) (kindAt t (first + 1)) 5 _ _
+        either-eq (λ (v : Operand). both (addressListed v) (operandGood (viewing prog f c h l (prog .dataLength)) r v) ≡ true) (kindAt t (first + 1)) 5 _ _
         (λ e.
         let c₀ : none ≤ valueFault t n y (first + 1) (meaningOf same k y l r (first + 1)) = subst Clean (ifEq-no _ _ (λ d. absurd (omega arith)) ∙ ifEq-yes _ _ e) u .0 in
-        both-true _ _ (plain-listed same t k y l w z c f h q n r (first + 1) l₀ (meaningOf same k y l r (first + 1)) c₀)
-        (plain-good same t k y l w z c f h q n r (first + 1) l₀ (meaningOf same k y l r (first + 1)) (meaning-from same k y l r (first + 1)) c₀))
+        both-true _ _ (plain-listed same t k y l w z c f h q prog n r (first + 1) l₀ (meaningOf same k y l r (first + 1)) c₀)
+        (plain-good same t k y l w z c f h q prog n r (first + 1) l₀ (meaningOf same k y l r (first + 1)) (meaning-from same k y l r (first + 1)) c₀))
         (λ d. constant-address (kindAt t (first + 1)) (valueAt t (first + 1)) (⊎-elim (λ a. absurd (d a)) (λ a. a) o))
 
-    pub address-passes : (kind ≡ 7 → (kindAt t (first + 1) ≡ 5) ⊎ ((kindAt t (first + 1) ≡ 6) ⊎ (kindAt t (first + 1) ≡ 8))) → addressGood f h l r ≡ true
+    pub address-passes : (kind ≡ 7 → (kindAt t (first + 1) ≡ 5) ⊎ ((kindAt t (first + 1) ≡ 6) ⊎ (kindAt t (first + 1) ≡ 8))) → addressGood (viewing prog f c h l (prog .dataLength)) r ≡ true
     unfolding addressGood addressOf headFaults
     address-passes o =
         given-yes (f r .kind) 7 _ (λ e.
         let g : kind ≡ 7 = sym kind-is ∙ e in
-        ap (λ (v : Operand). both (addressListed v) (operandGood f h l r v)) (address-is ∙ ifEq-yes _ _ g)
+        ap (λ (v : Operand). both (addressListed v) (operandGood (viewing prog f c h l (prog .dataLength)) r v)) (address-is ∙ ifEq-yes _ _ g)
         ∙ address-by (subst Clean (ifEq-no _ _ (λ d. absurd (omega arith)) ∙ ifEq-yes _ _ g) head-clean) (o g))
 
     pub set-passes : setsLocal f r ≡ true
@@ -201,15 +203,15 @@ module _ (same : ℕ → ℕ → Bool) (t k y : List ℕ) (l : ℕ) (w z : List 
         given-yes (f r .kind) 6 _ (λ e.
         let g : kind ≡ 6 = sym kind-is ∙ e in
         ap (inScope f r) (a-is ∙ ifEq-yes _ _ g)
-        ∙ set-scope same t k y l w z c f h q n r (first + 1) l₀ (meaningOf same k y l r (first + 1)) (meaning-from same k y l r (first + 1)) (subst Clean (ifEq-yes _ _ g) head-clean .0))
+        ∙ set-scope same t k y l w z c f h q prog n r (first + 1) l₀ (meaningOf same k y l r (first + 1)) (meaning-from same k y l r (first + 1)) (subst Clean (ifEq-yes _ _ g) head-clean .0))
 
     -- "`goto` takes a statement's label in the same function and innermost block."
-    pub goto-passes : jumps f c h l r ≡ true
+    pub goto-passes : jumps (viewing prog f c h l (prog .dataLength)) r ≡ true
     unfolding jumps aOf headFaults all
     goto-passes =
         given-yes (f r .kind) 10 _ (λ e.
         let g : kind ≡ 10 = sym kind-is ∙ e in
-        let m = goto-good same t k y l w z c f h q n r (first + 1) l₀ (meaningOf same k y l r (first + 1)) (meaning-from same k y l r (first + 1))
+        let m = goto-good same t k y l w z c f h q prog n r (first + 1) l₀ (meaningOf same k y l r (first + 1)) (meaning-from same k y l r (first + 1))
         (subst Clean (ifEq-no _ _ (λ d. absurd (omega arith)) ∙ ifEq-no _ _ (λ d. absurd (omega arith)) ∙ ifEq-yes _ _ g) head-clean .0) in
         let a : f r .a ≡ labelTarget z (meaningOf same k y l r (first + 1)) = a-is ∙ ifEq-no _ _ (λ d. absurd (omega arith)) ∙ ifEq-yes _ _ g in
         let b : f r .a ≡ labelStatement y (m .0) = a ∙ m .3 in
@@ -220,12 +222,12 @@ module _ (same : ℕ → ℕ → Bool) (t k y : List ℕ) (l : ℕ) (w z : List 
         (both-true _ _ (ap (labelled h l (λ v. eqb v 5)) a ∙ m .6) refl))))
 
     -- "`call` and `tail-call` take a function label with its parameter count."
-    pub calls-pass : (isCall kind (p .expr) ≡ true → (p .callee ≡ 0 → ⊥) × (kind ≡ 3 → ⊥)) → next - p .first ≤ 8 → calls f c h l r ≡ true
+    pub calls-pass : (isCall kind (p .expr) ≡ true → (p .callee ≡ 0 → ⊥) × (kind ≡ 3 → ⊥)) → next - p .first ≤ 8 → calls (viewing prog f c h l (prog .dataLength)) r ≡ true
     unfolding calls calleeOf calleeFaults all
     calls-pass s few =
         given-true (isCall (f r .kind) (f r .expr)) _ (λ e.
         let g : isCall kind (p .expr) ≡ true = ap₂ isCall (sym kind-is) (sym expr-is) ∙ e in
-        let m = callee-good same t k y l w z c f h q n r (p .callee) l₀ (next - p .first) (meaningOf same k y l r (p .callee)) (meaning-from same k y l r (p .callee))
+        let m = callee-good same t k y l w z c f h q prog n r (p .callee) l₀ (next - p .first) (meaningOf same k y l r (p .callee)) (meaning-from same k y l r (p .callee))
         (subst Clean (ifEq-no _ _ (s g .0)) callee-clean .0) in
         let a : f r .callee ≡ labelTarget z (meaningOf same k y l r (p .callee)) = callee-is ∙ ifEq-no _ _ (s g .1) ∙ ifEq-no _ _ (s g .0) in
         let b : f r .callee ≡ labelStatement y (m .0) = a ∙ m .3 in

@@ -16,6 +16,22 @@ use Rattle.prog_tables.specs.Nesting.{isArm, isEndIf, nextArm, endIfOf, pastArm
 use Rattle.prog_tables.specs.Frames.{frameDepth, isIn, letsBefore, blockNeed, needOf, frameSize, firstLet, blockWord, letWord, letSeen, localsAt}
 use Rattle.prog_tables.specs.WellFormed.{shallow, fewLocals}
 use Rattle.prog_tables.specs.declared.Operand.the-variants.{Unlisted}
+use Rattle.prog_tables.specs.Label.{Label}
+use Rattle.prog_tables.specs.Program.{Program}
+
+-- a program with other rows, labels and data
+abbrev pub viewing : Program → (ℕ → Row) → ℕ → (ℕ → Label) → ℕ → ℕ → Program
+viewing prog f c h l d =
+    record {
+      width = prog .width;
+      rows = f;
+      count = c;
+      labels = h;
+      labelCount = l;
+      dataLength = d;
+      statementsPast = prog .statementsPast;
+      labelsPast = prog .labelsPast;
+    }
 
 -- what frames and nesting look at; a block's own lets are not
 abbrev core : ℕ → ℕ → ℕ → ℕ → ℕ → Row

@@ -14,6 +14,7 @@ use Rattle.base_limits.specs.declared.Machine.{Machine}
 use Rattle.base_limits.specs.Record.{stopped, movedTo, ended}
 use Rattle.base_word.specs.Bytes.{wordBytes}
 use Rattle.prog_tables.specs.Statement.{Row, rowAt, slots}
+use Rattle.prog_tables.specs.Program.{rowsAlone}
 use Rattle.prog_tables.specs.declared.Operand.{Operand}
 use Rattle.vm_definitions.specs.Access.{wordGood, storeFrom}
 use Rattle.vm_definitions.specs.Operands.{Words, words, bad, numberIn, readAll}
@@ -85,12 +86,12 @@ module _ (t : List ℕ) (c : ℕ) (r : Machine) (st m : List ℕ) where
 
   module _ (b : Bool) (ws : List ℕ) (k : ℕ) (d : Calls (rowAt t (r .next)) c) (e : k ≡ min (rowAt t (r .next) .count) 8)
       (u : wordsIn b ws k ≡ readAll Bits32 st (r .frame) m (take k (slots t (r .next * 27)))) where
-    v : wordsIn b ws k ≡ argumentsOf Bits32 (rowAt t) c (world r st m)
+    v : wordsIn b ws k ≡ argumentsOf (rowsAlone t c) (world r st m)
     v = arguments-are t c r st m b ws k d e u
 
     pub call-good : (o : Outcome) (st′ : List ℕ) → b ≡ true → left o st′ m ≡ after (callingWith (wordsIn true ws k)) t c r st m
         → left o st′ m ≡ after calling t c r st m
-    call-good o st′ h q = q ∙ ap (λ (z : Words). effected (world r st m) (callBy Bits32 (rowAt t) c (world r st m) z)) (ap (λ (y : Bool). wordsIn y ws k) (sym h) ∙ v)
+    call-good o st′ h q = q ∙ ap (λ (z : Words). effected (world r st m) (callBy (rowsAlone t c) (world r st m) z)) (ap (λ (y : Bool). wordsIn y ws k) (sym h) ∙ v)
 
     pub call-bad : (o : Outcome) → b ≡ false → o ≡ halted r 32 → left o st m ≡ after calling t c r st m
     unfolding callBy effected ifTrue
@@ -98,7 +99,7 @@ module _ (t : List ℕ) (c : ℕ) (r : Machine) (st m : List ℕ) where
 
     pub tail-good : (o : Outcome) (st′ : List ℕ) → b ≡ true → left o st′ m ≡ after (tailCallingWith (wordsIn true ws k)) t c r st m
         → left o st′ m ≡ after tailCalling t c r st m
-    tail-good o st′ h q = q ∙ ap (λ (z : Words). effected (world r st m) (tailCallBy Bits32 (rowAt t) c (world r st m) z)) (ap (λ (y : Bool). wordsIn y ws k) (sym h) ∙ v)
+    tail-good o st′ h q = q ∙ ap (λ (z : Words). effected (world r st m) (tailCallBy (rowsAlone t c) (world r st m) z)) (ap (λ (y : Bool). wordsIn y ws k) (sym h) ∙ v)
 
     pub tail-bad : (o : Outcome) → b ≡ false → o ≡ halted r 32 → left o st m ≡ after tailCalling t c r st m
     unfolding tailCallBy effected ifTrue
@@ -147,8 +148,8 @@ module _ (t : List ℕ) (c : ℕ) (r : Machine) (st m : List ℕ) where
         → left o st′ m′ ≡ after (handingTo v i s q) t c r st m → left o st′ m′ ≡ after (handing v) t c r st m
     unfolding handedBy
     back-caller i s used top q o st′ m′ h g w =
-        w ∙ ap (λ (z : Machine). effected (world r st m) (handedTo Bits32 (rowAt t) c (world r st m) v (rowAt t i) s z)) (g ∙ ap (λ (z : ℕ). movedTo r z s used top) (one-more i))
-        ∙ ap (λ (z : Resumption). effected (world r st m) (handedBy Bits32 (rowAt t) c (world r st m) v z)) (sym h ∙ e)
+        w ∙ ap (λ (z : Machine). effected (world r st m) (handedTo (rowsAlone t c) (world r st m) v (rowAt t i) s z)) (g ∙ ap (λ (z : ℕ). movedTo r z s used top) (one-more i))
+        ∙ ap (λ (z : Resumption). effected (world r st m) (handedBy (rowsAlone t c) (world r st m) v z)) (sym h ∙ e)
 
 pub ruleset frames = (push-full, push-fits, replace-full, replace-fits)
 

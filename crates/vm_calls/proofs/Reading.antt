@@ -20,6 +20,7 @@ use Rattle.lang_words.specs.Words.{words, firstOf, isNumber, entryOf, leastOper
 use Rattle.prog_tables.specs.Layout.{plain, callExpression}
 use Rattle.prog_tables.specs.Tests.{given, allBelow}
 use Rattle.prog_tables.specs.Statement.{Row, hasExpression, isOperator, expressionUses, usedBy, operandAt, slots, rowFrom, rowAt}
+use Rattle.prog_tables.specs.Program.{rowsAlone}
 use Rattle.prog_tables.specs.Faults.{expressionListed}
 use Rattle.prog_tables.proofs.Each.{below-at, given-then}
 use Rattle.prog_tables.specs.declared.Operand.{Operand}
@@ -104,7 +105,7 @@ module _ (t st m : List ℕ) (c : ℕ) (r : Machine) where
 
   pub work-row : (e : ℕ) (a b : Operand) (x : Worked) → Expressed (rowAt t (r .next)) → e ≡ rowAt t (r .next) .expr
       → a ≡ operandAt t (r .next * 27 + 11 + 0 * 2) → b ≡ operandAt t (r .next * 27 + 11 + 1 * 2)
-      → x ≡ evalOf Bits32 st (r .frame) m (r .top) e (a ∷ b ∷ []) → x ≡ workedOf Bits32 (rowAt t) c (world r st m)
+      → x ≡ evalOf Bits32 st (r .frame) m (r .top) e (a ∷ b ∷ []) → x ≡ workedOf (rowsAlone t c) (world r st m)
   unfolding workedOf rowAt rowFrom
   work-row e a b x h d p q w =
       let i : r .next * 27 + 11 + 1 * 2 ≡ r .next * 27 + 13 = omega arith in
@@ -135,7 +136,7 @@ pub ruleset reading = (reading-none, reading-more, arguments-stop, arguments-rea
 -- a call's operands are its arguments
 pub arguments-are : (t : List ℕ) (c : ℕ) (r : Machine) (st m : List ℕ) (b : Bool) (ws : List ℕ) (k : ℕ) → Calls (rowAt t (r .next)) c
     → k ≡ min (rowAt t (r .next) .count) 8 → wordsIn b ws k ≡ readAll Bits32 st (r .frame) m (take k (slots t (r .next * 27)))
-    → wordsIn b ws k ≡ argumentsOf Bits32 (rowAt t) c (world r st m)
+    → wordsIn b ws k ≡ argumentsOf (rowsAlone t c) (world r st m)
 unfolding argumentsOf rowAt rowFrom
 arguments-are t c r st m b ws k h e w =
     w ∙ ap (λ (z : List Operand). readAll Bits32 st (r .frame) m z)

@@ -6,13 +6,13 @@ use mathlib.Core.Bool.{Bool, true}
 use mathlib.Core.List.{List}
 use lib.ListN.{take, length}
 use Rattle.base_prelude.specs.Choice.{ifTrue}
-use Rattle.base_limits.specs.declared.Width.{Width}
 use Rattle.base_limits.specs.declared.Width.the-variants.{Bits32}
 use Rattle.base_limits.specs.declared.Machine.{Machine}
 use Rattle.base_limits.specs.Record.{stopped}
 use Rattle.prog_tables.specs.Layout.{noExpression, callExpression}
 use Rattle.prog_tables.specs.Places.{slotAt}
 use Rattle.prog_tables.specs.Statement.{Row, rowAt, hasExpression, usedBy}
+use Rattle.prog_tables.specs.Program.{Program, rowsAlone}
 use Rattle.prog_tables.specs.Faults.{expressionListed}
 use Rattle.vm_definitions.specs.Operands.{Words, words, bad, readOf}
 use Rattle.vm_definitions.specs.Frames.{resumptionOf}
@@ -34,44 +34,44 @@ halted r k = record { machine = stopped r k; count = 0; broken = No }
 -- ---- what a statement does, at 32 bits: t is the statement table, of c rows
 
 abbrev pub Meaning : Type 0
-Meaning = Width → (ℕ → Row) → ℕ → World → Effect
+Meaning = Program → World → Effect
 
 abbrev pub after : Meaning → List ℕ → ℕ → Machine → List ℕ → List ℕ → After
-after e t c r st m = effected (world r st m) (e Bits32 (rowAt t) c (world r st m))
+after e t c r st m = effected (world r st m) (e (rowsAlone t c) (world r st m))
 
 -- a call, the address of `set @` being judged
 abbrev pub calling : Meaning
-calling w f c x = callBy w f c x (argumentsOf w f c x)
+calling p x = callBy p x (argumentsOf p x)
 
 abbrev pub callingWith : Words → Meaning
-callingWith vs w f c x = callBy w f c x vs
+callingWith vs p x = callBy p x vs
 
 abbrev pub tailCalling : Meaning
-tailCalling w f c x = tailCallBy w f c x (argumentsOf w f c x)
+tailCalling p x = tailCallBy p x (argumentsOf p x)
 
 abbrev pub tailCallingWith : Words → Meaning
-tailCallingWith vs w f c x = tailCallBy w f c x vs
+tailCallingWith vs p x = tailCallBy p x vs
 
 -- `set @` with a call
 abbrev pub atCalling : Meaning
-atCalling w f c x = ifTrue (wordGood w (length (x .memory)) (addressOf w f c x)) (calling w f c x) (stops 32)
+atCalling p x = ifTrue (wordGood (p .width) (length (x .memory)) (addressOf p x)) (calling p x) (stops 32)
 
 -- a value for the call at row i
 abbrev pub handingTo : ℕ → ℕ → ℕ → Machine → Meaning
-handingTo v i s q w f c x = handedTo w f c x v (f i) s q
+handingTo v i s q p x = handedTo p x v (p .rows i) s q
 
 -- a value handed back
 abbrev pub handing : ℕ → Meaning
-handing v w f c x = handedBy w f c x v (resumptionOf w f c (x .stack) (suc (x .machine .frame)) (x .machine .frame))
+handing v p x = handedBy p x v (resumptionOf (p .width) (p .rows) (p .count) (x .stack) (suc (x .machine .frame)) (x .machine .frame))
 
 abbrev pub assigning : Meaning
-assigning w f c x = assigned w f c x (workedOf w f c x)
+assigning p x = assigned p x (workedOf p x)
 
 abbrev pub settingByte : Meaning
-settingByte w f c x = setByteBy w f c x (argumentsOf w f c x)
+settingByte p x = setByteBy p x (argumentsOf p x)
 
 abbrev pub settingWord : Meaning
-settingWord w f c x = setWordBy w f c x (argumentsOf w f c x)
+settingWord p x = setWordBy p x (argumentsOf p x)
 
 -- ---- arguments
 

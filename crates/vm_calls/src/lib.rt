@@ -15,6 +15,7 @@ ghost use Rattle.base_limits.specs.Limits.{greatestWord, memoryBytes, stackWord
 ghost use Rattle.base_limits.specs.declared.Width.the-variants.{Bits32};
 ghost use Rattle.base_limits.specs.Record.{goingOn, movedTo, ended};
 ghost use Rattle.prog_tables.specs.Statement.{rowAt, slots};
+ghost use Rattle.prog_tables.specs.Program.{rowsAlone};
 ghost use Rattle.vm_definitions.specs.Operands.{readAll};
 ghost use Rattle.vm_definitions.specs.Access.{storeFrom};
 ghost use Rattle.vm_definitions.specs.Frames.{returnsTo, callerFrame, topAtEntry, frameWords, leavesGood};
@@ -63,7 +64,7 @@ pub fn stop(r: Machine, k: u32) -> Outcome
 // The value of the row's expression, which is no call.
 pub fn work(t: &[u32], c: u32, r: Machine, st: &[u32], m: &[u8]) -> Worked
     requires { ⌜ (Expressed (rowAt (now t) (r .next))) × (length (now m) ≤ memoryBytes) ⌝ }
-    ensures { λ x. ⌜ x ≡ workedOf Bits32 (rowAt (now (t .entry))) c (world r (now (st .entry)) (now (m .entry))) ⌝ }
+    ensures { λ x. ⌜ x ≡ workedOf (rowsAlone (now (t .entry)) c) (world r (now (st .entry)) (now (m .entry))) ⌝ }
 {
     let n = r.next;
     let s = r.frame;

@@ -1,33 +1,39 @@
--- The ways through the test of the counts, and that it is the same with any data.
+-- The ways through the tests of the counts, and that it is the same with any data.
 -- Assumes nothing.
-use mathlib.Core.Path.{_≡_, refl, sym}
+use mathlib.Core.Path.{_≡_, refl}
 use mathlib.Core.Bool.{Bool, true, false}
 use mathlib.Core.List.{List}
 use Prim.Native.Nat.{ℕ, _*_, _<_, _≤_}
 use lib.Dec.{ltb}
 use lib.ListN.{length}
 use borrow.Author.Tests.{lt-ltb, le-ltb}
-use Rattle.prog_tables.specs.Tests.{oneOf, some}
+use Rattle.prog_tables.specs.Tests.{oneOf}
+use Rattle.base_limits.specs.declared.Width.the-variants.{Bits32}
+use Rattle.prog_tables.specs.Program.{programFrom}
 use Rattle.prog_tables.specs.Faults.{countFault}
 use Rattle.vm_definitions.specs.Lent.{tablesOf}
-use Rattle.prog_tables.proofs.Each.{one-false}
+
+module _ (l : List ℕ) (k : ℕ) (names : List ℕ) where
+  pub labels-far : length l < k * 4 → true ≡ oneOf (ltb (length l) (k * 4)) (ltb (length names) (k * 64))
+  labels-far g = rw (lt-ltb _ _ g)
+
+  pub labels-near : k * 4 ≤ length l → ltb (length names) (k * 64) ≡ oneOf (ltb (length l) (k * 4)) (ltb (length names) (k * 64))
+  labels-near g = rw (le-ltb _ _ g)
 
 module _ (t : List ℕ) (c : ℕ) (l : List ℕ) (k : ℕ) (names : List ℕ) where
-  pub count-rows : length t < c * 27 → true ≡ countFault (tablesOf t c l k names 0)
-  unfolding countFault some
-  count-rows h = rw (lt-ltb _ _ h)
+  module _ (v : Bool) (e : v ≡ ltb (length t) (c * 27)) where
+    pub count-rows : v ≡ true → true ≡ countFault (programFrom Bits32 (tablesOf t c l k names 0))
+    unfolding countFault
+    count-rows h = rw (← e, h)
 
-  module _ (h : c * 27 ≤ length t) where
-    pub count-labels : length l < k * 4 → true ≡ countFault (tablesOf t c l k names 0)
-    unfolding countFault some
-    count-labels g = rw (le-ltb _ _ h, lt-ltb _ _ g)
+    pub count-labels : (b : Bool) → v ≡ false → b ≡ oneOf (ltb (length l) (k * 4)) (ltb (length names) (k * 64)) → b ≡ countFault (programFrom Bits32 (tablesOf t c l k names 0))
+    unfolding countFault
+    count-labels b h g = rw (← e, h) g
 
-    pub count-names : k * 4 ≤ length l → ltb (length names) (k * 64) ≡ countFault (tablesOf t c l k names 0)
-    unfolding countFault some
-    count-names g = rw (le-ltb _ _ h, le-ltb _ _ g) (sym (one-false (ltb (length names) (k * 64))))
-
-  pub count-any : (d : ℕ) → countFault (tablesOf t c l k names 0) ≡ countFault (tablesOf t c l k names d)
+  pub count-any : (d : ℕ) → countFault (programFrom Bits32 (tablesOf t c l k names 0)) ≡ countFault (programFrom Bits32 (tablesOf t c l k names d))
   unfolding countFault
   count-any d = refl
 
-pub ruleset count-ways = (count-rows, count-labels, count-names)
+pub ruleset label-ways = (labels-far, labels-near)
+
+pub ruleset count-ways = (count-rows, count-labels)

@@ -7,6 +7,7 @@ use lib.ListN.{length, replicate}
 use Rattle.base_limits.specs.declared.Width.the-variants.{Bits32}
 use Rattle.base_limits.specs.declared.State.the-variants.{Running, Finished, Stopped}
 use Rattle.prog_tables.specs.Label.{Tables, rows}
+use Rattle.prog_tables.specs.Program.{programFrom}
 use Rattle.vm_definitions.specs.declared.Broken.the-variants.{No, At, Somewhere}
 use Rattle.vm_definitions.specs.declared.Broken.{Broken}
 use Rattle.vm_definitions.specs.declared.Started.{Started}
@@ -36,7 +37,7 @@ shownBy y (At i) = given35
 shownBy y Somewhere = given35
 
 abbrev outcomeBy : Tables → ℕ → World → Started → Came
-outcomeBy t b x Begun = shownBy (runOf Bits32 t b x) (runOf Bits32 t b x .broken)
+outcomeBy t b x Begun = shownBy (runOf (programFrom Bits32 t) b x) (runOf (programFrom Bits32 t) b x .broken)
 outcomeBy t b x (Refused k) = refusedStart k
 outcomeBy t b x (Unsound y) = given35
 
@@ -46,7 +47,8 @@ used s m = record { machine = freshOf 7 7 7; stack = replicate s 9; memory = rep
 
 -- a start of a name with arguments, then a run
 abbrev ran : Tables → List ℕ → List ℕ → List ℕ → ℕ → ℕ → ℕ → Came
-ran t bytes name args s m b = outcomeBy t b (startLeaves Bits32 t bytes name args (used s m)) (startOf Bits32 t bytes name args (used s m))
+ran t bytes name args s m b =
+    outcomeBy t b (startLeaves (programFrom Bits32 t) bytes name args (used s m)) (startOf (programFrom Bits32 t) bytes name args (used s m))
 
 -- ---- programs: the tables that the check leaves
 

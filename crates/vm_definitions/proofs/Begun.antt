@@ -19,6 +19,7 @@ use Rattle.base_limits.specs.declared.Width.{Width}
 use Rattle.base_limits.specs.Record.{freshOf, mark}
 use Rattle.prog_tables.specs.Tests.{both, oneOf, all, firstFrom}
 use Rattle.prog_tables.specs.Label.{Tables, rows, labelsOf, isData, isFunctionLabel}
+use Rattle.prog_tables.specs.Program.{programFrom}
 use Rattle.prog_tables.specs.Nesting.{encloses, followsJump}
 use Rattle.prog_tables.specs.Frames.{frameDepth}
 use Rattle.prog_tables.specs.WellFormed.{names, WellFormed}
@@ -41,15 +42,15 @@ use Rattle.vm_definitions.proofs.Places.{around-function}
 
 -- ---- the first row of a function
 
-module _ (w : Width) (t : Tables) (good : WellFormed t) where
+module _ (w : Width) (t : Tables) (good : WellFormed (programFrom w t)) where
   pub first-frame : (m : ℕ) (st : List ℕ) (g s : ℕ) → g < t .count → rows t g .kind ≡ 1 → topAtEntry st s ≤ m → FrameAt w t m st g s (suc g)
   first-frame m st g s h k l =
       record {
-        within = next-in t good g h no-end .within;
-        inside = next-in t good g h no-end .no-function;
-        func = next-in t good g h no-end .same ∙ func-self t good g h k;
+        within = next-in w t good g h no-end .within;
+        inside = next-in w t good g h no-end .no-function;
+        func = next-in w t good g h no-end .same ∙ func-self w t good g h k;
         top = l;
-        blocks = λ b q r d. absurd (around-function (rows t) 16 b g k r (ap (encloses (rows t) frameDepth b) (sym (next-function t good g h no-end k)) ∙ d));
+        blocks = λ b q r d. absurd (around-function (rows t) 16 b g k r (ap (encloses (rows t) frameDepth b) (sym (next-function w t good g h no-end k)) ∙ d));
       }
     where
       no-end : rows t g .kind ≡ 2 → ⊥
@@ -98,31 +99,31 @@ unsound b q = true-false (sym (ap isBegun q))
 -- ---- what an accepted start was given
 
 pub record Accepted (w : Width) (t : Tables) (name args : List ℕ) (x : World) : Type 0 where
-  pub label : exportOf t name < t .labelCount
-  pub arguments : length args ≡ rows t (labelsOf t (exportOf t name) .number) .b
+  pub label : exportOf (programFrom w t) name < t .labelCount
+  pub arguments : length args ≡ rows t (labelsOf t (exportOf (programFrom w t) name) .number) .b
   pub data-fits : t .dataLength ≤ length (x .memory)
   pub short : length (x .memory) ≤ memoryLimit w
-  pub room : rows t (labelsOf t (exportOf t name) .number) .a ≤ length (x .stack)
+  pub room : rows t (labelsOf t (exportOf (programFrom w t) name) .number) .a ≤ length (x .stack)
   pub few : length (x .stack) ≤ stackWords
 
 module _ (w : Width) (t : Tables) (bytes name args : List ℕ) (x : World) where
-  answer-begun : startBy w t bytes name args x (startBroken t (length bytes)) ≡ Begun → startAnswer w t bytes name args x ≡ Begun
+  answer-begun : startBy (programFrom w t) bytes name args x (startBroken (programFrom w t) (length bytes)) ≡ Begun → startAnswer (programFrom w t) bytes name args x ≡ Begun
   unfolding startBy
-  answer-begun = by (startBroken t (length bytes))
+  answer-begun = by (startBroken (programFrom w t) (length bytes))
     where
-      by : (b : Broken) → startBy w t bytes name args x b ≡ Begun → startAnswer w t bytes name args x ≡ Begun
+      by : (b : Broken) → startBy (programFrom w t) bytes name args x b ≡ Begun → startAnswer (programFrom w t) bytes name args x ≡ Begun
       by No e = e
       by (At i) e = unsound (At i) e
       by Somewhere e = unsound Somewhere e
 
-  answer-facts : startAnswer w t bytes name args x ≡ Begun → Accepted w t name args x
+  answer-facts : startAnswer (programFrom w t) bytes name args x ≡ Begun → Accepted w t name args x
   unfolding startAnswer
   answer-facts h =
-      either (λ (z : Started). z ≡ Begun → Accepted w t name args x) (exportOf t name) (t .labelCount) _ (Refused 20)
-      (λ l. either-eq (λ (z : Started). z ≡ Begun → Accepted w t name args x) (length args) (rows t (labelsOf t (exportOf t name) .number) .b) _ (Refused 21)
+      either (λ (z : Started). z ≡ Begun → Accepted w t name args x) (exportOf (programFrom w t) name) (t .labelCount) _ (Refused 20)
+      (λ l. either-eq (λ (z : Started). z ≡ Begun → Accepted w t name args x) (length args) (rows t (labelsOf t (exportOf (programFrom w t) name) .number) .b) _ (Refused 21)
       (λ a. either-true (λ (z : Started). z ≡ Begun → Accepted w t name args x) (oneOf (ltb (length (x .memory)) (t .dataLength)) (ltb (memoryLimit w) (length (x .memory)))) (Refused 22) _
       (λ d. refused 22)
-      (λ d. either-true (λ (z : Started). z ≡ Begun → Accepted w t name args x) (oneOf (ltb (length (x .stack)) (rows t (labelsOf t (exportOf t name) .number) .a)) (ltb stackWords (length (x .stack)))) (Refused 23) Begun
+      (λ d. either-true (λ (z : Started). z ≡ Begun → Accepted w t name args x) (oneOf (ltb (length (x .stack)) (rows t (labelsOf t (exportOf (programFrom w t) name) .number) .a)) (ltb stackWords (length (x .stack)))) (Refused 23) Begun
       (λ c. refused 23)
       (λ c q.
       record {
@@ -130,13 +131,13 @@ module _ (w : Width) (t : Tables) (bytes name args : List ℕ) (x : World) where
         arguments = a;
         data-fits = ltb-false _ _ (neither-left (ltb (length (x .memory)) (t .dataLength)) (ltb (memoryLimit w) (length (x .memory))) d);
         short = ltb-false _ _ (neither-right (ltb (length (x .memory)) (t .dataLength)) (ltb (memoryLimit w) (length (x .memory))) d);
-        room = ltb-false _ _ (neither-left (ltb (length (x .stack)) (rows t (labelsOf t (exportOf t name) .number) .a)) (ltb stackWords (length (x .stack))) c);
-        few = ltb-false _ _ (neither-right (ltb (length (x .stack)) (rows t (labelsOf t (exportOf t name) .number) .a)) (ltb stackWords (length (x .stack))) c);
+        room = ltb-false _ _ (neither-left (ltb (length (x .stack)) (rows t (labelsOf t (exportOf (programFrom w t) name) .number) .a)) (ltb stackWords (length (x .stack))) c);
+        few = ltb-false _ _ (neither-right (ltb (length (x .stack)) (rows t (labelsOf t (exportOf (programFrom w t) name) .number) .a)) (ltb stackWords (length (x .stack))) c);
       })))
       (λ a. refused 21))
       (λ l. refused 20) h
 
-  pub start-facts : startOf w t bytes name args x ≡ Begun → Accepted w t name args x
+  pub start-facts : startOf (programFrom w t) bytes name args x ≡ Begun → Accepted w t name args x
   unfolding startOf
   start-facts h = answer-facts (answer-begun h)
 
@@ -146,41 +147,41 @@ pub record Function (t : Tables) (g : ℕ) : Type 0 where
   pub within : g < t .count
   pub is-function : rows t g .kind ≡ 1
 
-module _ (t : Tables) (good : WellFormed t) (name : List ℕ) (h : exportOf t name < t .labelCount) where
-  found-export : exportsAs t name (exportOf t name) ≡ true
+module _ (w : Width) (t : Tables) (good : WellFormed (programFrom w t)) (name : List ℕ) (h : exportOf (programFrom w t) name < t .labelCount) where
+  found-export : exportsAs (programFrom w t) name (exportOf (programFrom w t) name) ≡ true
   unfolding exportOf
-  found-export = first-found (exportsAs t name) (t .labelCount) 0 (omega (arith, h))
+  found-export = first-found (exportsAs (programFrom w t) name) (t .labelCount) 0 (omega (arith, h))
 
-  export-kind : labelsOf t (exportOf t name) .kind ≡ 4
+  export-kind : labelsOf t (exportOf (programFrom w t) name) .kind ≡ 4
   unfolding exportsAs
-  export-kind = eqb-true _ _ (both-left (eqb (labelsOf t (exportOf t name) .kind) 4) (sameList (labelsOf t (exportOf t name) .name) name) found-export)
+  export-kind = eqb-true _ _ (both-left (eqb (labelsOf t (exportOf (programFrom w t) name) .kind) 4) (sameList (labelsOf t (exportOf (programFrom w t) name) .name) name) found-export)
 
   abbrev line : List Bool
-  line = eqb (labelsOf t (exportOf t name) .kind) 5 ∷ not (eqb (rows t (labelsOf t (exportOf t name) .number) .kind) 1) ∷ not (followsJump (rows t) (labelsOf t (exportOf t name) .number)) ∷ []
+  line = eqb (labelsOf t (exportOf (programFrom w t) name) .kind) 5 ∷ not (eqb (rows t (labelsOf t (exportOf (programFrom w t) name) .number) .kind) 1) ∷ not (followsJump (rows t) (labelsOf t (exportOf (programFrom w t) name) .number)) ∷ []
 
-  export-tests : both (ltb (labelsOf t (exportOf t name) .number) (t .count)) (eqb (rows t (labelsOf t (exportOf t name) .number) .kind) 1) ≡ true
+  export-tests : both (ltb (labelsOf t (exportOf (programFrom w t) name) .number) (t .count)) (eqb (rows t (labelsOf t (exportOf (programFrom w t) name) .number) .kind) 1) ≡ true
   unfolding names
   export-tests =
-      ap (both (ltb (labelsOf t (exportOf t name) .number) (t .count)))
-      (sym (ifTrue-yes (eqb (rows t (labelsOf t (exportOf t name) .number) .kind) 1) (all line) (ap isFunctionLabel export-kind ∙ function-label)))
-      ∙ sym (ifTrue-no (leb (labelsOf t (exportOf t name) .number) (t .dataLength)) _ (ap isData export-kind ∙ no-data))
-      ∙ names-at t good (exportOf t name) h
+      ap (both (ltb (labelsOf t (exportOf (programFrom w t) name) .number) (t .count)))
+      (sym (ifTrue-yes (eqb (rows t (labelsOf t (exportOf (programFrom w t) name) .number) .kind) 1) (all line) (ap isFunctionLabel export-kind ∙ function-label)))
+      ∙ sym (ifTrue-no (leb (labelsOf t (exportOf (programFrom w t) name) .number) (t .dataLength)) _ (ap isData export-kind ∙ no-data))
+      ∙ names-at w t good (exportOf (programFrom w t) name) h
 
-  pub export-function : Function t (labelsOf t (exportOf t name) .number)
+  pub export-function : Function t (labelsOf t (exportOf (programFrom w t) name) .number)
   export-function =
       record {
-        within = ltb-true _ _ (both-left (ltb (labelsOf t (exportOf t name) .number) (t .count)) (eqb (rows t (labelsOf t (exportOf t name) .number) .kind) 1) export-tests);
-        is-function = eqb-true _ _ (both-right (ltb (labelsOf t (exportOf t name) .number) (t .count)) (eqb (rows t (labelsOf t (exportOf t name) .number) .kind) 1) export-tests);
+        within = ltb-true _ _ (both-left (ltb (labelsOf t (exportOf (programFrom w t) name) .number) (t .count)) (eqb (rows t (labelsOf t (exportOf (programFrom w t) name) .number) .kind) 1) export-tests);
+        is-function = eqb-true _ _ (both-right (ltb (labelsOf t (exportOf (programFrom w t) name) .number) (t .count)) (eqb (rows t (labelsOf t (exportOf (programFrom w t) name) .number) .kind) 1) export-tests);
       }
 
 -- ---- the world that it leaves
 
-module _ (w : Width) (t : Tables) (good : WellFormed t) (bytes name args : List ℕ) (x : World) where
-  start-kept : Accepted w t name args x → Invariant w t (record { func = startedFunction w t bytes name args x; call = none }) [] (startWorld w t bytes name args x)
+module _ (w : Width) (t : Tables) (good : WellFormed (programFrom w t)) (bytes name args : List ℕ) (x : World) where
+  start-kept : Accepted w t name args x → Invariant w t (record { func = startedFunction (programFrom w t) bytes name args x; call = none }) [] (startWorld (programFrom w t) bytes name args x)
   unfolding startWorld freshOf frameWords Under
   start-kept a =
       record {
-        frame = first-frame w t good _ _ (labelsOf t (exportOf t name) .number) 0 (g .within) (g .is-function) (omega (arith, memory, a .data-fits, word 2 (omega arith)));
+        frame = first-frame w t good _ _ (labelsOf t (exportOf (programFrom w t) name) .number) 0 (g .within) (g .is-function) (omega (arith, memory, a .data-fits, word 2 (omega arith)));
         under = record { at = refl; place = word 0 (omega arith); caller = word 1 (omega arith) };
         ends = omega arith;
         lent = omega (arith, stack, a .room);
@@ -190,11 +191,11 @@ module _ (w : Width) (t : Tables) (good : WellFormed t) (bytes name args : List 
         short = omega (arith, memory, a .short);
       }
     where
-      g : Function t (labelsOf t (exportOf t name) .number)
-      g = export-function t good name (a .label)
+      g : Function t (labelsOf t (exportOf (programFrom w t) name) .number)
+      g = export-function w t good name (a .label)
 
       written : List ℕ
-      written = frameWords (mark w) (mark w) (t .dataLength) args (rows t (labelsOf t (exportOf t name) .number) .a)
+      written = frameWords (mark w) (mark w) (t .dataLength) args (rows t (labelsOf t (exportOf (programFrom w t) name) .number) .a)
 
       memory : length (storeFrom (x .memory) 0 (take (t .dataLength) bytes)) ≡ length (x .memory)
       memory = store-length (x .memory) 0 (take (t .dataLength) bytes)
@@ -203,10 +204,10 @@ module _ (w : Width) (t : Tables) (good : WellFormed t) (bytes name args : List 
       stack = store-length (x .stack) 0 written
 
       word : (j : ℕ) → j < 3 → getD (storeFrom (x .stack) 0 written) (0 + j) 0 ≡ getD written j 0
-      word j l = store-at (x .stack) 0 written j (omega (arith, a .room, marks t good (labelsOf t (exportOf t name) .number) (g .within) (g .is-function) .head)) (omega arith)
+      word j l = store-at (x .stack) 0 written j (omega (arith, a .room, marks w t good (labelsOf t (exportOf (programFrom w t) name) .number) (g .within) (g .is-function) .head)) (omega arith)
 
-  pub begun : startOf w t bytes name args x ≡ Begun → Invariant w t (record { func = startedFunction w t bytes name args x; call = none }) [] (startLeaves w t bytes name args x)
+  pub begun : startOf (programFrom w t) bytes name args x ≡ Begun → Invariant w t (record { func = startedFunction (programFrom w t) bytes name args x; call = none }) [] (startLeaves (programFrom w t) bytes name args x)
   unfolding startLeaves begunBy
   begun h =
-      subst (λ (z : Started). Invariant w t (record { func = startedFunction w t bytes name args x; call = none }) [] (begunBy w t bytes name args x z)) (sym h)
+      subst (λ (z : Started). Invariant w t (record { func = startedFunction (programFrom w t) bytes name args x; call = none }) [] (begunBy (programFrom w t) bytes name args x z)) (sym h)
       (start-kept (start-facts w t bytes name args x h))

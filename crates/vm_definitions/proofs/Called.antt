@@ -18,6 +18,7 @@ use Rattle.prog_tables.specs.Layout.{callExpression}
 use Rattle.prog_tables.specs.Tests.{both, oneOf}
 use Rattle.prog_tables.specs.Statement.{Row, hasExpression, isCall}
 use Rattle.prog_tables.specs.Label.{Tables, rows}
+use Rattle.prog_tables.specs.Program.{programFrom}
 use Rattle.prog_tables.specs.WellFormed.{WellFormed}
 use Rattle.prog_tables.proofs.Each.{both-left, both-right}
 use Rattle.prog_laws.proofs.Rows.{Callee, callee-facts, marks, size-at, address-words}
@@ -72,16 +73,16 @@ head-top : (st : List ℕ) (s call frame top : ℕ) (vs : List ℕ) (size : ℕ)
 unfolding frameWords
 head-top st s call frame top vs size h = head-word st s call frame top vs size 2 (omega arith) h
 
-module _ (w : Width) (t : Tables) (good : WellFormed t) (e : Entry) (es : Ledger) (x : World) (i : Invariant w t e es x) where
+module _ (w : Width) (t : Tables) (good : WellFormed (programFrom w t)) (e : Entry) (es : Ledger) (x : World) (i : Invariant w t e es x) where
   -- ---- calls
 
   module _ (c : isCalling (rows t (x .machine .next)) ≡ true)
-      (address : rows t (x .machine .next) .kind ≡ 7 → wordGood w (length (x .memory)) (addressOf w (rows t) (t .count) x) ≡ true) where
-    callee : Callee t good (x .machine .next) (i .frame .within)
-    callee = callee-facts t good (x .machine .next) (i .frame .within) (calling-call (rows t (x .machine .next)) c)
+      (address : rows t (x .machine .next) .kind ≡ 7 → wordGood w (length (x .memory)) (addressOf (programFrom w t) x) ≡ true) where
+    callee : Callee w t good (x .machine .next) (i .frame .within)
+    callee = callee-facts w t good (x .machine .next) (i .frame .within) (calling-call (rows t (x .machine .next)) c)
 
     size : 3 ≤ rows t (rows t (x .machine .next) .callee) .a
-    size = omega (arith, marks t good (rows t (x .machine .next) .callee) (callee .within) (callee .is-function) .head)
+    size = omega (arith, marks w t good (rows t (x .machine .next) .callee) (callee .within) (callee .is-function) .head)
 
     unfoldable pub calledStack : List ℕ → List ℕ
     calledStack vs =
@@ -124,7 +125,7 @@ module _ (w : Width) (t : Tables) (good : WellFormed t) (e : Entry) (es : Ledger
       number k =
           ap (λ (y : ℕ). numberIn (calledStack vs) y (rows t (x .machine .next) .address)) caller
           ∙ number-same (x .stack) (calledStack vs) (x .machine .frame) (rows t (rows t (x .machine .next) .func) .a) (t .dataLength) (x .machine .used) (rows t (x .machine .next) .address)
-          (address-words t good (x .machine .next) (i .frame .within) k .whole) (omega (arith, own, i .ends)) below
+          (address-words w t good (x .machine .next) (i .frame .within) k .whole) (omega (arith, own, i .ends)) below
 
       head : Head w t (length (x .memory)) (calledStack vs) (x .machine .next) (e .func) (x .machine .used)
       head =
@@ -149,7 +150,7 @@ module _ (w : Width) (t : Tables) (good : WellFormed t) (e : Entry) (es : Ledger
       )
         where
           func-size : 3 ≤ rows t (e .func) .a
-          func-size = omega (arith, own, size-at t good (x .machine .next) (i .frame .within) .head)
+          func-size = omega (arith, own, size-at w t good (x .machine .next) (i .frame .within) .head)
 
       called : Invariant w t (record { func = rows t (x .machine .next) .callee; call = some (x .machine .next) }) (e ∷ es)
           (record {
@@ -174,7 +175,7 @@ module _ (w : Width) (t : Tables) (good : WellFormed t) (e : Entry) (es : Ledger
           }
 
     -- a call with the words of its arguments
-    pub kept-call-by : (vs : Words) → Kept w t (record { func = rows t (x .machine .next) .callee; call = some (x .machine .next) }) (e ∷ es) (callBy w (rows t) (t .count) x vs)
+    pub kept-call-by : (vs : Words) → Kept w t (record { func = rows t (x .machine .next) .callee; call = some (x .machine .next) }) (e ∷ es) (callBy (programFrom w t) x vs)
     unfolding callBy Kept calledStack
     kept-call-by (words vs) =
         either (Kept w t (record { func = rows t (x .machine .next) .callee; call = some (x .machine .next) }) (e ∷ es)) (length (x .stack))
@@ -183,25 +184,25 @@ module _ (w : Width) (t : Tables) (good : WellFormed t) (e : Entry) (es : Ledger
 
   -- a call in any form: that of `set @` judged its address first
   pub kept-call : isCalling (rows t (x .machine .next)) ≡ true
-      → Kept w t (record { func = rows t (x .machine .next) .callee; call = some (x .machine .next) }) (e ∷ es) (callOf w (rows t) (t .count) x)
+      → Kept w t (record { func = rows t (x .machine .next) .callee; call = some (x .machine .next) }) (e ∷ es) (callOf (programFrom w t) x)
   unfolding callOf Kept
   kept-call c =
       either-eq (Kept w t (record { func = rows t (x .machine .next) .callee; call = some (x .machine .next) }) (e ∷ es)) (rows t (x .machine .next) .kind) 7
-      (ifTrue (wordGood w (length (x .memory)) (addressOf w (rows t) (t .count) x)) (callBy w (rows t) (t .count) x (argumentsOf w (rows t) (t .count) x)) (stops 32))
-      (callBy w (rows t) (t .count) x (argumentsOf w (rows t) (t .count) x))
+      (ifTrue (wordGood w (length (x .memory)) (addressOf (programFrom w t) x)) (callBy (programFrom w t) x (argumentsOf (programFrom w t) x)) (stops 32))
+      (callBy (programFrom w t) x (argumentsOf (programFrom w t) x))
       (λ k. either-true (Kept w t (record { func = rows t (x .machine .next) .callee; call = some (x .machine .next) }) (e ∷ es))
-      (wordGood w (length (x .memory)) (addressOf w (rows t) (t .count) x)) (callBy w (rows t) (t .count) x (argumentsOf w (rows t) (t .count) x)) (stops 32)
-      (λ d. kept-call-by c (λ q. d) (argumentsOf w (rows t) (t .count) x)) (λ d. tt))
-      (λ k. kept-call-by c (λ q. absurd (k q)) (argumentsOf w (rows t) (t .count) x))
+      (wordGood w (length (x .memory)) (addressOf (programFrom w t) x)) (callBy (programFrom w t) x (argumentsOf (programFrom w t) x)) (stops 32)
+      (λ d. kept-call-by c (λ q. d) (argumentsOf (programFrom w t) x)) (λ d. tt))
+      (λ k. kept-call-by c (λ q. absurd (k q)) (argumentsOf (programFrom w t) x))
 
   -- ---- tail calls
 
   module _ (k : rows t (x .machine .next) .kind ≡ 12) where
-    tail-callee : Callee t good (x .machine .next) (i .frame .within)
-    tail-callee = callee-facts t good (x .machine .next) (i .frame .within) (tail-call (rows t (x .machine .next)) k)
+    tail-callee : Callee w t good (x .machine .next) (i .frame .within)
+    tail-callee = callee-facts w t good (x .machine .next) (i .frame .within) (tail-call (rows t (x .machine .next)) k)
 
     tail-size : 3 ≤ rows t (rows t (x .machine .next) .callee) .a
-    tail-size = omega (arith, marks t good (rows t (x .machine .next) .callee) (tail-callee .within) (tail-callee .is-function) .head)
+    tail-size = omega (arith, marks w t good (rows t (x .machine .next) .callee) (tail-callee .within) (tail-callee .is-function) .head)
 
     unfoldable pub tailStack : List ℕ → List ℕ
     tailStack vs =
@@ -269,7 +270,7 @@ module _ (w : Width) (t : Tables) (good : WellFormed t) (e : Entry) (es : Ledger
             short = i .short;
           }
 
-    pub kept-tail-call : (vs : Words) → Kept w t (record { func = rows t (x .machine .next) .callee; call = e .call }) es (tailCallBy w (rows t) (t .count) x vs)
+    pub kept-tail-call : (vs : Words) → Kept w t (record { func = rows t (x .machine .next) .callee; call = e .call }) es (tailCallBy (programFrom w t) x vs)
     unfolding tailCallBy Kept tailStack
     kept-tail-call (words vs) =
         either (Kept w t (record { func = rows t (x .machine .next) .callee; call = e .call }) es) (length (x .stack))

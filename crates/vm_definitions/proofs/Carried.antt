@@ -10,6 +10,7 @@ use lib.ListN.{getD, length}
 use Rattle.base_limits.specs.declared.Width.{Width}
 use Rattle.base_limits.specs.Record.{goingOn}
 use Rattle.prog_tables.specs.Label.{Tables, rows}
+use Rattle.prog_tables.specs.Program.{programFrom}
 use Rattle.prog_tables.specs.Nesting.{encloses}
 use Rattle.prog_tables.specs.Frames.{frameDepth}
 use Rattle.prog_tables.specs.Faults.{operandFault}
@@ -43,16 +44,16 @@ number-same st st′ s size d n (AtLocal v) e h same = same (s + v) (omega (arit
 number-same st st′ s size d n (AtAddress v) e h same = refl
 number-same st st′ s size d n Unlisted e h same = refl
 
-module _ (w : Width) (t : Tables) (good : WellFormed t) where
+module _ (w : Width) (t : Tables) (good : WellFormed (programFrom w t)) where
   -- the word of a block that is open at row p is in the frame of p's function
   pub block-in : (p b : ℕ) → p < t .count → (rows t p .kind ≡ 1 → ⊥) → b < t .count → rows t b .kind ≡ 3 → encloses (rows t) frameDepth b (rows t p .scope) ≡ true
       → rows t b .a < rows t (rows t p .func) .a
   block-in p b h q l k e =
       omega (
         arith,
-        block-within t good b l k,
+        block-within w t good b l k,
         ap (λ (x : ℕ). rows t x .a)
-            (around-func (rows t) (t .count) (ok t good) 17 b (rows t p .scope) (omega (arith, scope-frame t good p h q .low)) e ∙ scope-frame t good p h q .same),
+            (around-func (rows t) (t .count) (ok w t good) 17 b (rows t p .scope) (omega (arith, scope-frame w t good p h q .low)) e ∙ scope-frame w t good p h q .same),
       )
 
   pub frame-same : (m : ℕ) (st st′ : List ℕ) (g s p n : ℕ) → Agree st′ st n → s + rows t g .a ≤ n → FrameAt w t m st g s p → FrameAt w t m st′ g s p
@@ -69,7 +70,7 @@ module _ (w : Width) (t : Tables) (good : WellFormed t) where
       own = ap (λ (y : ℕ). rows t y .a) (x .func)
 
       size : 3 ≤ rows t g .a
-      size = omega (arith, own, size-at t good p (x .within) .head)
+      size = omega (arith, own, size-at w t good p (x .within) .head)
 
   -- at another row of its function and scope
   pub frame-to : (m : ℕ) (st : List ℕ) (g s p q : ℕ) → q < t .count → (rows t q .kind ≡ 1 → ⊥) → rows t q .func ≡ rows t p .func → rows t q .scope ≡ rows t p .scope
@@ -106,7 +107,7 @@ module _ (w : Width) (t : Tables) (good : WellFormed t) where
       number k =
           ap (λ (y : ℕ). numberIn st′ y (rows t c .address)) z
           ∙ number-same st st′ (callerFrame st s) (rows t (rows t c .func) .a) (t .dataLength) s (rows t c .address)
-          (address-words t good c (u .0 .frame .within) k .whole) (omega (arith, own, u .0 .ends)) below
+          (address-words w t good c (u .0 .frame .within) k .whole) (omega (arith, own, u .0 .ends)) below
 
       head : Head w t m st′ c (d .func) s
       head =

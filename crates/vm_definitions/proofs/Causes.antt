@@ -18,6 +18,7 @@ use Rattle.base_word.specs.Bytes.{wordBytes}
 use Rattle.prog_tables.specs.Tests.{both, oneOf}
 use Rattle.prog_tables.specs.Statement.{Row, hasExpression, isTest, isOperator, isCall, expressionUses, usedBy, slots, operandAt, rowFrom, rowAt}
 use Rattle.prog_tables.specs.Label.{Tables, rows}
+use Rattle.prog_tables.specs.Program.{Program, programFrom}
 use Rattle.prog_tables.specs.Nesting.{isListed}
 use Rattle.prog_tables.specs.Faults.{expressionListed, expressionFault, kindFault}
 use Rattle.prog_tables.proofs.CallRows.{expression-listed}
@@ -86,7 +87,16 @@ unfolding ifTrue
 kept-first true b e = refl
 kept-first false b e = true-false e
 
-module _ (w : Width) (f : ℕ → Row) (c : ℕ) (x : World) (sum last : ℕ) where
+module _ (prog : Program) (x : World) (sum last : ℕ) where
+  abbrev w : Width
+  w = prog .width
+
+  abbrev f : ℕ → Row
+  f = prog .rows
+
+  abbrev c : ℕ
+  c = prog .count
+
   abbrev r : Row
   r = f (x .machine .next)
 
@@ -122,50 +132,50 @@ module _ (w : Width) (f : ℕ → Row) (c : ℕ) (x : World) (sum last : ℕ) wh
   unfoldable metBy : ℕ → ℕ → List Operand → List Meeting
   metBy k e os = (ifEq k 7 (wordAt addressAt ∷ []) [] ++ touched st s os) ++ behindBy k e os
 
-  met-is : firstCause w f sum last x ≡ first (metBy (r .kind) (r .expr) (r .operands))
+  met-is : firstCause prog sum last x ≡ first (metBy (r .kind) (r .expr) (r .operands))
   unfolding firstCause meetingsOf readsOf behindOperands withFrame metBy behindBy
   met-is = refl
 
-  cause-as : (k : ℕ) (os : List Operand) → r .kind ≡ k → r .operands ≡ os → firstCause w f sum last x ≡ first (metBy k (r .expr) os)
+  cause-as : (k : ℕ) (os : List Operand) → r .kind ≡ k → r .operands ≡ os → firstCause prog sum last x ≡ first (metBy k (r .expr) os)
   cause-as k os h q =
       met-is ∙ ap (λ (i : ℕ). first (metBy i (r .expr) (r .operands))) h ∙ ap (λ (i : List Operand). first (metBy k (r .expr) i)) q
 
-  effect-is : effectOf w f c x
-      ≡ dispatch (r .kind) (r .expr) (callOf w f c x) (returnOf w f c x) (testOf w f c x) (blockOf w f c x) (endBlockOf w f c x) (assigned w f c x (workedOf w f c x))
-      (setAtOf w f c x) (setByteBy w f c x (argumentsOf w f c x)) (setWordBy w f c x (argumentsOf w f c x)) (tailCallBy w f c x (argumentsOf w f c x))
-      (goesTo w f c x (suc (x .machine .next))) (goesTo w f c x (r .a))
+  effect-is : effectOf prog x
+      ≡ dispatch (r .kind) (r .expr) (callOf prog x) (returnOf prog x) (testOf prog x) (blockOf prog x) (endBlockOf prog x) (assigned prog x (workedOf prog x))
+      (setAtOf prog x) (setByteBy prog x (argumentsOf prog x)) (setWordBy prog x (argumentsOf prog x)) (tailCallBy prog x (argumentsOf prog x))
+      (goesTo prog x (suc (x .machine .next))) (goesTo prog x (r .a))
   unfolding effectOf dispatch isCalling isReturn
   effect-is = refl
 
   doneBy : ℕ → ℕ → Effect
   doneBy k e =
-      dispatch k e (callOf w f c x) (returnOf w f c x) (testOf w f c x) (blockOf w f c x) (endBlockOf w f c x) (assigned w f c x (workedOf w f c x))
-      (setAtOf w f c x) (setByteBy w f c x (argumentsOf w f c x)) (setWordBy w f c x (argumentsOf w f c x)) (tailCallBy w f c x (argumentsOf w f c x))
-      (goesTo w f c x (suc (x .machine .next))) (goesTo w f c x (r .a))
+      dispatch k e (callOf prog x) (returnOf prog x) (testOf prog x) (blockOf prog x) (endBlockOf prog x) (assigned prog x (workedOf prog x))
+      (setAtOf prog x) (setByteBy prog x (argumentsOf prog x)) (setWordBy prog x (argumentsOf prog x)) (tailCallBy prog x (argumentsOf prog x))
+      (goesTo prog x (suc (x .machine .next))) (goesTo prog x (r .a))
 
-  effect-as : (k : ℕ) → r .kind ≡ k → effectOf w f c x ≡ doneBy k (r .expr)
+  effect-as : (k : ℕ) → r .kind ≡ k → effectOf prog x ≡ doneBy k (r .expr)
   unfolding doneBy
   effect-as k h = effect-is ∙ ap (λ (i : ℕ). doneBy i (r .expr)) h
 
-  call-as : (k : ℕ) → r .kind ≡ k → r .expr ≡ 2 → effectOf w f c x ≡ doneBy k 2
+  call-as : (k : ℕ) → r .kind ≡ k → r .expr ≡ 2 → effectOf prog x ≡ doneBy k 2
   call-as k h q = effect-as k h ∙ ap (λ (i : ℕ). doneBy k i) q
 
   Caused : Type 0
-  Caused = effectStop (effectOf w f c x) ≡ firstCause w f sum last x
+  Caused = effectStop (effectOf prog x) ≡ firstCause prog sum last x
 
   -- ---- parts of statements
 
-  assigned-stop : (k : Worked) → effectStop (assigned w f c x k) ≡ stopIn k
+  assigned-stop : (k : Worked) → effectStop (assigned prog x k) ≡ stopIn k
   unfolding effectStop assigned stopIn keeps
   assigned-stop (Value v top) = refl
   assigned-stop (Stop k) = refl
 
-  assigned-at-stop : (k : Worked) → effectStop (assignedAt w f c x k) ≡ stopIn k
+  assigned-at-stop : (k : Worked) → effectStop (assignedAt prog x k) ≡ stopIn k
   unfolding effectStop assignedAt stopIn stores
   assigned-at-stop (Value v top) = refl
   assigned-at-stop (Stop k) = refl
 
-  returned-stop : ((v : ℕ) → effectStop (handedBy w f c x v (resumptionOf w f c st (suc s) s)) ≡ 0) → (k : Worked) → effectStop (returned w f c x k) ≡ stopIn k
+  returned-stop : ((v : ℕ) → effectStop (handedBy prog x v (resumptionOf w f c st (suc s) s)) ≡ 0) → (k : Worked) → effectStop (returned prog x k) ≡ stopIn k
   unfolding effectStop returned stopIn
   returned-stop h (Value v top) = h v
   returned-stop h (Stop k) = refl
@@ -186,11 +196,11 @@ module _ (w : Width) (f : ℕ → Row) (c : ℕ) (x : World) (sum last : ℕ) wh
   unfolding wordOf isAt numberIn ifTrue
   value-at os i = List·getD-map (wordOf w st s m) os i Unlisted
 
-  byte-stop : effectStop (setByteBy w f c x (argumentsOf w f c x))
+  byte-stop : effectStop (setByteBy prog x (argumentsOf prog x))
       ≡ first (touched st s (r .operands) ++ (byteAt (byteAddress w (valueOf (r .operands) 0) (valueOf (r .operands) 1)) ∷ []))
   unfolding argumentsOf setByteBy effectStop stores causeOf byteGood
   byte-stop =
-      all-cause w st s m effectStop (setByteBy w f c x) (r .operands) (byteAt (byteAddress w (valueOf (r .operands) 0) (valueOf (r .operands) 1)) ∷ []) (length st) refl
+      all-cause w st s m effectStop (setByteBy prog x) (r .operands) (byteAt (byteAddress w (valueOf (r .operands) 0) (valueOf (r .operands) 1)) ∷ []) (length st) refl
       (good _ (byteGood (length m) (byteAddress w (getD vs 0 0) (getD vs 1 0)))
       ∙ sym (first-one w (length m) (length st) (byteAt (byteAddress w (getD vs 0 0) (getD vs 1 0))))
       ∙ ap (λ (v : ℕ). first (byteAt (byteAddress w v (getD vs 1 0)) ∷ [])) (value-at (r .operands) 0)
@@ -199,11 +209,11 @@ module _ (w : Width) (f : ℕ → Row) (c : ℕ) (x : World) (sum last : ℕ) wh
       vs : List ℕ
       vs = map (wordOf w st s m) (r .operands)
 
-  word-stop : effectStop (setWordBy w f c x (argumentsOf w f c x))
+  word-stop : effectStop (setWordBy prog x (argumentsOf prog x))
       ≡ first (touched st s (r .operands) ++ (wordAt (wordAddress w (valueOf (r .operands) 0) (valueOf (r .operands) 1)) ∷ []))
   unfolding argumentsOf setWordBy effectStop stores causeOf wordGood
   word-stop =
-      all-cause w st s m effectStop (setWordBy w f c x) (r .operands) (wordAt (wordAddress w (valueOf (r .operands) 0) (valueOf (r .operands) 1)) ∷ []) (length st) refl
+      all-cause w st s m effectStop (setWordBy prog x) (r .operands) (wordAt (wordAddress w (valueOf (r .operands) 0) (valueOf (r .operands) 1)) ∷ []) (length st) refl
       (good _ (wordGood w (length m) (wordAddress w (getD vs 0 0) (getD vs 1 0)))
       ∙ sym (first-one w (length m) (length st) (wordAt (wordAddress w (getD vs 0 0) (getD vs 1 0))))
       ∙ ap (λ (v : ℕ). first (wordAt (wordAddress w v (getD vs 1 0)) ∷ [])) (value-at (r .operands) 0)
@@ -220,29 +230,29 @@ module _ (w : Width) (f : ℕ → Row) (c : ℕ) (x : World) (sum last : ℕ) wh
       ∙ sym (first-one w (length m) (length st) (stacksTo b))
 
   module _ (used-is : x .machine .used ≡ sum) (frame-is : x .machine .frame ≡ sum - last) where
-    call-stop : effectStop (callBy w f c x (argumentsOf w f c x)) ≡ first (touched st s (r .operands) ++ (stacksTo (sum + size) ∷ []))
+    call-stop : effectStop (callBy prog x (argumentsOf prog x)) ≡ first (touched st s (r .operands) ++ (stacksTo (sum + size) ∷ []))
     unfolding argumentsOf callBy effectStop
     call-stop =
-        all-cause w st s m effectStop (callBy w f c x) (r .operands) (stacksTo (sum + size) ∷ []) (length st) refl
+        all-cause w st s m effectStop (callBy prog x) (r .operands) (stacksTo (sum + size) ∷ []) (length st) refl
         (stack-stop _ (x .machine .used + size) (sum + size) (ap (λ (i : ℕ). i + size) used-is))
 
-    tail-stop : effectStop (tailCallBy w f c x (argumentsOf w f c x)) ≡ first (touched st s (r .operands) ++ (stacksTo (sum - last + size) ∷ []))
+    tail-stop : effectStop (tailCallBy prog x (argumentsOf prog x)) ≡ first (touched st s (r .operands) ++ (stacksTo (sum - last + size) ∷ []))
     unfolding argumentsOf tailCallBy effectStop
     tail-stop =
-        all-cause w st s m effectStop (tailCallBy w f c x) (r .operands) (stacksTo (sum - last + size) ∷ []) (length st) refl
+        all-cause w st s m effectStop (tailCallBy prog x) (r .operands) (stacksTo (sum - last + size) ∷ []) (length st) refl
         (stack-stop _ (x .machine .frame + size) (sum - last + size) (ap (λ (i : ℕ). i + size) frame-is))
 
-    plain-call : (r .kind ≡ 7 → ⊥) → effectStop (callOf w f c x) ≡ first (touched st s (r .operands) ++ (stacksTo (sum + size) ∷ []))
+    plain-call : (r .kind ≡ 7 → ⊥) → effectStop (callOf prog x) ≡ first (touched st s (r .operands) ++ (stacksTo (sum + size) ∷ []))
     unfolding callOf
     plain-call h =
-        ap effectStop (ifEq-no (ifTrue (wordGood w (length m) addressAt) (callBy w f c x (argumentsOf w f c x)) (stops 32)) (callBy w f c x (argumentsOf w f c x)) h)
+        ap effectStop (ifEq-no (ifTrue (wordGood w (length m) addressAt) (callBy prog x (argumentsOf prog x)) (stops 32)) (callBy prog x (argumentsOf prog x)) h)
         ∙ call-stop
 
-    at-call : r .kind ≡ 7 → effectStop (callOf w f c x) ≡ first (wordAt addressAt ∷ (touched st s (r .operands) ++ (stacksTo (sum + size) ∷ [])))
+    at-call : r .kind ≡ 7 → effectStop (callOf prog x) ≡ first (wordAt addressAt ∷ (touched st s (r .operands) ++ (stacksTo (sum + size) ∷ [])))
     unfolding callOf
     at-call h =
-        ap effectStop (ifEq-yes (ifTrue (wordGood w (length m) addressAt) (callBy w f c x (argumentsOf w f c x)) (stops 32)) (callBy w f c x (argumentsOf w f c x)) h)
-        ∙ at-first (callBy w f c x (argumentsOf w f c x)) (touched st s (r .operands) ++ (stacksTo (sum + size) ∷ [])) call-stop
+        ap effectStop (ifEq-yes (ifTrue (wordGood w (length m) addressAt) (callBy prog x (argumentsOf prog x)) (stops 32)) (callBy prog x (argumentsOf prog x)) h)
+        ∙ at-first (callBy prog x (argumentsOf prog x)) (touched st s (r .operands) ++ (stacksTo (sum + size) ∷ [])) call-stop
 
     module _ (o p : Operand) (rest : List Operand) (shape : r .operands ≡ take (usedBy (r .kind) (r .expr) (r .count)) (o ∷ p ∷ rest)) where
       operands-as : (k : ℕ) → r .kind ≡ k → r .operands ≡ take (usedBy k (r .expr) (r .count)) (o ∷ p ∷ rest)
@@ -280,15 +290,15 @@ module _ (w : Width) (f : ℕ → Row) (c : ℕ) (x : World) (sum last : ℕ) wh
       tested os =
           onRead (readOf w st s m (operandNo os 0)) (stops 32)
           (λ a. onRead (readOf w st s m (operandNo os 1)) (stops 32)
-          (λ b. goesTo w f c x (ifTrue (testHolds w (r .kind) a b) (suc (x .machine .next)) (r .a))))
+          (λ b. goesTo prog x (ifTrue (testHolds w (r .kind) a b) (suc (x .machine .next)) (r .a))))
 
-      test-stop : r .operands ≡ o ∷ p ∷ [] → effectStop (testOf w f c x) ≡ first (touched st s (o ∷ p ∷ []) ++ [])
+      test-stop : r .operands ≡ o ∷ p ∷ [] → effectStop (testOf prog x) ≡ first (touched st s (o ∷ p ∷ []) ++ [])
       unfolding testOf tested effectStop goesTo touched firstOf
       test-stop q =
           ap (λ (i : List Operand). effectStop (tested i)) q
           ∙ read-cause w st s m effectStop (stops 32)
-          (λ a. onRead (readOf w st s m p) (stops 32) (λ b. goesTo w f c x (ifTrue (testHolds w (r .kind) a b) (suc (x .machine .next)) (r .a)))) o (p ∷ []) [] (length st) refl
-          (read-cause w st s m effectStop (stops 32) (λ b. goesTo w f c x (ifTrue (testHolds w (r .kind) (wordOf w st s m o) b) (suc (x .machine .next)) (r .a))) p [] [] (length st) refl refl)
+          (λ a. onRead (readOf w st s m p) (stops 32) (λ b. goesTo prog x (ifTrue (testHolds w (r .kind) a b) (suc (x .machine .next)) (r .a)))) o (p ∷ []) [] (length st) refl
+          (read-cause w st s m effectStop (stops 32) (λ b. goesTo prog x (ifTrue (testHolds w (r .kind) (wordOf w st s m o) b) (suc (x .machine .next)) (r .a))) p [] [] (length st) refl refl)
 
       kind-14 : r .kind ≡ 14 → Caused
       unfolding Caused doneBy dispatch hasExpression isTest ifTrue ifEq ifLt metBy behindBy isCall usedBy touched firstOf effectStop
@@ -370,7 +380,7 @@ module _ (w : Width) (f : ℕ → Row) (c : ℕ) (x : World) (sum last : ℕ) wh
           ∙ sym (cause-as 7 (r .operands) h refl)
 
       module _ (h0 : r .expr ≡ 0 → ⊥) (h2 : r .expr ≡ 2 → ⊥) (g : expressionListed 13 (r .expr) ≡ true) where
-        worked-stop : r .operands ≡ take (expressionUses (r .expr) (r .count)) (o ∷ p ∷ rest) → stopIn (workedOf w f c x) ≡ first (touched st s (r .operands) ++ operates)
+        worked-stop : r .operands ≡ take (expressionUses (r .expr) (r .count)) (o ∷ p ∷ rest) → stopIn (workedOf prog x) ≡ first (touched st s (r .operands) ++ operates)
         unfolding workedOf operates
         worked-stop q = eval-cause w st s m (length st) (x .machine .top) (r .expr) (r .count) o p rest (r .operands) q h0 h2 g
 
@@ -380,8 +390,8 @@ module _ (w : Width) (f : ℕ → Row) (c : ℕ) (x : World) (sum last : ℕ) wh
         value-5 : r .kind ≡ 5 → Caused
         unfolding Caused doneBy dispatch hasExpression isTest ifTrue ifEq ifLt metBy behindBy isCall usedBy touched firstOf effectStop operates
         value-5 h =
-            ap effectStop (effect-as 5 h ∙ ifTrue-no (callOf w f c x) (assigned w f c x (workedOf w f c x)) (ne-eqb (r .expr) 2 h2))
-            ∙ assigned-stop (workedOf w f c x)
+            ap effectStop (effect-as 5 h ∙ ifTrue-no (callOf prog x) (assigned prog x (workedOf prog x)) (ne-eqb (r .expr) 2 h2))
+            ∙ assigned-stop (workedOf prog x)
             ∙ worked-stop (operands-as 5 h)
             ∙ ap (λ (i : List Meeting). first (touched st s (r .operands) ++ i)) (sym behind-is)
             ∙ sym (cause-as 5 (r .operands) h refl)
@@ -389,8 +399,8 @@ module _ (w : Width) (f : ℕ → Row) (c : ℕ) (x : World) (sum last : ℕ) wh
         value-6 : r .kind ≡ 6 → Caused
         unfolding Caused doneBy dispatch hasExpression isTest ifTrue ifEq ifLt metBy behindBy isCall usedBy touched firstOf effectStop operates
         value-6 h =
-            ap effectStop (effect-as 6 h ∙ ifTrue-no (callOf w f c x) (assigned w f c x (workedOf w f c x)) (ne-eqb (r .expr) 2 h2))
-            ∙ assigned-stop (workedOf w f c x)
+            ap effectStop (effect-as 6 h ∙ ifTrue-no (callOf prog x) (assigned prog x (workedOf prog x)) (ne-eqb (r .expr) 2 h2))
+            ∙ assigned-stop (workedOf prog x)
             ∙ worked-stop (operands-as 6 h)
             ∙ ap (λ (i : List Meeting). first (touched st s (r .operands) ++ i)) (sym behind-is)
             ∙ sym (cause-as 6 (r .operands) h refl)
@@ -398,14 +408,14 @@ module _ (w : Width) (f : ℕ → Row) (c : ℕ) (x : World) (sum last : ℕ) wh
         value-7 : r .kind ≡ 7 → Caused
         unfolding Caused doneBy dispatch hasExpression isTest ifTrue ifEq ifLt metBy behindBy isCall usedBy touched firstOf effectStop operates setAtOf
         value-7 h =
-            ap effectStop (effect-as 7 h ∙ ifTrue-no (callOf w f c x) (setAtOf w f c x) (ne-eqb (r .expr) 2 h2))
-            ∙ at-first (assignedAt w f c x (workedOf w f c x)) (touched st s (r .operands) ++ operates) (assigned-at-stop (workedOf w f c x) ∙ worked-stop (operands-as 7 h))
+            ap effectStop (effect-as 7 h ∙ ifTrue-no (callOf prog x) (setAtOf prog x) (ne-eqb (r .expr) 2 h2))
+            ∙ at-first (assignedAt prog x (workedOf prog x)) (touched st s (r .operands) ++ operates) (assigned-at-stop (workedOf prog x) ∙ worked-stop (operands-as 7 h))
             ∙ ap (λ (i : List Meeting). first (wordAt addressAt ∷ (touched st s (r .operands) ++ i))) (sym behind-is)
             ∙ sym (cause-as 7 (r .operands) h refl)
 
       -- ---- returns
 
-      module _ (home : (v : ℕ) → isReturn r ≡ true → effectStop (handedBy w f c x v (resumptionOf w f c st (suc s) s)) ≡ 0) where
+      module _ (home : (v : ℕ) → isReturn r ≡ true → effectStop (handedBy prog x v (resumptionOf w f c st (suc s) s)) ≡ 0) where
         end-returns : r .kind ≡ 2 → isReturn r ≡ true
         unfolding isReturn
         end-returns h = ap (λ (i : ℕ). oneOf (eqb i 2) (both (eqb i 13) (ifTrue (eqb (r .expr) 2) false true))) h
@@ -413,7 +423,7 @@ module _ (w : Width) (f : ℕ → Row) (c : ℕ) (x : World) (sum last : ℕ) wh
         kind-2 : r .kind ≡ 2 → Caused
         unfolding Caused doneBy dispatch hasExpression isTest ifTrue ifEq ifLt metBy behindBy isCall usedBy touched firstOf effectStop returnOf returned
         kind-2 h =
-            ap effectStop (effect-as 2 h ∙ ifEq-yes (returned w f c x (Value 0 0)) (ifEq (r .expr) 0 (returned w f c x (Value 0 0)) (returned w f c x (workedOf w f c x))) h)
+            ap effectStop (effect-as 2 h ∙ ifEq-yes (returned prog x (Value 0 0)) (ifEq (r .expr) 0 (returned prog x (Value 0 0)) (returned prog x (workedOf prog x))) h)
             ∙ home 0 (end-returns h)
             ∙ sym (cause-as 2 [] h (operands-as 2 h))
 
@@ -423,18 +433,18 @@ module _ (w : Width) (f : ℕ → Row) (c : ℕ) (x : World) (sum last : ℕ) wh
           it-returns =
               ap (λ (i : ℕ). oneOf (eqb i 2) (both (eqb i 13) (ifTrue (eqb (r .expr) 2) false true))) h ∙ ifTrue-no false true (ne-eqb (r .expr) 2 h2)
 
-          return-effect : effectOf w f c x ≡ ifEq (r .expr) 0 (returned w f c x (Value 0 0)) (returned w f c x (workedOf w f c x))
+          return-effect : effectOf prog x ≡ ifEq (r .expr) 0 (returned prog x (Value 0 0)) (returned prog x (workedOf prog x))
           unfolding Caused doneBy dispatch hasExpression isTest ifTrue ifEq ifLt metBy behindBy isCall usedBy touched firstOf effectStop returnOf
           return-effect =
               effect-as 13 h
-              ∙ ifTrue-no (callOf w f c x) (ifTrue (ifTrue (eqb (r .expr) 2) false true) (returnOf w f c x) (goesTo w f c x (r .a))) (ne-eqb (r .expr) 2 h2)
-              ∙ ifTrue-yes (returnOf w f c x) (goesTo w f c x (r .a)) (ifTrue-no false true (ne-eqb (r .expr) 2 h2))
-              ∙ ifEq-no {a = r .kind} {b = 2} (returned w f c x (Value 0 0)) (ifEq (r .expr) 0 (returned w f c x (Value 0 0)) (returned w f c x (workedOf w f c x))) (λ q. omega (arith, q, h))
+              ∙ ifTrue-no (callOf prog x) (ifTrue (ifTrue (eqb (r .expr) 2) false true) (returnOf prog x) (goesTo prog x (r .a))) (ne-eqb (r .expr) 2 h2)
+              ∙ ifTrue-yes (returnOf prog x) (goesTo prog x (r .a)) (ifTrue-no false true (ne-eqb (r .expr) 2 h2))
+              ∙ ifEq-no {a = r .kind} {b = 2} (returned prog x (Value 0 0)) (ifEq (r .expr) 0 (returned prog x (Value 0 0)) (returned prog x (workedOf prog x))) (λ q. omega (arith, q, h))
 
           bare-13 : r .expr ≡ 0 → Caused
           unfolding Caused doneBy dispatch hasExpression isTest ifTrue ifEq ifLt metBy behindBy isCall usedBy touched firstOf effectStop returned expressionUses isOperator operatorMeets operatorOf lineIn operators
           bare-13 q =
-              ap effectStop (return-effect ∙ ifEq-yes (returned w f c x (Value 0 0)) (returned w f c x (workedOf w f c x)) q)
+              ap effectStop (return-effect ∙ ifEq-yes (returned prog x (Value 0 0)) (returned prog x (workedOf prog x)) q)
               ∙ home 0 it-returns
               ∙ sym
               (cause-as 13 [] h (operands-as 13 h ∙ ap (λ (e : ℕ). take (usedBy 13 e (r .count)) (o ∷ p ∷ rest)) q)
@@ -443,15 +453,15 @@ module _ (w : Width) (f : ℕ → Row) (c : ℕ) (x : World) (sum last : ℕ) wh
           value-13 : (r .expr ≡ 0 → ⊥) → expressionListed 13 (r .expr) ≡ true → Caused
           unfolding Caused doneBy dispatch hasExpression isTest ifTrue ifEq ifLt metBy behindBy isCall usedBy touched firstOf effectStop operates
           value-13 h0 g =
-              ap effectStop (return-effect ∙ ifEq-no (returned w f c x (Value 0 0)) (returned w f c x (workedOf w f c x)) h0)
-              ∙ returned-stop (λ v. home v it-returns) (workedOf w f c x)
+              ap effectStop (return-effect ∙ ifEq-no (returned prog x (Value 0 0)) (returned prog x (workedOf prog x)) h0)
+              ∙ returned-stop (λ v. home v it-returns) (workedOf prog x)
               ∙ worked-stop h0 h2 g (operands-as 13 h)
               ∙ ap (λ (i : List Meeting). first (touched st s (r .operands) ++ i)) (sym (behind-is h0 h2 g))
               ∙ sym (cause-as 13 (r .operands) h refl)
 
         -- ---- all kinds
 
-        module _ (sound : kindFault f (x .machine .next) ≡ false) where
+        module _ (sound : kindFault prog (x .machine .next) ≡ false) where
           listed : (k : ℕ) → hasExpression k ≡ true → r .kind ≡ k → expressionListed k (r .expr) ≡ true
           unfolding kindFault
           listed k q h =
@@ -543,16 +553,16 @@ module _ (w : Width) (f : ℕ → Row) (c : ℕ) (x : World) (sum last : ℕ) wh
 
 -- "A statement stops exactly when such a cause is there, with the number of the first it meets."
 pub effect-cause : (w : Width) (t : Tables) (x : World) (sum last : ℕ)
-    → kindFault (rows t) (x .machine .next) ≡ false
+    → kindFault (programFrom w t) (x .machine .next) ≡ false
     → (rows t (x .machine .next) .kind ≡ 1 → ⊥)
     → x .machine .used ≡ sum
     → x .machine .frame ≡ sum - last
     → ((v : ℕ) → isReturn (rows t (x .machine .next)) ≡ true
-    → effectStop (handedBy w (rows t) (t .count) x v (resumptionOf w (rows t) (t .count) (x .stack) (suc (x .machine .frame)) (x .machine .frame))) ≡ 0)
-    → effectStop (effectOf w (rows t) (t .count) x) ≡ firstCause w (rows t) sum last x
+    → effectStop (handedBy (programFrom w t) x v (resumptionOf w (rows t) (t .count) (x .stack) (suc (x .machine .frame)) (x .machine .frame))) ≡ 0)
+    → effectStop (effectOf (programFrom w t) x) ≡ firstCause (programFrom w t) sum last x
 unfolding rowAt rowFrom slots Caused
 effect-cause w t x sum last sound h1 used-is frame-is home =
-    caused w (rows t) (t .count) x sum last used-is frame-is
+    caused (programFrom w t) x sum last used-is frame-is
     (operandAt (t .statements) (x .machine .next * 27 + 11)) (operandAt (t .statements) (x .machine .next * 27 + 13))
     (operandAt (t .statements) (x .machine .next * 27 + 15) ∷ operandAt (t .statements) (x .machine .next * 27 + 17)
     ∷ operandAt (t .statements) (x .machine .next * 27 + 19) ∷ operandAt (t .statements) (x .machine .next * 27 + 21)

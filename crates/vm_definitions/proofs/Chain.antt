@@ -18,6 +18,7 @@ use Rattle.base_limits.specs.Record.{mark}
 use Rattle.prog_tables.specs.Tests.{both, oneOf}
 use Rattle.prog_tables.specs.Statement.{Row}
 use Rattle.prog_tables.specs.Label.{Tables, rows}
+use Rattle.prog_tables.specs.Program.{programFrom}
 use Rattle.prog_tables.specs.Faults.{inFunction, sizeAt}
 use Rattle.prog_tables.specs.WellFormed.{WellFormed}
 use Rattle.prog_tables.proofs.Each.{both-true}
@@ -91,13 +92,13 @@ pub invariant-frame : (w : Width) (t : Tables) (e : Entry) (es : Ledger) (x : Wo
 unfolding sumOf lastOf
 invariant-frame w t e es x i = omega (arith, under-sum w t (length (x .memory)) (x .stack) (e .call) es (x .machine .frame) (i .under))
 
-module _ (w : Width) (t : Tables) (ok : WellFormed t) (m : ℕ) (st : List ℕ) where
+module _ (w : Width) (t : Tables) (ok : WellFormed (programFrom w t)) (m : ℕ) (st : List ℕ) where
   -- the size of a frame's function
   pub frame-size : (g s p : ℕ) → FrameAt w t m st g s p → sizeAt (rows t) (t .count) p ≡ rows t g .a
-  frame-size g s p x = size-here t ok p (x .within) ∙ ap (λ (n : ℕ). rows t n .a) (x .func)
+  frame-size g s p x = size-here w t ok p (x .within) ∙ ap (λ (n : ℕ). rows t n .a) (x .func)
 
   pub frame-some : (g s p : ℕ) → FrameAt w t m st g s p → 3 ≤ rows t g .a
-  frame-some g s p x = omega (arith, size-at t ok p (x .within) .head, ap (λ (n : ℕ). rows t n .a) (x .func))
+  frame-some g s p x = omega (arith, size-at w t ok p (x .within) .head, ap (λ (n : ℕ). rows t n .a) (x .func))
 
   -- ---- heads
 
@@ -123,7 +124,7 @@ module _ (w : Width) (t : Tables) (ok : WellFormed t) (m : ℕ) (st : List ℕ) 
         at : both (ltb c (t .count)) (both (inFunction (rows t) (t .count) c) (both (isCalling (rows t c)) (eqb (callerFrame st s + sizeAt (rows t) (t .count) c) s))) ≡ true
         at =
             both-true (ltb c (t .count)) (both (inFunction (rows t) (t .count) c) (both (isCalling (rows t c)) (eqb (callerFrame st s + sizeAt (rows t) (t .count) c) s))) (lt-ltb _ _ (h .frame .within))
-            (both-true (inFunction (rows t) (t .count) c) (both (isCalling (rows t c)) (eqb (callerFrame st s + sizeAt (rows t) (t .count) c) s)) (function-sound t ok c (h .frame .within))
+            (both-true (inFunction (rows t) (t .count) c) (both (isCalling (rows t c)) (eqb (callerFrame st s + sizeAt (rows t) (t .count) c) s)) (function-sound w t ok c (h .frame .within))
             (both-true (isCalling (rows t c)) (eqb (callerFrame st s + sizeAt (rows t) (t .count) c) s) (h .calls)
             (eq-eqb _ _ (ap (λ (n : ℕ). callerFrame st s + n) (frame-size g (callerFrame st s) c (h .frame)) ∙ h .ends))))
 

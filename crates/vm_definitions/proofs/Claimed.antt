@@ -17,6 +17,7 @@ use Rattle.base_limits.specs.declared.State.the-variants.{Running, Finished, St
 use Rattle.base_limits.specs.declared.Machine.{Machine}
 use Rattle.base_limits.specs.Record.{stopped, withState}
 use Rattle.prog_tables.specs.Label.{Tables, rows}
+use Rattle.prog_tables.specs.Program.{programFrom}
 use Rattle.vm_definitions.specs.Step.{World, Effect, stops, leaves, effectStop, effectOf, After, idle, effected, stepOf, counting, runOf}
 use Rattle.vm_definitions.specs.Start.{startOf, startLeaves, startBy, startAnswer, startWorld, startedFunction, begunBy}
 use Rattle.vm_definitions.specs.Causes.{firstCause, meetingsOf, readsOf}
@@ -77,34 +78,34 @@ module _ (w : Width) (t : Tables) (bytes : List ℕ) (p : Parts w t bytes) where
   -- ---- the next step
 
   module _ (e : Entry) (es : Ledger) (x : World) (s : x .machine .state ≡ Running) (i : Invariant w t e es x) where
-    counts-one : causeIn w t (e ∷ es) x ≡ 0 → stepOf w t x .count ≡ 1
+    counts-one : causeIn (programFrom w t) (e ∷ es) x ≡ 0 → stepOf (programFrom w t) x .count ≡ 1
     unfolding effectStop
-    counts-one z = go (effectOf w (rows t) (t .count) x) refl
+    counts-one z = go (effectOf (programFrom w t) x) refl
       where
-        go : (f : Effect) → effectOf w (rows t) (t .count) x ≡ f → stepOf w t x .count ≡ 1
+        go : (f : Effect) → effectOf (programFrom w t) x ≡ f → stepOf (programFrom w t) x .count ≡ 1
         go (stops k) q =
             absurd
-            (let a : k ≡ causeIn w t (e ∷ es) x = sym (ap effectStop q) ∙ p .cause e es x i in
+            (let a : k ≡ causeIn (programFrom w t) (e ∷ es) x = sym (ap effectStop q) ∙ p .cause e es x i in
             let b : 0 < k = p .numbered e es x k s i q in omega (arith, a, b, z))
         go (leaves y) q = ap (λ (y : After). y .count) (runs-as w t bytes p e es x s i ∙ ap (effected x) q) ∙ effected-count x y
 
-    stop-effect : 0 < causeIn w t (e ∷ es) x → stepOf w t x ≡ effected x (stops (causeIn w t (e ∷ es) x))
+    stop-effect : 0 < causeIn (programFrom w t) (e ∷ es) x → stepOf (programFrom w t) x ≡ effected x (stops (causeIn (programFrom w t) (e ∷ es) x))
     unfolding effectStop
-    stop-effect z = go (effectOf w (rows t) (t .count) x) refl
+    stop-effect z = go (effectOf (programFrom w t) x) refl
       where
-        go : (f : Effect) → effectOf w (rows t) (t .count) x ≡ f → stepOf w t x ≡ effected x (stops (causeIn w t (e ∷ es) x))
+        go : (f : Effect) → effectOf (programFrom w t) x ≡ f → stepOf (programFrom w t) x ≡ effected x (stops (causeIn (programFrom w t) (e ∷ es) x))
         go (stops k) q = runs-as w t bytes p e es x s i ∙ ap (effected x) (q ∙ ap stops (sym (ap effectStop q) ∙ p .cause e es x i))
-        go (leaves y) q = absurd (let a : 0 ≡ causeIn w t (e ∷ es) x = sym (ap effectStop q) ∙ p .cause e es x i in omega (arith, a, z))
+        go (leaves y) q = absurd (let a : 0 ≡ causeIn (programFrom w t) (e ∷ es) x = sym (ap effectStop q) ∙ p .cause e es x i in omega (arith, a, z))
 
-    step-sound : StepSound w t (e ∷ es) x
+    step-sound : StepSound (programFrom w t) (e ∷ es) x
     step-sound =
         record {
           whole = step-whole w t bytes p (length (x .memory)) (e ∷ es) x (runs e es x refl s i);
           counts = counts-one;
-          stops = λ z. ap (λ (y : After). y .world .machine) (stop-effect z) ∙ effected-machine x (causeIn w t (e ∷ es) x);
-          still = λ z. ap (λ (y : After). y .world .stack) (stop-effect z) ∙ effected-stack x (causeIn w t (e ∷ es) x);
-          kept = λ z. ap (λ (y : After). y .world .memory) (stop-effect z) ∙ effected-memory x (causeIn w t (e ∷ es) x);
-          uncounted = λ z. ap (λ (y : After). y .count) (stop-effect z) ∙ effected-stop x (causeIn w t (e ∷ es) x);
+          stops = λ z. ap (λ (y : After). y .world .machine) (stop-effect z) ∙ effected-machine x (causeIn (programFrom w t) (e ∷ es) x);
+          still = λ z. ap (λ (y : After). y .world .stack) (stop-effect z) ∙ effected-stack x (causeIn (programFrom w t) (e ∷ es) x);
+          kept = λ z. ap (λ (y : After). y .world .memory) (stop-effect z) ∙ effected-memory x (causeIn (programFrom w t) (e ∷ es) x);
+          uncounted = λ z. ap (λ (y : After). y .count) (stop-effect z) ∙ effected-stop x (causeIn (programFrom w t) (e ∷ es) x);
           listed = p .listed (e ∷ es) x;
           full = p .full e es x i;
           fullOnly = p .fullOnly e es x i;
@@ -112,22 +113,22 @@ module _ (w : Width) (t : Tables) (bytes : List ℕ) (p : Parts w t bytes) where
 
   -- ---- a good world is sound
 
-  pub good-sound : (m : ℕ) (es : Ledger) (x : World) → Good w t m es x → Sound w t es x
+  pub good-sound : (m : ℕ) (es : Ledger) (x : World) → Good w t m es x → Sound (programFrom w t) es x
   unfolding StateSound runningWith withState isFinished sumOf
   good-sound m _ _ (runs e es x l s i) =
       record {
         finished = λ q. absurd (cons-some e es q);
-        state = subst (StateSound w t (e ∷ es) x) (sym s) (λ b h. step-sound e es (runningWith x b) refl (with-state w t e es x i Running b h));
+        state = subst (StateSound (programFrom w t) (e ∷ es) x) (sym s) (λ b h. step-sound e es (runningWith x b) refl (with-state w t e es x i Running b h));
         used = p .sums e es x i;
       }
   good-sound m _ _ (stopsAt e es x k n l s i g) =
       record {
         finished = λ q. absurd (cons-some e es q);
-        state = subst (StateSound w t (e ∷ es) x) (sym s) g;
+        state = subst (StateSound (programFrom w t) (e ∷ es) x) (sym s) g;
         used = p .sums e es x i;
       }
   good-sound m _ _ (ends x v l s u) =
-      record { finished = λ q. ap isFinished s; state = subst (StateSound w t [] x) (sym s) refl; used = u }
+      record { finished = λ q. ap isFinished s; state = subst (StateSound (programFrom w t) [] x) (sym s) refl; used = u }
 
   -- ---- invocations
 
@@ -136,90 +137,90 @@ module _ (w : Width) (t : Tables) (bytes : List ℕ) (p : Parts w t bytes) where
       pub good : Good w t m (ledgerOf (rows t) es (l .events)) (l .world)
       pub whole : l .broken ≡ No
 
-    one-world : (x : World) → runOf w t 1 x .world ≡ stepOf w t x .world
+    one-world : (x : World) → runOf (programFrom w t) 1 x .world ≡ stepOf (programFrom w t) x .world
     unfolding runOf counting idle
     one-world x =
-        elim (ℕ-discrete (stepOf w t x .count) 0) [
-          | yes z ↦ ap (λ (y : After). y .world) (ifEq-yes (stepOf w t x) (counting 1 (runOf w t 0 (stepOf w t x .world))) z)
-          | no z ↦ ap (λ (y : After). y .world) (ifEq-no (stepOf w t x) (counting 1 (runOf w t 0 (stepOf w t x .world))) z)
+        elim (ℕ-discrete (stepOf (programFrom w t) x .count) 0) [
+          | yes z ↦ ap (λ (y : After). y .world) (ifEq-yes (stepOf (programFrom w t) x) (counting 1 (runOf (programFrom w t) 0 (stepOf (programFrom w t) x .world))) z)
+          | no z ↦ ap (λ (y : After). y .world) (ifEq-no (stepOf (programFrom w t) x) (counting 1 (runOf (programFrom w t) 0 (stepOf (programFrom w t) x .world))) z)
         ]
 
-    begun-good : (name args : List ℕ) (es : Ledger) (x : World) → length (x .memory) ≡ m → startOf w t bytes name args x ≡ Begun
-        → InvocationGood (calledOn w t bytes (start name args) x) es
+    begun-good : (name args : List ℕ) (es : Ledger) (x : World) → length (x .memory) ≡ m → startOf (programFrom w t) bytes name args x ≡ Begun
+        → InvocationGood (calledOn (programFrom w t) bytes (start name args) x) es
     unfolding calledOn startEvents startBroke ledgerOf fed
     begun-good name args es x l q =
         record {
           good =
-              subst (λ (a : Started). Good w t m (ledgerOf (rows t) es (startEvents (startedFunction w t bytes name args x) a)) (startLeaves w t bytes name args x)) (sym q)
-              (subst (λ (n : ℕ). Good w t n (record { func = startedFunction w t bytes name args x; call = none } ∷ []) (startLeaves w t bytes name args x)) l
+              subst (λ (a : Started). Good w t m (ledgerOf (rows t) es (startEvents (startedFunction (programFrom w t) bytes name args x) a)) (startLeaves (programFrom w t) bytes name args x)) (sym q)
+              (subst (λ (n : ℕ). Good w t n (record { func = startedFunction (programFrom w t) bytes name args x; call = none } ∷ []) (startLeaves (programFrom w t) bytes name args x)) l
               (p .begun name args x q));
           whole = ap startBroke q;
         }
 
     start-good : (name args : List ℕ) (es : Ledger) (x : World) → length (x .memory) ≡ m → Good w t m es x
-        → InvocationGood (calledOn w t bytes (start name args) x) es
+        → InvocationGood (calledOn (programFrom w t) bytes (start name args) x) es
     unfolding calledOn startLeaves begunBy startEvents startBroke ledgerOf
-    start-good name args es x l g = go (startOf w t bytes name args x) refl
+    start-good name args es x l g = go (startOf (programFrom w t) bytes name args x) refl
       where
-        go : (a : Started) → startOf w t bytes name args x ≡ a → InvocationGood (calledOn w t bytes (start name args) x) es
+        go : (a : Started) → startOf (programFrom w t) bytes name args x ≡ a → InvocationGood (calledOn (programFrom w t) bytes (start name args) x) es
         go Begun q = begun-good name args es x l q
         go (Refused k) q =
             record {
               good =
-                  subst (λ (a : Started). Good w t m (ledgerOf (rows t) es (startEvents (startedFunction w t bytes name args x) a)) (begunBy w t bytes name args x a)) (sym q) g;
+                  subst (λ (a : Started). Good w t m (ledgerOf (rows t) es (startEvents (startedFunction (programFrom w t) bytes name args x) a)) (begunBy (programFrom w t) bytes name args x a)) (sym q) g;
               whole = ap startBroke q;
             }
         go (Unsound b) q = absurd (p .unbroken name args x b q)
 
-    call-good : (c : Call) (es : Ledger) (x : World) → length (x .memory) ≡ m → Good w t m es x → InvocationGood (calledOn w t bytes c x) es
+    call-good : (c : Call) (es : Ledger) (x : World) → length (x .memory) ≡ m → Good w t m es x → InvocationGood (calledOn (programFrom w t) bytes c x) es
     unfolding calledOn
     call-good (start name args) es x l g = start-good name args es x l g
     call-good step es x l g =
         record {
-          good = subst (λ (y : World). Good w t m (ledgerOf (rows t) es (eventsOf w t 1 x)) y) (one-world x) (run-good w t bytes p m 1 es x g .good);
+          good = subst (λ (y : World). Good w t m (ledgerOf (rows t) es (eventsOf (programFrom w t) 1 x)) y) (one-world x) (run-good w t bytes p m 1 es x g .good);
           whole = step-whole w t bytes p m es x g;
         }
     call-good (run b) es x l g = record { good = run-good w t bytes p m b es x g .good; whole = run-good w t bytes p m b es x g .whole }
 
-    invocation-good : (c : Invocation) (es : Ledger) (x : World) → length (c .memory) ≡ m → Good w t m es x → InvocationGood (invokedOn w t bytes c x) es
+    invocation-good : (c : Invocation) (es : Ledger) (x : World) → length (c .memory) ≡ m → Good w t m es x → InvocationGood (invokedOn (programFrom w t) bytes c x) es
     unfolding invokedOn
     invocation-good c es x l g = call-good (c .call) es (record { machine = x .machine; stack = x .stack; memory = c .memory }) l (good-bytes w t m es x g (c .memory) l)
 
     -- ---- lists of invocations
 
     pub record ListGood (es : Ledger) (x : World) (cs : List Invocation) : Type 0 where
-      pub good : Good w t m (ledgerOf (rows t) es (eventsAfter w t bytes x cs)) (worldAfter w t bytes x cs)
-      pub whole : NoneBroken (refusalsAfter w t bytes x cs)
+      pub good : Good w t m (ledgerOf (rows t) es (eventsAfter (programFrom w t) bytes x cs)) (worldAfter (programFrom w t) bytes x cs)
+      pub whole : NoneBroken (refusalsAfter (programFrom w t) bytes x cs)
 
     pub list-good : (cs : List Invocation) (es : Ledger) (x : World) → AllLong m cs → Good w t m es x → ListGood es x cs
     unfolding AllLong NoneBroken eventsAfter worldAfter refusalsAfter ledgerOf
     list-good [] es x a g = record { good = g; whole = tt }
     list-good (c ∷ cs) es x (l, a) g =
-        behind (invocation-good c es x l g) (list-good cs (ledgerOf (rows t) es (invokedOn w t bytes c x .events)) (invokedOn w t bytes c x .world) a (invocation-good c es x l g .good))
+        behind (invocation-good c es x l g) (list-good cs (ledgerOf (rows t) es (invokedOn (programFrom w t) bytes c x .events)) (invokedOn (programFrom w t) bytes c x .world) a (invocation-good c es x l g .good))
       where
-        behind : InvocationGood (invokedOn w t bytes c x) es → ListGood (ledgerOf (rows t) es (invokedOn w t bytes c x .events)) (invokedOn w t bytes c x .world) cs → ListGood es x (c ∷ cs)
+        behind : InvocationGood (invokedOn (programFrom w t) bytes c x) es → ListGood (ledgerOf (rows t) es (invokedOn (programFrom w t) bytes c x .events)) (invokedOn (programFrom w t) bytes c x .world) cs → ListGood es x (c ∷ cs)
         behind h r =
             record {
               good =
-                  subst (λ (us : Ledger). Good w t m us (worldAfter w t bytes (invokedOn w t bytes c x .world) cs))
-                  (sym (ledger-both t es (invokedOn w t bytes c x .events) (eventsAfter w t bytes (invokedOn w t bytes c x .world) cs))) (r .good);
+                  subst (λ (us : Ledger). Good w t m us (worldAfter (programFrom w t) bytes (invokedOn (programFrom w t) bytes c x .world) cs))
+                  (sym (ledger-both t es (invokedOn (programFrom w t) bytes c x .events) (eventsAfter (programFrom w t) bytes (invokedOn (programFrom w t) bytes c x .world) cs))) (r .good);
               whole = (h .whole, r .whole);
             }
 
   -- ---- the demand
 
-  pub demand-holds : Demand w t bytes
+  pub demand-holds : Demand (programFrom w t) bytes
   unfolding Demand startedBy NoneBroken eventsAfter worldAfter refusalsAfter invokedOn startOf startBy startAnswer
   demand-holds x name args cs e a = behind (begun-good (length (x .memory)) name args [] (withBytes w t 0 x (x .memory)) refl e)
     where
       first : Invocation
       first = record { call = start name args; memory = x .memory }
 
-      behind : InvocationGood (length (x .memory)) (invokedOn w t bytes first x) [] → Sound w t (ledgerOf (rows t) [] (eventsAfter w t bytes x (first ∷ cs))) (worldAfter w t bytes x (first ∷ cs))
-          × NoneBroken (refusalsAfter w t bytes x (first ∷ cs))
+      behind : InvocationGood (length (x .memory)) (invokedOn (programFrom w t) bytes first x) [] → Sound (programFrom w t) (ledgerOf (rows t) [] (eventsAfter (programFrom w t) bytes x (first ∷ cs))) (worldAfter (programFrom w t) bytes x (first ∷ cs))
+          × NoneBroken (refusalsAfter (programFrom w t) bytes x (first ∷ cs))
       behind h = (
-        subst (λ (us : Ledger). Sound w t us (worldAfter w t bytes (invokedOn w t bytes first x .world) cs))
-            (sym (ledger-both t [] (invokedOn w t bytes first x .events) (eventsAfter w t bytes (invokedOn w t bytes first x .world) cs)))
+        subst (λ (us : Ledger). Sound (programFrom w t) us (worldAfter (programFrom w t) bytes (invokedOn (programFrom w t) bytes first x .world) cs))
+            (sym (ledger-both t [] (invokedOn (programFrom w t) bytes first x .events) (eventsAfter (programFrom w t) bytes (invokedOn (programFrom w t) bytes first x .world) cs)))
             (good-sound (length (x .memory)) _ _ (list-good (length (x .memory)) cs _ _ a (h .good) .good)),
         (h .whole, list-good (length (x .memory)) cs _ _ a (h .good) .whole),
       )

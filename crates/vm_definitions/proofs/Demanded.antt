@@ -22,6 +22,7 @@ use Rattle.base_limits.specs.declared.State.the-variants.{Running}
 use Rattle.base_limits.specs.Record.{freshOf}
 use Rattle.prog_tables.specs.Tests.{oneOf, some, someBelow}
 use Rattle.prog_tables.specs.Label.{Tables, rows, labelsOf}
+use Rattle.prog_tables.specs.Program.{programFrom}
 use Rattle.prog_tables.specs.Faults.{rowFault, labelFault, countFault, tablesFault}
 use Rattle.prog_tables.specs.WellFormed.{WellFormed}
 use Rattle.prog_tables.proofs.Sound.{kind-sound}
@@ -38,7 +39,7 @@ use Rattle.vm_definitions.specs.declared.Started.{Started}
 use Rattle.vm_definitions.specs.declared.Started.the-variants.{Begun, Refused, Unsound}
 use Rattle.vm_definitions.proofs.Invariant.{Invariant}
 use Rattle.vm_definitions.proofs.Chain.{invariant-sum, invariant-frame}
-use Rattle.vm_definitions.proofs.Guard.{Low, low-none, low-cons, lowest-none, gate-open, hand-safe, neither}
+use Rattle.vm_definitions.proofs.Guard.{Low, low-none, low-cons, lowest-none, statements-sound, labels-sound, gate-open, hand-safe, neither}
 use Rattle.vm_definitions.proofs.Stores.{store-length}
 use Rattle.vm_definitions.proofs.Causes.{effect-cause}
 use Rattle.vm_definitions.proofs.Listed.{step-listed, step-full, step-full-only}
@@ -60,32 +61,29 @@ unfolding numbersBelow
 low-below c zero h = low-none c
 low-below c (suc n) h = low-cons c n (numbersBelow n) h (low-below c n (omega (arith, h)))
 
-module _ (w : Width) (t : Tables) (good : WellFormed t) (bytes : List ℕ) (lent : t .dataLength ≤ length bytes) where
+module _ (w : Width) (t : Tables) (good : WellFormed (programFrom w t)) (bytes : List ℕ) (lent : t .dataLength ≤ length bytes) where
   abbrev labelBad : ℕ → Bool
-  labelBad n = labelFault (rows t) (t .count) (t .dataLength) (labelsOf t n)
+  labelBad n = labelFault (programFrom w t) (labelsOf t n)
 
   abbrev rowBad : ℕ → Bool
-  rowBad = rowFault (rows t) (t .count) (t .dataLength)
-
-  counts-whole : countFault t ≡ false
-  unfolding tablesFault some
-  counts-whole = neither-left (countFault t) (oneOf (someBelow rowBad (t .count)) (oneOf (someBelow labelBad (t .labelCount)) false)) (tables-sound t good)
+  rowBad = rowFault (programFrom w t)
 
   labels-whole : someBelow labelBad (t .labelCount) ≡ false
   unfolding tablesFault some
   labels-whole =
       neither-left (someBelow labelBad (t .labelCount)) false
       (neither-right (someBelow rowBad (t .count)) (oneOf (someBelow labelBad (t .labelCount)) false)
-      (neither-right (countFault t) (oneOf (someBelow rowBad (t .count)) (oneOf (someBelow labelBad (t .labelCount)) false)) (tables-sound t good)))
+      (neither-right (countFault (programFrom w t)) (oneOf (someBelow rowBad (t .count)) (oneOf (someBelow labelBad (t .labelCount)) false)) (tables-sound w t good)))
 
   -- no start gives 35
-  start-whole : startBroken t (length bytes) ≡ No
-  unfolding startBroken orElse
+  start-whole : startBroken (programFrom w t) (length bytes) ≡ No
+  unfolding startBroken orElse some
   start-whole =
-      ifTrue-no _ _ (neither (countFault t) (ltb (length bytes) (t .dataLength)) counts-whole (le-ltb (length bytes) (t .dataLength) lent))
-      ∙ ap (λ (b : Broken). orElse b (ifTrue (someBelow labelBad (t .labelCount)) Somewhere No))
-      (lowest-none rowBad (t .count) (row-sound t good) (numbersBelow (t .count)) (low-below (t .count) (t .count) (omega arith)))
-      ∙ ifTrue-no _ _ labels-whole
+      ifTrue-no _ _ (statements-sound w t good)
+      ∙ ap (λ (b : Broken). orElse b (ifTrue (oneOf (programFrom w t .labelsPast) (oneOf (ltb (length bytes) (t .dataLength)) (oneOf (someBelow labelBad (t .labelCount)) false))) Somewhere No))
+      (lowest-none rowBad (t .count) (row-sound w t good) (numbersBelow (t .count)) (low-below (t .count) (t .count) (omega arith)))
+      ∙ ifTrue-no _ _
+      (neither _ _ (labels-sound w t good) (neither _ _ (le-ltb (length bytes) (t .dataLength) lent) (neither _ _ labels-whole refl)))
 
   module _ (name args : List ℕ) (x : World) where
     unfoldable Whole : Started → Type 0
@@ -97,7 +95,7 @@ module _ (w : Width) (t : Tables) (good : WellFormed t) (bytes : List ℕ) (lent
     unfolding Whole
     refusals n = tt
 
-    answer-whole : Whole (startAnswer w t bytes name args x)
+    answer-whole : Whole (startAnswer (programFrom w t) bytes name args x)
     unfolding startAnswer Whole
     answer-whole =
         either Whole _ _ _ _
@@ -106,37 +104,37 @@ module _ (w : Width) (t : Tables) (good : WellFormed t) (bytes : List ℕ) (lent
         (λ b. refusals 21))
         (λ a. refusals 20)
 
-    started-whole : Whole (startOf w t bytes name args x)
+    started-whole : Whole (startOf (programFrom w t) bytes name args x)
     unfolding startOf startBy
-    started-whole = subst (λ (b : Broken). Whole (startBy w t bytes name args x b)) (sym start-whole) answer-whole
+    started-whole = subst (λ (b : Broken). Whole (startBy (programFrom w t) bytes name args x b)) (sym start-whole) answer-whole
 
-    unsound : (b : Broken) → startOf w t bytes name args x ≡ Unsound b → ⊥
+    unsound : (b : Broken) → startOf (programFrom w t) bytes name args x ≡ Unsound b → ⊥
     unfolding Whole
     unsound b q = subst Whole q started-whole
 
     -- an accepted start leaves a good world
-    begins : startOf w t bytes name args x ≡ Begun
-        → Good w t (length (x .memory)) (record { func = startedFunction w t bytes name args x; call = none } ∷ []) (startLeaves w t bytes name args x)
+    begins : startOf (programFrom w t) bytes name args x ≡ Begun
+        → Good w t (length (x .memory)) (record { func = startedFunction (programFrom w t) bytes name args x; call = none } ∷ []) (startLeaves (programFrom w t) bytes name args x)
     unfolding startLeaves begunBy startWorld freshOf
     begins q =
-        runs _ [] (startLeaves w t bytes name args x)
-        (ap (λ (a : Started). length (begunBy w t bytes name args x a .memory)) q ∙ store-length (x .memory) 0 _)
-        (ap (λ (a : Started). begunBy w t bytes name args x a .machine .state) q)
+        runs _ [] (startLeaves (programFrom w t) bytes name args x)
+        (ap (λ (a : Started). length (begunBy (programFrom w t) bytes name args x a .memory)) q ∙ store-length (x .memory) 0 _)
+        (ap (λ (a : Started). begunBy (programFrom w t) bytes name args x a .machine .state) q)
         (start.begun w t good bytes name args x q)
 
   module _ (e : Entry) (es : Ledger) (x : World) (i : Invariant w t e es x) where
-    cause-is : effectStop (effectOf w (rows t) (t .count) x) ≡ causeIn w t (e ∷ es) x
+    cause-is : effectStop (effectOf (programFrom w t) x) ≡ causeIn (programFrom w t) (e ∷ es) x
     unfolding causeIn
     cause-is =
-        effect-cause w t x (sumOf (rows t) (e ∷ es)) (lastOf (rows t) (e ∷ es)) (kind-sound t good (x .machine .next) (i .frame .within)) (i .frame .inside)
+        effect-cause w t x (sumOf (rows t) (e ∷ es)) (lastOf (rows t) (e ∷ es)) (kind-sound w t good (x .machine .next) (i .frame .within)) (i .frame .inside)
         (invariant-sum w t e es x i) (invariant-frame w t e es x i) (λ v r. hand-safe w t good e es x i v)
 
-    leads-on : (s : x .machine .state ≡ Running) (y : World) → effectOf w (rows t) (t .count) x ≡ leaves y
+    leads-on : (s : x .machine .state ≡ Running) (y : World) → effectOf (programFrom w t) x ≡ leaves y
         → Good w t (length (x .memory)) (countedIn (rows t) (x .machine .next) (e ∷ es)) y
     unfolding Leads
     leads-on s y q = subst (Leads w t good e es x s i) q (leads w t good e es x s i)
 
-    stop-some : (s : x .machine .state ≡ Running) (k : ℕ) → effectOf w (rows t) (t .count) x ≡ stops k → 0 < k
+    stop-some : (s : x .machine .state ≡ Running) (k : ℕ) → effectOf (programFrom w t) x ≡ stops k → 0 < k
     unfolding Leads
     stop-some s k q = subst (Leads w t good e es x s i) q (leads w t good e es x s i)
 
@@ -156,5 +154,5 @@ module _ (w : Width) (t : Tables) (good : WellFormed t) (bytes : List ℕ) (lent
       }
 
   -- theorem A: the demand for well-formed tables and data that holds their data's length
-  pub demanded : Demand w t bytes
+  pub demanded : Demand (programFrom w t) bytes
   demanded = demand-holds w t bytes parts

@@ -18,6 +18,7 @@ use Rattle.base_word.specs.declared.Answer.{Answer}
 use Rattle.base_word.specs.declared.Answer.the-variants.{Word, Division, Shift}
 use Rattle.prog_tables.specs.Layout.{plain, noExpression}
 use Rattle.prog_tables.specs.Statement.{Row, isTest}
+use Rattle.prog_tables.specs.Program.{Program}
 use Rattle.prog_tables.specs.declared.Operand.{Operand}
 use Rattle.vm_definitions.specs.Access.{byteAddress, wordAddress, byteGood, wordGood, storeFrom}
 use Rattle.vm_definitions.specs.Operands.{Words, words, bad, numberIn, fetchOf, readOf, onRead}
@@ -120,7 +121,16 @@ unfolding Fine Numbered
 fine-numbered x (stops k) h = h
 fine-numbered x (leaves y) h = tt
 
-module _ (w : Width) (f : ℕ → Row) (c : ℕ) (x : World) where
+module _ (prog : Program) (x : World) where
+  abbrev w : Width
+  w = prog .width
+
+  abbrev f : ℕ → Row
+  f = prog .rows
+
+  abbrev c : ℕ
+  c = prog .count
+
   fine-stop : Fine x (stops 32)
   unfolding Fine
   fine-stop = omega arith
@@ -129,90 +139,90 @@ module _ (w : Width) (f : ℕ → Row) (c : ℕ) (x : World) where
   unfolding Fine
   fine-full = omega arith
 
-  pub fine-goes : (n : ℕ) → Fine x (goesTo w f c x n)
+  pub fine-goes : (n : ℕ) → Fine x (goesTo prog x n)
   unfolding Fine goesTo goingOn
   fine-goes n = (refl, refl)
 
-  fine-keeps : (top i : ℕ) (vs : List ℕ) → Fine x (keeps w f c x top i vs)
+  fine-keeps : (top i : ℕ) (vs : List ℕ) → Fine x (keeps prog x top i vs)
   unfolding Fine keeps goingOn
   fine-keeps top i vs = (refl, refl)
 
-  fine-stores : (top a : ℕ) (bs : List ℕ) → Fine x (stores w f c x top a bs)
+  fine-stores : (top a : ℕ) (bs : List ℕ) → Fine x (stores prog x top a bs)
   unfolding Fine stores goingOn
   fine-stores top a bs = (refl, store-length (x .memory) a bs)
 
-  pub fine-block : Fine x (blockOf w f c x)
+  pub fine-block : Fine x (blockOf prog x)
   unfolding blockOf
   fine-block = fine-keeps _ _ _
 
-  pub fine-end-block : Fine x (endBlockOf w f c x)
+  pub fine-end-block : Fine x (endBlockOf prog x)
   unfolding endBlockOf
   fine-end-block = fine-keeps _ _ _
 
-  pub fine-test : Fine x (testOf w f c x)
+  pub fine-test : Fine x (testOf prog x)
   unfolding testOf
   fine-test =
       on-read (Fine x) _ (stops 32) _ fine-stop
       (λ a. on-read (Fine x) _ (stops 32) _ fine-stop (λ b. fine-goes _))
 
-  pub fine-assigned : (r : Worked) → StopSome r → Fine x (assigned w f c x r)
+  pub fine-assigned : (r : Worked) → StopSome r → Fine x (assigned prog x r)
   unfolding StopSome assigned Fine
   fine-assigned (Value v top) h = fine-keeps top _ _
   fine-assigned (Stop k) h = h
 
-  fine-assigned-at : (r : Worked) → StopSome r → Fine x (assignedAt w f c x r)
+  fine-assigned-at : (r : Worked) → StopSome r → Fine x (assignedAt prog x r)
   unfolding StopSome assignedAt Fine
   fine-assigned-at (Value v top) h = fine-stores top _ _
   fine-assigned-at (Stop k) h = h
 
-  pub some-worked : StopSome (workedOf w f c x)
+  pub some-worked : StopSome (workedOf prog x)
   unfolding workedOf
   some-worked = some-eval w (x .stack) (x .machine .frame) (x .memory) (x .machine .top) _ _
 
-  pub fine-set-at : Fine x (setAtOf w f c x)
+  pub fine-set-at : Fine x (setAtOf prog x)
   unfolding setAtOf
-  fine-set-at = either-true (Fine x) _ _ _ (λ e. fine-assigned-at (workedOf w f c x) some-worked) (λ e. fine-stop)
+  fine-set-at = either-true (Fine x) _ _ _ (λ e. fine-assigned-at (workedOf prog x) some-worked) (λ e. fine-stop)
 
-  pub fine-set-byte : (vs : Words) → Fine x (setByteBy w f c x vs)
+  pub fine-set-byte : (vs : Words) → Fine x (setByteBy prog x vs)
   unfolding setByteBy
   fine-set-byte (words vs) = either-true (Fine x) _ _ _ (λ e. fine-stores _ _ _) (λ e. fine-stop)
   fine-set-byte bad = fine-stop
 
-  pub fine-set-word : (vs : Words) → Fine x (setWordBy w f c x vs)
+  pub fine-set-word : (vs : Words) → Fine x (setWordBy prog x vs)
   unfolding setWordBy
   fine-set-word (words vs) = either-true (Fine x) _ _ _ (λ e. fine-stores _ _ _) (λ e. fine-stop)
   fine-set-word bad = fine-stop
 
-  fine-call-by : (vs : Words) → Fine x (callBy w f c x vs)
+  fine-call-by : (vs : Words) → Fine x (callBy prog x vs)
   unfolding callBy Fine movedTo
   fine-call-by (words vs) = either (Fine x) _ _ _ _ (λ e. fine-full) (λ e. (refl, refl))
   fine-call-by bad = fine-stop
 
-  pub fine-call : Fine x (callOf w f c x)
+  pub fine-call : Fine x (callOf prog x)
   unfolding callOf
   fine-call = either-eq (Fine x) _ 7 _ _ (λ e. either-true (Fine x) _ _ _ (λ d. fine-call-by _) (λ d. fine-stop)) (λ e. fine-call-by _)
 
-  pub fine-tail-call : (vs : Words) → Fine x (tailCallBy w f c x vs)
+  pub fine-tail-call : (vs : Words) → Fine x (tailCallBy prog x vs)
   unfolding tailCallBy Fine movedTo
   fine-tail-call (words vs) = either (Fine x) _ _ _ _ (λ e. fine-full) (λ e. (refl, refl))
   fine-tail-call bad = fine-stop
 
   -- ---- returns
 
-  numbered-to : (v : ℕ) (l : Resumption) → Numbered (handedBy w f c x v l)
+  numbered-to : (v : ℕ) (l : Resumption) → Numbered (handedBy prog x v l)
   unfolding handedBy handedTo Numbered
   numbered-to v (Ends top) = tt
   numbered-to v (Caller call s used top) =
       either-eq Numbered (f call .kind) 7 _ _ (λ e. either-true Numbered _ _ _ (λ d. tt) (λ d. omega arith))
       (λ e. either-eq Numbered (f call .kind) 11 _ _ (λ d. tt) (λ d. tt))
 
-  numbered-returned : (r : Worked) → StopSome r → Numbered (returned w f c x r)
+  numbered-returned : (r : Worked) → StopSome r → Numbered (returned prog x r)
   unfolding returned StopSome Numbered
   numbered-returned (Value v top) h = numbered-to v _
   numbered-returned (Stop k) h = h
 
-  pub numbered-return : Numbered (returnOf w f c x)
+  pub numbered-return : Numbered (returnOf prog x)
   unfolding returnOf
   numbered-return =
       either-eq Numbered _ 2 _ _ (λ e. numbered-returned (Value 0 0) (some-value 0 0))
-      (λ e. either-eq Numbered _ noExpression _ _ (λ d. numbered-returned (Value 0 0) (some-value 0 0)) (λ d. numbered-returned (workedOf w f c x) some-worked))
+      (λ e. either-eq Numbered _ noExpression _ _ (λ d. numbered-returned (Value 0 0) (some-value 0 0)) (λ d. numbered-returned (workedOf prog x) some-worked))

@@ -21,6 +21,7 @@ use Rattle.base_word.specs.declared.Answer.the-variants.{Word, Division, Shift}
 use Rattle.prog_tables.specs.Layout.{plain}
 use Rattle.prog_tables.specs.Statement.{Row, isTest}
 use Rattle.prog_tables.specs.Label.{Tables, rows}
+use Rattle.prog_tables.specs.Program.{programFrom}
 use Rattle.prog_tables.specs.Nesting.{encloses, hasTarget}
 use Rattle.prog_tables.specs.Frames.{frameDepth}
 use Rattle.prog_tables.specs.WellFormed.{WellFormed}
@@ -150,55 +151,55 @@ test-target : (k : ℕ) → isTest k ≡ true → hasTarget k ≡ true
 unfolding hasTarget
 test-target k e = ifTrue-yes true (ifEq k 20 true (eqb k 21)) e
 
-module _ (w : Width) (t : Tables) (good : WellFormed t) (e : Entry) (es : Ledger) (x : World) (i : Invariant w t e es x) where
+module _ (w : Width) (t : Tables) (good : WellFormed (programFrom w t)) (e : Entry) (es : Ledger) (x : World) (i : Invariant w t e es x) where
   -- the row behind one that opens and closes no frame
   behind : (m : ℕ) (st : List ℕ) (g s n : ℕ) → 5 ≤ rows t n .kind → FrameAt w t m st g s n → FrameAt w t m st g s (suc n)
   behind m st g s n k f =
-      frame-to w t good m st g s n (suc n) (next-in t good n (f .within) (λ d. omega arith) .within) (next-in t good n (f .within) (λ d. omega arith) .no-function)
-      (next-in t good n (f .within) (λ d. omega arith) .same)
-      (next-other t good n (f .within) (λ d. omega arith) (λ d. omega arith) (λ d. omega arith) (λ d. omega arith)) f
+      frame-to w t good m st g s n (suc n) (next-in w t good n (f .within) (λ d. omega arith) .within) (next-in w t good n (f .within) (λ d. omega arith) .no-function)
+      (next-in w t good n (f .within) (λ d. omega arith) .same)
+      (next-other w t good n (f .within) (λ d. omega arith) (λ d. omega arith) (λ d. omega arith) (λ d. omega arith)) f
 
   -- one that goes to a row of its function and scope
-  goes : (n : ℕ) → FrameAt w t (length (x .memory)) (x .stack) (e .func) (x .machine .frame) n → Kept w t e es (goesTo w (rows t) (t .count) x n)
+  goes : (n : ℕ) → FrameAt w t (length (x .memory)) (x .stack) (e .func) (x .machine .frame) n → Kept w t e es (goesTo (programFrom w t) x n)
   unfolding Kept goesTo
   goes n f = kept w t good e es x i n (x .machine .top) (x .stack) (x .memory) refl refl (i .top) f (λ j l. refl)
 
   -- `end if`
-  pub kept-next : 5 ≤ rows t (x .machine .next) .kind → Kept w t e es (goesTo w (rows t) (t .count) x (suc (x .machine .next)))
+  pub kept-next : 5 ≤ rows t (x .machine .next) .kind → Kept w t e es (goesTo (programFrom w t) x (suc (x .machine .next)))
   kept-next k = goes (suc (x .machine .next)) (behind (length (x .memory)) (x .stack) (e .func) (x .machine .frame) (x .machine .next) k (i .frame))
 
   -- `goto`
-  pub kept-goto : rows t (x .machine .next) .kind ≡ 10 → Kept w t e es (goesTo w (rows t) (t .count) x (rows t (x .machine .next) .a))
+  pub kept-goto : rows t (x .machine .next) .kind ≡ 10 → Kept w t e es (goesTo (programFrom w t) x (rows t (x .machine .next) .a))
   kept-goto k =
       goes (rows t (x .machine .next) .a)
       (frame-to w t good (length (x .memory)) (x .stack) (e .func) (x .machine .frame) (x .machine .next) (rows t (x .machine .next) .a)
-      (goto-target t good (x .machine .next) (i .frame .within) k .within) (goto-inside t good (x .machine .next) (i .frame .within) k)
-      (goto-target t good (x .machine .next) (i .frame .within) k .same) (goto-target t good (x .machine .next) (i .frame .within) k .scope) (i .frame))
+      (goto-target w t good (x .machine .next) (i .frame .within) k .within) (goto-inside w t good (x .machine .next) (i .frame .within) k)
+      (goto-target w t good (x .machine .next) (i .frame .within) k .same) (goto-target w t good (x .machine .next) (i .frame .within) k .scope) (i .frame))
 
   -- `else` and the else-if jump
-  pub kept-jump : hasTarget (rows t (x .machine .next) .kind) ≡ true → Kept w t e es (goesTo w (rows t) (t .count) x (rows t (x .machine .next) .a))
+  pub kept-jump : hasTarget (rows t (x .machine .next) .kind) ≡ true → Kept w t e es (goesTo (programFrom w t) x (rows t (x .machine .next) .a))
   kept-jump k =
       goes (rows t (x .machine .next) .a)
       (frame-to w t good (length (x .memory)) (x .stack) (e .func) (x .machine .frame) (x .machine .next) (rows t (x .machine .next) .a)
-      (target-scope t good (x .machine .next) (i .frame .within) k .within) (target-inside t good (x .machine .next) (i .frame .within) k)
-      (target-scope t good (x .machine .next) (i .frame .within) k .same) (target-scope t good (x .machine .next) (i .frame .within) k .scope) (i .frame))
+      (target-scope w t good (x .machine .next) (i .frame .within) k .within) (target-inside w t good (x .machine .next) (i .frame .within) k)
+      (target-scope w t good (x .machine .next) (i .frame .within) k .same) (target-scope w t good (x .machine .next) (i .frame .within) k .scope) (i .frame))
 
   pub kept-stop : (k : ℕ) → Kept w t e es (stops k)
   unfolding Kept
   kept-stop k = tt
 
-  pub kept-test : isTest (rows t (x .machine .next) .kind) ≡ true → Kept w t e es (testOf w (rows t) (t .count) x)
+  pub kept-test : isTest (rows t (x .machine .next) .kind) ≡ true → Kept w t e es (testOf (programFrom w t) x)
   unfolding testOf
   kept-test k =
       on-read (Kept w t e es) (readOf w (x .stack) (x .machine .frame) (x .memory) (operandNo (rows t (x .machine .next) .operands) 0)) (stops 32) _ (kept-stop 32)
       (λ a. on-read (Kept w t e es) (readOf w (x .stack) (x .machine .frame) (x .memory) (operandNo (rows t (x .machine .next) .operands) 1)) (stops 32) _ (kept-stop 32)
-      (λ b. either-true (λ (n : ℕ). Kept w t e es (goesTo w (rows t) (t .count) x n)) (testHolds w (rows t (x .machine .next) .kind) a b) (suc (x .machine .next)) (rows t (x .machine .next) .a)
+      (λ b. either-true (λ (n : ℕ). Kept w t e es (goesTo (programFrom w t) x n)) (testHolds w (rows t (x .machine .next) .kind) a b) (suc (x .machine .next)) (rows t (x .machine .next) .a)
       (λ d. kept-next (omega (arith, test-least (rows t (x .machine .next) .kind) k))) (λ d. kept-jump (test-target (rows t (x .machine .next) .kind) k))))
 
   -- ---- `let` and `set`
 
   kept-value : 5 ≤ rows t (x .machine .next) .kind → rows t (x .machine .next) .kind ≤ 6 → (v top : ℕ) → top ≤ length (x .memory)
-      → Kept w t e es (assigned w (rows t) (t .count) x (Value v top))
+      → Kept w t e es (assigned (programFrom w t) x (Value v top))
   unfolding Kept assigned keeps
   kept-value k l v top h =
       kept w t good e es x i (suc (x .machine .next)) top (storeFrom (x .stack) (x .machine .frame + rows t (x .machine .next) .a) (v ∷ [])) (x .memory)
@@ -206,8 +207,8 @@ module _ (w : Width) (t : Tables) (good : WellFormed t) (e : Entry) (es : Ledger
       (behind (length (x .memory)) (storeFrom (x .stack) (x .machine .frame + rows t (x .machine .next) .a) (v ∷ [])) (e .func) (x .machine .frame) (x .machine .next) k frame)
       (λ j g. store-before (x .stack) (x .machine .frame + rows t (x .machine .next) .a) (v ∷ []) j (omega (arith, far .low)))
     where
-      far : Apart t good (x .machine .next) (rows t (x .machine .next) .a)
-      far = destination-apart t good (x .machine .next) (i .frame .within) k l
+      far : Apart w t good (x .machine .next) (rows t (x .machine .next) .a)
+      far = destination-apart w t good (x .machine .next) (i .frame .within) k l
 
       frame : FrameAt w t (length (x .memory)) (storeFrom (x .stack) (x .machine .frame + rows t (x .machine .next) .a) (v ∷ [])) (e .func) (x .machine .frame) (x .machine .next)
       frame =
@@ -231,49 +232,49 @@ module _ (w : Width) (t : Tables) (good : WellFormed t) (e : Entry) (es : Ledger
           }
 
   kept-assigned : 5 ≤ rows t (x .machine .next) .kind → rows t (x .machine .next) .kind ≤ 6 → (r : Worked) → TopIn (length (x .memory)) r
-      → Kept w t e es (assigned w (rows t) (t .count) x r)
+      → Kept w t e es (assigned (programFrom w t) x r)
   unfolding TopIn Kept assigned
   kept-assigned k l (Value v top) h = kept-value k l v top h
   kept-assigned k l (Stop n) h = tt
 
   pub kept-let : 5 ≤ rows t (x .machine .next) .kind → rows t (x .machine .next) .kind ≤ 6
-      → Kept w t e es (assigned w (rows t) (t .count) x (workedOf w (rows t) (t .count) x))
+      → Kept w t e es (assigned (programFrom w t) x (workedOf (programFrom w t) x))
   unfolding workedOf
   kept-let k l =
-      kept-assigned k l (workedOf w (rows t) (t .count) x)
+      kept-assigned k l (workedOf (programFrom w t) x)
       (top-eval w (x .stack) (x .machine .frame) (x .memory) (x .machine .top) (rows t (x .machine .next) .expr) (rows t (x .machine .next) .operands) (i .top))
 
   -- ---- stores in memory
 
-  pub kept-store : 5 ≤ rows t (x .machine .next) .kind → (top a : ℕ) (bs : List ℕ) → top ≤ length (x .memory) → Kept w t e es (stores w (rows t) (t .count) x top a bs)
+  pub kept-store : 5 ≤ rows t (x .machine .next) .kind → (top a : ℕ) (bs : List ℕ) → top ≤ length (x .memory) → Kept w t e es (stores (programFrom w t) x top a bs)
   unfolding Kept stores
   kept-store k top a bs h =
       kept w t good e es x i (suc (x .machine .next)) top (x .stack) (storeFrom (x .memory) a bs) refl (store-length (x .memory) a bs) h
       (behind (length (x .memory)) (x .stack) (e .func) (x .machine .frame) (x .machine .next) k (i .frame)) (λ j g. refl)
 
-  kept-assigned-at : 5 ≤ rows t (x .machine .next) .kind → (r : Worked) → TopIn (length (x .memory)) r → Kept w t e es (assignedAt w (rows t) (t .count) x r)
+  kept-assigned-at : 5 ≤ rows t (x .machine .next) .kind → (r : Worked) → TopIn (length (x .memory)) r → Kept w t e es (assignedAt (programFrom w t) x r)
   unfolding TopIn Kept assignedAt
-  kept-assigned-at k (Value v top) h = kept-store k top (addressOf w (rows t) (t .count) x) (wordBytes (bytesOf w) v) h
+  kept-assigned-at k (Value v top) h = kept-store k top (addressOf (programFrom w t) x) (wordBytes (bytesOf w) v) h
   kept-assigned-at k (Stop n) h = tt
 
   -- `set @` without a call
-  pub kept-set-at : rows t (x .machine .next) .kind ≡ 7 → Kept w t e es (setAtOf w (rows t) (t .count) x)
+  pub kept-set-at : rows t (x .machine .next) .kind ≡ 7 → Kept w t e es (setAtOf (programFrom w t) x)
   unfolding setAtOf workedOf
   kept-set-at k =
-      either-true (Kept w t e es) (wordGood w (length (x .memory)) (addressOf w (rows t) (t .count) x)) (assignedAt w (rows t) (t .count) x (workedOf w (rows t) (t .count) x)) (stops 32)
-      (λ d. kept-assigned-at (omega arith) (workedOf w (rows t) (t .count) x)
+      either-true (Kept w t e es) (wordGood w (length (x .memory)) (addressOf (programFrom w t) x)) (assignedAt (programFrom w t) x (workedOf (programFrom w t) x)) (stops 32)
+      (λ d. kept-assigned-at (omega arith) (workedOf (programFrom w t) x)
       (top-eval w (x .stack) (x .machine .frame) (x .memory) (x .machine .top) (rows t (x .machine .next) .expr) (rows t (x .machine .next) .operands) (i .top)))
       (λ d. kept-stop 32)
 
   -- `set-byte` and `set-word`
-  pub kept-set-byte : rows t (x .machine .next) .kind ≡ 8 → (vs : Words) → Kept w t e es (setByteBy w (rows t) (t .count) x vs)
+  pub kept-set-byte : rows t (x .machine .next) .kind ≡ 8 → (vs : Words) → Kept w t e es (setByteBy (programFrom w t) x vs)
   unfolding setByteBy
   kept-set-byte k (words vs) =
       either-true (Kept w t e es) (byteGood (length (x .memory)) (byteAddress w (getD vs 0 0) (getD vs 1 0))) _ (stops 32)
       (λ d. kept-store (omega arith) (x .machine .top) (byteAddress w (getD vs 0 0) (getD vs 1 0)) (getD vs 2 0 % 256 ∷ []) (i .top)) (λ d. kept-stop 32)
   kept-set-byte k bad = kept-stop 32
 
-  pub kept-set-word : rows t (x .machine .next) .kind ≡ 9 → (vs : Words) → Kept w t e es (setWordBy w (rows t) (t .count) x vs)
+  pub kept-set-word : rows t (x .machine .next) .kind ≡ 9 → (vs : Words) → Kept w t e es (setWordBy (programFrom w t) x vs)
   unfolding setWordBy
   kept-set-word k (words vs) =
       either-true (Kept w t e es) (wordGood w (length (x .memory)) (wordAddress w (getD vs 0 0) (getD vs 1 0))) _ (stops 32)
@@ -282,7 +283,7 @@ module _ (w : Width) (t : Tables) (good : WellFormed t) (e : Entry) (es : Ledger
 
   -- ---- blocks
 
-  pub kept-block : rows t (x .machine .next) .kind ≡ 3 → Kept w t e es (blockOf w (rows t) (t .count) x)
+  pub kept-block : rows t (x .machine .next) .kind ≡ 3 → Kept w t e es (blockOf (programFrom w t) x)
   unfolding Kept blockOf keeps
   kept-block k =
       kept w t good e es x i (suc (x .machine .next)) (x .machine .top)
@@ -292,7 +293,7 @@ module _ (w : Width) (t : Tables) (good : WellFormed t) (e : Entry) (es : Ledger
       store-before (x .stack) (x .machine .frame + rows t (x .machine .next) .a) (x .machine .top ∷ replicate (rows t (x .machine .next) .b) 0) j (omega (arith, low)))
     where
       low : 3 + rows t (rows t (x .machine .next) .func) .b ≤ rows t (x .machine .next) .a
-      low = block-low t good (x .machine .next) (i .frame .within) k
+      low = block-low w t good (x .machine .next) (i .frame .within) k
 
       own : rows t (rows t (x .machine .next) .func) .a ≡ rows t (e .func) .a
       own = ap (λ (y : ℕ). rows t y .a) (i .frame .func)
@@ -310,7 +311,7 @@ module _ (w : Width) (t : Tables) (good : WellFormed t) (e : Entry) (es : Ledger
           let v : getD (storeFrom (x .stack) (x .machine .frame + rows t (x .machine .next) .a) (x .machine .top ∷ replicate (rows t (x .machine .next) .b) 0)) (x .machine .frame + rows t b .a) 0 ≡ x .machine .top =
           ap (λ (y : ℕ). getD (storeFrom (x .stack) (x .machine .frame + rows t (x .machine .next) .a) (x .machine .top ∷ replicate (rows t (x .machine .next) .b) 0)) y 0) a
           ∙ store-at (x .stack) (x .machine .frame + rows t (x .machine .next) .a) (x .machine .top ∷ replicate (rows t (x .machine .next) .b) 0) 0
-          (omega (arith, own, block-within t good (x .machine .next) (i .frame .within) k, i .ends, i .lent)) (omega arith) in
+          (omega (arith, own, block-within w t good (x .machine .next) (i .frame .within) k, i .ends, i .lent)) (omega arith) in
           omega (arith, i .top))
           (λ z u.
           store-most (x .stack) (x .machine .frame + rows t (x .machine .next) .a) (x .machine .top ∷ replicate (rows t (x .machine .next) .b) 0) (x .machine .frame + rows t b .a) (length (x .memory))
@@ -320,27 +321,27 @@ module _ (w : Width) (t : Tables) (good : WellFormed t) (e : Entry) (es : Ledger
       frame : FrameAt w t (length (x .memory)) (storeFrom (x .stack) (x .machine .frame + rows t (x .machine .next) .a) (x .machine .top ∷ replicate (rows t (x .machine .next) .b) 0)) (e .func) (x .machine .frame) (suc (x .machine .next))
       frame =
           record {
-            within = next-in t good (x .machine .next) (i .frame .within) no-end .within;
-            inside = next-in t good (x .machine .next) (i .frame .within) no-end .no-function;
-            func = next-in t good (x .machine .next) (i .frame .within) no-end .same ∙ i .frame .func;
+            within = next-in w t good (x .machine .next) (i .frame .within) no-end .within;
+            inside = next-in w t good (x .machine .next) (i .frame .within) no-end .no-function;
+            func = next-in w t good (x .machine .next) (i .frame .within) no-end .same ∙ i .frame .func;
             top =
                 omega (
                   arith,
                   i .frame .top,
                   store-before (x .stack) (x .machine .frame + rows t (x .machine .next) .a) (x .machine .top ∷ replicate (rows t (x .machine .next) .b) 0) (x .machine .frame + 2) (omega (arith, low)),
                 );
-            blocks = λ b g q d. most b g q (ap (encloses (rows t) frameDepth b) (sym (next-block t good (x .machine .next) (i .frame .within) no-end k)) ∙ d);
+            blocks = λ b g q d. most b g q (ap (encloses (rows t) frameDepth b) (sym (next-block w t good (x .machine .next) (i .frame .within) no-end k)) ∙ d);
           }
 
-  pub kept-end-block : rows t (x .machine .next) .kind ≡ 4 → Kept w t e es (endBlockOf w (rows t) (t .count) x)
+  pub kept-end-block : rows t (x .machine .next) .kind ≡ 4 → Kept w t e es (endBlockOf (programFrom w t) x)
   unfolding Kept endBlockOf keeps storeFrom
   kept-end-block k =
       kept w t good e es x i (suc (x .machine .next)) (getD (x .stack) (x .machine .frame + rows t (x .machine .next) .a) 0) (x .stack) (x .memory) refl refl
       (omega (
         arith,
-        i .frame .blocks (rows t (x .machine .next) .scope) below (end-facts t good (x .machine .next) (i .frame .within) k .is-block)
-            (around-self (rows t) (t .count) (ok t good) 17 (rows t (x .machine .next) .scope)),
-        ap (λ (y : ℕ). getD (x .stack) (x .machine .frame + y) 0) (end-facts t good (x .machine .next) (i .frame .within) k .word),
+        i .frame .blocks (rows t (x .machine .next) .scope) below (end-facts w t good (x .machine .next) (i .frame .within) k .is-block)
+            (around-self (rows t) (t .count) (ok w t good) 17 (rows t (x .machine .next) .scope)),
+        ap (λ (y : ℕ). getD (x .stack) (x .machine .frame + y) 0) (end-facts w t good (x .machine .next) (i .frame .within) k .word),
       ))
       frame (λ j g. refl)
     where
@@ -348,18 +349,18 @@ module _ (w : Width) (t : Tables) (good : WellFormed t) (e : Entry) (es : Ledger
       no-end d = omega arith
 
       below : rows t (x .machine .next) .scope < t .count
-      below = omega (arith, end-facts t good (x .machine .next) (i .frame .within) k .before, i .frame .within)
+      below = omega (arith, end-facts w t good (x .machine .next) (i .frame .within) k .before, i .frame .within)
 
       frame : FrameAt w t (length (x .memory)) (x .stack) (e .func) (x .machine .frame) (suc (x .machine .next))
       frame =
           record {
-            within = next-in t good (x .machine .next) (i .frame .within) no-end .within;
-            inside = next-in t good (x .machine .next) (i .frame .within) no-end .no-function;
-            func = next-in t good (x .machine .next) (i .frame .within) no-end .same ∙ i .frame .func;
+            within = next-in w t good (x .machine .next) (i .frame .within) no-end .within;
+            inside = next-in w t good (x .machine .next) (i .frame .within) no-end .no-function;
+            func = next-in w t good (x .machine .next) (i .frame .within) no-end .same ∙ i .frame .func;
             top = i .frame .top;
             blocks = λ b g q d.
                 i .frame .blocks b g q
-                (around-outside (rows t) b (rows t (x .machine .next) .scope) (end-facts t good (x .machine .next) (i .frame .within) k .is-block)
-                (frame-shallow t good (rows t (x .machine .next) .scope) below)
-                (ap (encloses (rows t) frameDepth b) (sym (next-end-block t good (x .machine .next) (i .frame .within) no-end k)) ∙ d));
+                (around-outside (rows t) b (rows t (x .machine .next) .scope) (end-facts w t good (x .machine .next) (i .frame .within) k .is-block)
+                (frame-shallow w t good (rows t (x .machine .next) .scope) below)
+                (ap (encloses (rows t) frameDepth b) (sym (next-end-block w t good (x .machine .next) (i .frame .within) no-end k)) ∙ d));
           }

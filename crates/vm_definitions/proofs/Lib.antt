@@ -1,4 +1,5 @@
 pub mod Opened
+pub mod Seen
 pub mod Answers
 pub mod Invariant
 pub mod Chain

@@ -16,6 +16,7 @@ use Rattle.base_limits.specs.declared.Width.{Width}
 use Rattle.prog_tables.specs.Tests.{both, oneOf}
 use Rattle.prog_tables.specs.Statement.{Row, hasExpression, isCall}
 use Rattle.prog_tables.specs.Label.{Tables, rows}
+use Rattle.prog_tables.specs.Program.{Program, programFrom}
 use Rattle.prog_tables.specs.declared.Operand.{Operand}
 use Rattle.prog_tables.proofs.Each.{both-left, both-right, both-true}
 use Rattle.vm_definitions.specs.Access.{byteAddress, wordAddress}
@@ -175,7 +176,13 @@ pick-33 : (b : Bool) → pick {X = ℕ} b 33 0 ≡ 33 → b ≡ true
 pick-33 true q = refl
 pick-33 false q = absurd (omega (arith, q))
 
-module _ (w : Width) (f : ℕ → Row) (sum last : ℕ) (x : World) where
+module _ (prog : Program) (sum last : ℕ) (x : World) where
+  abbrev w : Width
+  w = prog .width
+
+  abbrev f : ℕ → Row
+  f = prog .rows
+
   abbrev r : Row
   r = f (x .machine .next)
 
@@ -188,22 +195,22 @@ module _ (w : Width) (f : ℕ → Row) (sum last : ℕ) (x : World) where
       (behindOperands w (x .machine .top) sum last (f (r .callee) .a) r (wordOf w (x .stack) (x .machine .frame) (x .memory) (operandNo (r .operands) 0))
       (wordOf w (x .stack) (x .machine .frame) (x .memory) (operandNo (r .operands) 1)))
 
-  parts : firstCause w f sum last x ≡ ifEq reads 0 behind reads
+  parts : firstCause prog sum last x ≡ ifEq reads 0 behind reads
   unfolding firstCause meetingsOf reads behind
   parts = first-both w (length (x .memory)) (length (x .stack)) (readsOf r x) _
 
-  called : isCall (r .kind) (r .expr) ≡ true → behind ≡ pick (passesStack f sum last x) 33 0
+  called : isCall (r .kind) (r .expr) ≡ true → behind ≡ pick (passesStack prog sum last x) 33 0
   unfolding behind passesStack
   called h = behind-call w (length (x .memory)) (length (x .stack)) (x .machine .top) sum last (f (r .callee) .a) r _ _ h
 
-  pub stack-cause : both (argumentsRead w f x) (passesStack f sum last x) ≡ true → firstCause w f sum last x ≡ 33
+  pub stack-cause : both (argumentsRead prog x) (passesStack prog sum last x) ≡ true → firstCause prog sum last x ≡ 33
   unfolding argumentsRead reads
   stack-cause h =
-      let a : argumentsRead w f x ≡ true = both-left (argumentsRead w f x) (passesStack f sum last x) h in
+      let a : argumentsRead prog x ≡ true = both-left (argumentsRead prog x) (passesStack prog sum last x) h in
       parts
       ∙ ifEq-yes behind reads (eqb-true reads 0 (both-right (isCall (r .kind) (r .expr)) (eqb reads 0) a))
       ∙ called (both-left (isCall (r .kind) (r .expr)) (eqb reads 0) a)
-      ∙ ap (λ (b : Bool). pick b 33 0) (both-right (argumentsRead w f x) (passesStack f sum last x) h)
+      ∙ ap (λ (b : Bool). pick b 33 0) (both-right (argumentsRead prog x) (passesStack prog sum last x) h)
 
   reads-other : reads ≡ 33 → ⊥
   unfolding reads NoStack
@@ -213,7 +220,7 @@ module _ (w : Width) (f : ℕ → Row) (sum last : ℕ) (x : World) where
   unfolding behind NoStack
   behind-other h = behind-no w (length (x .memory)) (length (x .stack)) (x .machine .top) sum last (f (r .callee) .a) r _ _ h
 
-  pub stack-only : firstCause w f sum last x ≡ 33 → both (argumentsRead w f x) (passesStack f sum last x) ≡ true
+  pub stack-only : firstCause prog sum last x ≡ 33 → both (argumentsRead prog x) (passesStack prog sum last x) ≡ true
   unfolding argumentsRead reads
   stack-only h =
       elim (ℕ-discrete reads 0) [
@@ -221,24 +228,24 @@ module _ (w : Width) (f : ℕ → Row) (sum last : ℕ) (x : World) where
         | yes q ↦ by q (sym (parts ∙ ifEq-yes behind reads q) ∙ h) (isCall (r .kind) (r .expr)) refl
       ]
     where
-      by : reads ≡ 0 → behind ≡ 33 → (b : Bool) → isCall (r .kind) (r .expr) ≡ b → both (argumentsRead w f x) (passesStack f sum last x) ≡ true
+      by : reads ≡ 0 → behind ≡ 33 → (b : Bool) → isCall (r .kind) (r .expr) ≡ b → both (argumentsRead prog x) (passesStack prog sum last x) ≡ true
       by q d true e =
-          both-true (argumentsRead w f x) (passesStack f sum last x) (both-true (isCall (r .kind) (r .expr)) (eqb reads 0) e (eq-eqb reads 0 q))
-          (pick-33 (passesStack f sum last x) (sym (called e) ∙ d))
+          both-true (argumentsRead prog x) (passesStack prog sum last x) (both-true (isCall (r .kind) (r .expr)) (eqb reads 0) e (eq-eqb reads 0 q))
+          (pick-33 (passesStack prog sum last x) (sym (called e) ∙ d))
       by q d false e = absurd (behind-other e d)
 
 -- of a world and its ledger: `listed`, `full` and `fullOnly` of specs/Claim
 module _ (w : Width) (t : Tables) (es : Ledger) (x : World) where
-  pub step-listed : 0 < causeIn w t es x → Listed (causeIn w t es x)
+  pub step-listed : 0 < causeIn (programFrom w t) es x → Listed (causeIn (programFrom w t) es x)
   unfolding causeIn firstCause
   step-listed h =
-      let p = cause-listed w (length (x .memory)) (length (x .stack)) (meetingsOf w (rows t) (sumOf (rows t) es) (lastOf (rows t) es) x) h in
+      let p = cause-listed w (length (x .memory)) (length (x .stack)) (meetingsOf (programFrom w t) (sumOf (rows t) es) (lastOf (rows t) es) x) h in
       record { from = p .0; to = p .1 }
 
-  pub step-full : stackFull w t es x ≡ true → causeIn w t es x ≡ 33
+  pub step-full : stackFull (programFrom w t) es x ≡ true → causeIn (programFrom w t) es x ≡ 33
   unfolding causeIn stackFull
-  step-full h = stack-cause w (rows t) (sumOf (rows t) es) (lastOf (rows t) es) x h
+  step-full h = stack-cause (programFrom w t) (sumOf (rows t) es) (lastOf (rows t) es) x h
 
-  pub step-full-only : causeIn w t es x ≡ 33 → stackFull w t es x ≡ true
+  pub step-full-only : causeIn (programFrom w t) es x ≡ 33 → stackFull (programFrom w t) es x ≡ true
   unfolding causeIn stackFull
-  step-full-only h = stack-only w (rows t) (sumOf (rows t) es) (lastOf (rows t) es) x h
+  step-full-only h = stack-only (programFrom w t) (sumOf (rows t) es) (lastOf (rows t) es) x h

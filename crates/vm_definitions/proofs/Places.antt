@@ -10,9 +10,11 @@ use borrow.Author.Tests.{eqb-true, eq-eqb, eqb-false, not-true}
 use lib.Dec.{eqb, ltb, leb}
 use Rattle.base_prelude.specs.Choice.{pick, ifEq, ifTrue}
 use Rattle.base_prelude.proofs.Choice.{true-false, either-eq, either-true, ifEq-yes, ifEq-no, ifTrue-no}
+use Rattle.base_limits.specs.declared.Width.{Width}
 use Rattle.prog_tables.specs.Tests.{both, given, all, firstFrom, someBelow}
 use Rattle.prog_tables.specs.Statement.{Row, isTest}
 use Rattle.prog_tables.specs.Label.{Tables, rows, labelsOf, isData, isFunctionLabel}
+use Rattle.prog_tables.specs.Program.{programFrom}
 use Rattle.prog_tables.specs.Nesting.{encloses, depthOf, nextArm, endIfOf, pastArm, targetOf, hasTarget, isArm, isEndIf, followsJump}
 use Rattle.prog_tables.specs.WellFormed.{aimed, jumps, labelled, names, WellFormed}
 use Rattle.prog_tables.proofs.Each.{both-left, both-right, given-then, all-at, aimed-at, jumps-at, names-at}
@@ -50,20 +52,20 @@ no-function-label : isFunctionLabel 5 ≡ false
 unfolding isFunctionLabel ifEq
 no-function-label = refl
 
-module _ (t : Tables) (good : WellFormed t) (n : ℕ) (h : n < t .count) where
+module _ (w : Width) (t : Tables) (good : WellFormed (programFrom w t)) (n : ℕ) (h : n < t .count) where
   -- ---- targets
 
   pub target-inside : hasTarget (rows t n .kind) ≡ true → rows t (rows t n .a) .kind ≡ 1 → ⊥
   unfolding aimed
   target-inside e d =
-      let a : rows t n .a ≡ targetOf (rows t) (t .count) n = eqb-true _ _ (given-then (hasTarget (rows t n .kind)) (eqb (rows t n .a) (targetOf (rows t) (t .count) n)) (aimed-at t good n h) e) in
+      let a : rows t n .a ≡ targetOf (rows t) (t .count) n = eqb-true _ _ (given-then (hasTarget (rows t n .kind)) (eqb (rows t n .a) (targetOf (rows t) (t .count) n)) (aimed-at w t good n h) e) in
       omega (
         arith,
         a,
         target-after (rows t) (t .count) n,
-        func-self t good (rows t n .a) (target-scope t good n h e .within) d,
-        target-scope t good n h e .same,
-        func-line t good n h .before,
+        func-self w t good (rows t n .a) (target-scope w t good n h e .within) d,
+        target-scope w t good n h e .same,
+        func-line w t good n h .before,
       )
 
   goto-tests : List Bool
@@ -81,7 +83,7 @@ module _ (t : Tables) (good : WellFormed t) (n : ℕ) (h : n < t .count) where
   pub goto-inside : rows t n .kind ≡ 10 → rows t (rows t n .a) .kind ≡ 1 → ⊥
   unfolding jumps goto-tests labelled names
   goto-inside e d =
-      let q : all goto-tests ≡ true = given-then (eqb (rows t n .kind) 10) (all goto-tests) (jumps-at t good n h) (eq-eqb _ _ e) in
+      let q : all goto-tests ≡ true = given-then (eqb (rows t n .kind) 10) (all goto-tests) (jumps-at w t good n h) (eq-eqb _ _ e) in
       seen (some-found (λ i. both (eqb (labelsOf t i .kind) 5) (eqb (labelsOf t i .number) (rows t n .a))) (t .labelCount) (all-at goto-tests 3 q (omega arith)))
     where
       seen : Found (λ i. both (eqb (labelsOf t i .kind) 5) (eqb (labelsOf t i .number) (rows t n .a))) (t .labelCount) → ⊥
@@ -89,7 +91,7 @@ module _ (t : Tables) (good : WellFormed t) (n : ℕ) (h : n < t .count) where
           let k : labelsOf t (x .i) .kind ≡ 5 = eqb-true _ _ (both-left (eqb (labelsOf t (x .i) .kind) 5) (eqb (labelsOf t (x .i) .number) (rows t n .a)) (x .passes)) in
           let v : labelsOf t (x .i) .number ≡ rows t n .a = eqb-true _ _ (both-right (eqb (labelsOf t (x .i) .kind) 5) (eqb (labelsOf t (x .i) .number) (rows t n .a)) (x .passes)) in
           let a : both (ltb (labelsOf t (x .i) .number) (t .count)) (ifTrue (isFunctionLabel (labelsOf t (x .i) .kind)) (eqb (rows t (labelsOf t (x .i) .number) .kind) 1) (all (line (x .i)))) ≡ true =
-          sym (ifTrue-no (leb (labelsOf t (x .i) .number) (t .dataLength)) _ (ap isData k ∙ no-data)) ∙ names-at t good (x .i) (x .below) in
+          sym (ifTrue-no (leb (labelsOf t (x .i) .number) (t .dataLength)) _ (ap isData k ∙ no-data)) ∙ names-at w t good (x .i) (x .below) in
           let b : all (line (x .i)) ≡ true =
           sym (ifTrue-no (eqb (rows t (labelsOf t (x .i) .number) .kind) 1) (all (line (x .i))) (ap isFunctionLabel k ∙ no-function-label))
           ∙ both-right (ltb (labelsOf t (x .i) .number) (t .count)) (ifTrue (isFunctionLabel (labelsOf t (x .i) .kind)) (eqb (rows t (labelsOf t (x .i) .number) .kind) 1) (all (line (x .i)))) a in

@@ -20,6 +20,7 @@ use Rattle.prog_tables.specs.Layout.{callExpression, noExpression}
 use Rattle.prog_tables.specs.Tests.{both, oneOf}
 use Rattle.prog_tables.specs.Statement.{Row, hasExpression}
 use Rattle.prog_tables.specs.Label.{Tables, rows}
+use Rattle.prog_tables.specs.Program.{programFrom}
 use Rattle.prog_tables.specs.WellFormed.{WellFormed}
 use Rattle.prog_tables.proofs.Each.{both-left, both-right, both-true}
 use Rattle.prog_tables.proofs.Sound.{both-false}
@@ -116,7 +117,7 @@ return-ledger f n es e = ifTrue-no _ _ (return-no-call (f n) e) ∙ ifEq-no _ _ 
 
 -- ---- back in a frame
 
-module _ (w : Width) (t : Tables) (good : WellFormed t) (e : Entry) (es : Ledger) (x : World) (i : Invariant w t e es x) where
+module _ (w : Width) (t : Tables) (good : WellFormed (programFrom w t)) (e : Entry) (es : Ledger) (x : World) (i : Invariant w t e es x) where
   module _ (d : Entry) (ds : Ledger) (c v u top : ℕ) (y : CallerAt w t (length (x .memory)) (x .stack) d ds c v u top) (p : popped (rows t) (e ∷ es) ≡ d ∷ ds) where
     call : Takes (rows t c)
     call = takes (rows t c) (y .calls) (y .plain)
@@ -127,9 +128,9 @@ module _ (w : Width) (t : Tables) (good : WellFormed t) (e : Entry) (es : Ledger
     -- the row behind the call
     behind : (st : List ℕ) → FrameAt w t (length (x .memory)) st (d .func) v c → FrameAt w t (length (x .memory)) st (d .func) v (suc c)
     behind st f =
-        frame-to w t good (length (x .memory)) st (d .func) v c (suc c) (next-in t good c (y .within) no-end .within) (next-in t good c (y .within) no-end .no-function)
-        (next-in t good c (y .within) no-end .same)
-        (next-other t good c (y .within) no-end (λ z. omega (arith, call .low)) (λ z. omega (arith, call .low)) (λ z. omega (arith, call .low))) f
+        frame-to w t good (length (x .memory)) st (d .func) v c (suc c) (next-in w t good c (y .within) no-end .within) (next-in w t good c (y .within) no-end .no-function)
+        (next-in w t good c (y .within) no-end .same)
+        (next-other w t good c (y .within) no-end (λ z. omega (arith, call .low)) (λ z. omega (arith, call .low)) (λ z. omega (arith, call .low))) f
 
     -- with a stack that keeps the frame and what is under it, and as much memory
     back-with : (st mem : List ℕ) → length st ≡ length (x .stack) → length mem ≡ length (x .memory) → Agree st (x .stack) (v + 2)
@@ -171,10 +172,10 @@ module _ (w : Width) (t : Tables) (good : WellFormed t) (e : Entry) (es : Ledger
               );
         })
       where
-        far : Apart t good c (rows t c .a)
-        far = destination-apart t good c (y .within) k l
+        far : Apart w t good c (rows t c .a)
+        far = destination-apart w t good c (y .within) k l
 
-    handed-to : (z : ℕ) → Returns w t (popped (rows t) (e ∷ es)) x (handedTo w (rows t) (t .count) x z (rows t c) v (movedTo (x .machine) (suc c) v u top))
+    handed-to : (z : ℕ) → Returns w t (popped (rows t) (e ∷ es)) x (handedTo (programFrom w t) x z (rows t c) v (movedTo (x .machine) (suc c) v u top))
     unfolding Returns handedTo
     handed-to z =
         either-eq (Returns w t (popped (rows t) (e ∷ es)) x) (rows t c .kind) 7 _ _
@@ -187,34 +188,34 @@ module _ (w : Width) (t : Tables) (good : WellFormed t) (e : Entry) (es : Ledger
         (λ a. stored z (call .low) (omega (arith, call .high a, k))))
 
   handed-by : (z : ℕ) (p : Ledger) (l : Resumption) → popped (rows t) (e ∷ es) ≡ p → Resumed w t (length (x .memory)) (x .stack) p l
-      → Returns w t (popped (rows t) (e ∷ es)) x (handedBy w (rows t) (t .count) x z l)
+      → Returns w t (popped (rows t) (e ∷ es)) x (handedBy (programFrom w t) x z l)
   unfolding Returns handedBy ended
   handed-by z p l o (ends top q h g) =
-      subst (λ (k : Resumption). Returns w t (popped (rows t) (e ∷ es)) x (handedBy w (rows t) (t .count) x z k)) (sym q) (finishing z (o ∙ g) refl refl refl)
+      subst (λ (k : Resumption). Returns w t (popped (rows t) (e ∷ es)) x (handedBy (programFrom w t) x z k)) (sym q) (finishing z (o ∙ g) refl refl refl)
   handed-by z p l o (to-caller d ds c v u top y q g) =
-      subst (λ (k : Resumption). Returns w t (popped (rows t) (e ∷ es)) x (handedBy w (rows t) (t .count) x z k)) (sym q) (handed-to d ds c v u top y (o ∙ g) z)
+      subst (λ (k : Resumption). Returns w t (popped (rows t) (e ∷ es)) x (handedBy (programFrom w t) x z k)) (sym q) (handed-to d ds c v u top y (o ∙ g) z)
 
-  returns-by : (r : Worked) → Returns w t (popped (rows t) (e ∷ es)) x (returned w (rows t) (t .count) x r)
+  returns-by : (r : Worked) → Returns w t (popped (rows t) (e ∷ es)) x (returned (programFrom w t) x r)
   unfolding Returns returned
   returns-by (Value z top) = handed-by z (popped (rows t) (e ∷ es)) _ refl (invariant-resumed w t good e es x i)
   returns-by (Stop k) = tt
 
-  pub returns-of : Returns w t (popped (rows t) (e ∷ es)) x (returnOf w (rows t) (t .count) x)
+  pub returns-of : Returns w t (popped (rows t) (e ∷ es)) x (returnOf (programFrom w t) x)
   unfolding returnOf
   returns-of =
       either-eq (Returns w t (popped (rows t) (e ∷ es)) x) (rows t (x .machine .next) .kind) 2 _ _ (λ k. returns-by (Value 0 0))
       (λ k. either-eq (Returns w t (popped (rows t) (e ∷ es)) x) (rows t (x .machine .next) .expr) noExpression _ _ (λ a. returns-by (Value 0 0))
-      (λ a. returns-by (workedOf w (rows t) (t .count) x)))
+      (λ a. returns-by (workedOf (programFrom w t) x)))
 
-  pub return-is : isReturn (rows t (x .machine .next)) ≡ true → effectOf w (rows t) (t .count) x ≡ returnOf w (rows t) (t .count) x
+  pub return-is : isReturn (rows t (x .machine .next)) ≡ true → effectOf (programFrom w t) x ≡ returnOf (programFrom w t) x
   unfolding effectOf
   return-is r = ifTrue-no _ _ (return-no-call (rows t (x .machine .next)) r) ∙ ifTrue-yes _ _ r
 
   -- of the statement itself
-  pub return-effect : isReturn (rows t (x .machine .next)) ≡ true → Returns w t (popped (rows t) (e ∷ es)) x (effectOf w (rows t) (t .count) x)
+  pub return-effect : isReturn (rows t (x .machine .next)) ≡ true → Returns w t (popped (rows t) (e ∷ es)) x (effectOf (programFrom w t) x)
   return-effect r = subst (Returns w t (popped (rows t) (e ∷ es)) x) (sym (return-is r)) returns-of
 
-  pub return-kept : (y : World) → isReturn (rows t (x .machine .next)) ≡ true → effectOf w (rows t) (t .count) x ≡ leaves y
+  pub return-kept : (y : World) → isReturn (rows t (x .machine .next)) ≡ true → effectOf (programFrom w t) x ≡ leaves y
       → Back w t (popped (rows t) (e ∷ es)) x y
   unfolding Returns
   return-kept y r q = subst (Returns w t (popped (rows t) (e ∷ es)) x) q (return-effect r)

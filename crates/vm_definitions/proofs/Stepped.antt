@@ -20,6 +20,7 @@ use Rattle.prog_tables.specs.Tests.{both, oneOf}
 use Rattle.prog_tables.specs.Statement.{Row, isTest, hasExpression}
 use Rattle.prog_tables.specs.Nesting.{isListed, hasTarget}
 use Rattle.prog_tables.specs.Label.{Tables, rows}
+use Rattle.prog_tables.specs.Program.{programFrom}
 use Rattle.prog_tables.specs.WellFormed.{WellFormed}
 use Rattle.prog_tables.proofs.Nested.{here}
 use Rattle.prog_tables.proofs.Sound.{ok}
@@ -78,7 +79,7 @@ no-return r a b k = go (eqb (r .expr) callExpression) refl
 
 -- ---- effects
 
-module _ (w : Width) (t : Tables) (good : WellFormed t) (e : Entry) (es : Ledger) (x : World) (s : x .machine .state ≡ Running) (i : Invariant w t e es x) where
+module _ (w : Width) (t : Tables) (good : WellFormed (programFrom w t)) (e : Entry) (es : Ledger) (x : World) (s : x .machine .state ≡ Running) (i : Invariant w t e es x) where
   abbrev row : Row
   row = rows t (x .machine .next)
 
@@ -114,7 +115,7 @@ module _ (w : Width) (t : Tables) (good : WellFormed t) (e : Entry) (es : Ledger
   tail-ledger a k = ifTrue-no _ _ a ∙ ifEq-yes _ _ k
 
   listed : isListed (row .kind) ≡ true
-  listed = here (rows t) (t .count) (ok t good) (x .machine .next) (i .frame .within) .listed
+  listed = here (rows t) (t .count) (ok w t good) (x .machine .next) (i .frame .within) .listed
 
   -- a row of the last kinds
   module _ (a : isCalling row ≡ false) (b : isReturn row ≡ false) (c : isTest (row .kind) ≡ false) (k3 : row .kind ≡ 3 → ⊥) (k4 : row .kind ≡ 4 → ⊥)
@@ -139,11 +140,11 @@ module _ (w : Width) (t : Tables) (good : WellFormed t) (e : Entry) (es : Ledger
             ]
           ]
 
-      leads-jump : Leads (goesTo w (rows t) (t .count) x (row .a))
+      leads-jump : Leads (goesTo (programFrom w t) x (row .a))
       leads-jump =
           elim (ℕ-discrete (row .kind) 10) [
-            | yes k ↦ leads-kept e es (same a b k12) _ (kept-goto w t good e es x i k) (fine-goes w (rows t) (t .count) x (row .a))
-            | no k ↦ leads-kept e es (same a b k12) _ (kept-jump w t good e es x i (target k)) (fine-goes w (rows t) (t .count) x (row .a))
+            | yes k ↦ leads-kept e es (same a b k12) _ (kept-goto w t good e es x i k) (fine-goes (programFrom w t) x (row .a))
+            | no k ↦ leads-kept e es (same a b k12) _ (kept-jump w t good e es x i (target k)) (fine-goes (programFrom w t) x (row .a))
           ]
 
   -- ---- the statement
@@ -151,35 +152,35 @@ module _ (w : Width) (t : Tables) (good : WellFormed t) (e : Entry) (es : Ledger
   leads-stays : isCalling row ≡ false → isReturn row ≡ false → (row .kind ≡ 12 → ⊥) → (f : Effect) → Kept w t e es f → Fine x f → Leads f
   leads-stays a b k f g h = leads-kept e es (same a b k) f g h
 
-  pub leads : Leads (effectOf w (rows t) (t .count) x)
+  pub leads : Leads (effectOf (programFrom w t) x)
   unfolding effectOf
   leads =
       either-true Leads (isCalling row) _ _
-      (λ a. leads-kept _ _ (call-ledger a) _ (kept-call w t good e es x i a) (fine-call w (rows t) (t .count) x))
+      (λ a. leads-kept _ _ (call-ledger a) _ (kept-call w t good e es x i a) (fine-call (programFrom w t) x))
       (λ a. either-true Leads (isReturn row) _ _
-      (λ b. leads-back b _ (returns-of w t good e es x i) (numbered-return w (rows t) (t .count) x))
+      (λ b. leads-back b _ (returns-of w t good e es x i) (numbered-return (programFrom w t) x))
       (λ b. either-true Leads (isTest (row .kind)) _ _
-      (λ c. leads-stays a b (λ k. true-false (sym c ∙ no-test k)) _ (kept-test w t good e es x i c) (fine-test w (rows t) (t .count) x))
+      (λ c. leads-stays a b (λ k. true-false (sym c ∙ no-test k)) _ (kept-test w t good e es x i c) (fine-test (programFrom w t) x))
       (λ c. either-eq Leads (row .kind) 3 _ _
-      (λ k. leads-stays a b (λ d. omega (arith, k, d)) _ (kept-block w t good e es x i k) (fine-block w (rows t) (t .count) x))
+      (λ k. leads-stays a b (λ d. omega (arith, k, d)) _ (kept-block w t good e es x i k) (fine-block (programFrom w t) x))
       (λ k3. either-eq Leads (row .kind) 4 _ _
-      (λ k. leads-stays a b (λ d. omega (arith, k, d)) _ (kept-end-block w t good e es x i k) (fine-end-block w (rows t) (t .count) x))
+      (λ k. leads-stays a b (λ d. omega (arith, k, d)) _ (kept-end-block w t good e es x i k) (fine-end-block (programFrom w t) x))
       (λ k4. either-eq Leads (row .kind) 5 _ _
       (λ k. leads-stays a b (λ d. omega (arith, k, d)) _ (kept-let w t good e es x i (omega (arith, k)) (omega (arith, k)))
-      (fine-assigned w (rows t) (t .count) x _ (some-worked w (rows t) (t .count) x)))
+      (fine-assigned (programFrom w t) x _ (some-worked (programFrom w t) x)))
       (λ k5. either-eq Leads (row .kind) 6 _ _
       (λ k. leads-stays a b (λ d. omega (arith, k, d)) _ (kept-let w t good e es x i (omega (arith, k)) (omega (arith, k)))
-      (fine-assigned w (rows t) (t .count) x _ (some-worked w (rows t) (t .count) x)))
+      (fine-assigned (programFrom w t) x _ (some-worked (programFrom w t) x)))
       (λ k6. either-eq Leads (row .kind) 7 _ _
-      (λ k. leads-stays a b (λ d. omega (arith, k, d)) _ (kept-set-at w t good e es x i k) (fine-set-at w (rows t) (t .count) x))
+      (λ k. leads-stays a b (λ d. omega (arith, k, d)) _ (kept-set-at w t good e es x i k) (fine-set-at (programFrom w t) x))
       (λ k7. either-eq Leads (row .kind) 8 _ _
-      (λ k. leads-stays a b (λ d. omega (arith, k, d)) _ (kept-set-byte w t good e es x i k _) (fine-set-byte w (rows t) (t .count) x _))
+      (λ k. leads-stays a b (λ d. omega (arith, k, d)) _ (kept-set-byte w t good e es x i k _) (fine-set-byte (programFrom w t) x _))
       (λ k8. either-eq Leads (row .kind) 9 _ _
-      (λ k. leads-stays a b (λ d. omega (arith, k, d)) _ (kept-set-word w t good e es x i k _) (fine-set-word w (rows t) (t .count) x _))
+      (λ k. leads-stays a b (λ d. omega (arith, k, d)) _ (kept-set-word w t good e es x i k _) (fine-set-word (programFrom w t) x _))
       (λ k9. either-eq Leads (row .kind) 12 _ _
-      (λ k. leads-kept _ _ (tail-ledger a k) _ (kept-tail-call w t good e es x i k _) (fine-tail-call w (rows t) (t .count) x _))
+      (λ k. leads-kept _ _ (tail-ledger a k) _ (kept-tail-call w t good e es x i k _) (fine-tail-call (programFrom w t) x _))
       (λ k12. either-eq Leads (row .kind) 22 _ _
-      (λ k. leads-stays a b k12 _ (kept-next w t good e es x i (omega (arith, k))) (fine-goes w (rows t) (t .count) x _))
+      (λ k. leads-stays a b k12 _ (kept-next w t good e es x i (omega (arith, k))) (fine-goes (programFrom w t) x _))
       (λ k22. either-eq Leads (row .kind) 10 _ _
       (λ k. leads-jump a b c k3 k4 k5 k6 k7 k8 k9 k12 k22)
       (λ k10. either-eq Leads (row .kind) 20 _ _

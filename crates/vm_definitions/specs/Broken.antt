@@ -8,14 +8,13 @@ use lib.ListN.{getD, length}
 use Rattle.base_prelude.specs.Choice.{ifLt, ifTrue}
 use Rattle.base_limits.specs.Limits.{stackWords}
 use Rattle.base_limits.specs.Width.{memoryLimit}
-use Rattle.base_limits.specs.declared.Width.{Width}
 use Rattle.base_limits.specs.declared.Machine.{Machine}
 use Rattle.lang_kinds.specs.Kinds as kind
-use Rattle.prog_tables.specs.Tests.{both, oneOf, given, all, someBelow}
+use Rattle.prog_tables.specs.Tests.{both, oneOf, some, someBelow}
 use Rattle.prog_tables.specs.Statement.{Row, isCall}
-use Rattle.prog_tables.specs.Label.{Tables, rows, labelsOf}
-use Rattle.prog_tables.specs.Faults.{inFunction, sizeAt, rowFault, labelFault, countFault}
-use Rattle.vm_definitions.specs.Frames.{topAtEntry, isReturn, headGood, leavesGood, rowsLeft}
+use Rattle.prog_tables.specs.Program.{Program}
+use Rattle.prog_tables.specs.Faults.{inFunction, sizeAt, rowFault, labelFault}
+use Rattle.vm_definitions.specs.Frames.{topAtEntry, isReturn, headGood, headsLeft, topsLeft, rowsLeft}
 use Rattle.vm_definitions.specs.declared.Broken.{Broken}
 use Rattle.vm_definitions.specs.declared.Broken.the-variants.{No, At, Somewhere}
 
@@ -39,47 +38,71 @@ orElse Somewhere x = Somewhere
 
 -- ---- a step
 
--- "a next statement on a `function` line or in no function"
+-- "a next statement on a `function` line or in no function", of a statement among the rows: its place is that statement
 unfoldable pub nextBad : (ℕ → Row) → ℕ → ℕ → Bool
 nextBad f c n = oneOf (eqb (f n .kind) kind.function) (not (inFunction f c n))
 
--- "a frame that doesn't end at the stack in use or lies past the lent stack", turned round: s words
+-- the frame in use ends at the stack in use, within s words
 unfoldable pub frameEnds : (ℕ → Row) → ℕ → Machine → ℕ → Bool
 frameEnds f c r s = both (eqb (r .frame + sizeAt f c (r .next)) (r .used)) (leb (r .used) s)
 
 -- the rows that a step uses: the statement, its function, the function it calls, those of the frames it leaves
-unfoldable pub rowsUsed : Width → (ℕ → Row) → ℕ → Machine → List ℕ → List ℕ
-rowsUsed w f c r st =
-    ifLt (r .next) c
+unfoldable pub rowsUsed : Program → Machine → List ℕ → List ℕ
+rowsUsed p r st =
+    ifLt (r .next) (p .count)
     (r .next
-    ∷ (ifTrue (inFunction f c (r .next)) (f (r .next) .func ∷ []) []
-    ++ (ifTrue (both (isCall (f (r .next) .kind) (f (r .next) .expr)) (ltb (f (r .next) .callee) c)) (f (r .next) .callee ∷ []) []
-    ++ ifTrue (both (isReturn (f (r .next))) (frameEnds f c r (length st))) (rowsLeft w f c st (suc (r .frame)) (r .frame)) [])))
+    ∷ (ifTrue (inFunction (p .rows) (p .count) (r .next)) (p .rows (r .next) .func ∷ []) []
+    ++ (ifTrue (both (isCall (p .rows (r .next) .kind) (p .rows (r .next) .expr)) (ltb (p .rows (r .next) .callee) (p .count)))
+    (p .rows (r .next) .callee ∷ []) []
+    ++ ifTrue (both (isReturn (p .rows (r .next))) (frameEnds (p .rows) (p .count) r (length st)))
+    (rowsLeft (p .width) (p .rows) (p .count) st (suc (r .frame)) (r .frame)) [])))
     []
 
--- the record, its frames, and the lent stack and memory: m bytes
-unfoldable pub recordGood : Width → (ℕ → Row) → ℕ → ℕ → Machine → List ℕ → Bool
-recordGood w f c m r st =
-    all
-    (ltb (r .next) c
-    ∷ frameEnds f c r (length st)
-    ∷ leb (r .top) m
-    ∷ leb m (memoryLimit w)
-    ∷ leb (length st) stackWords
-    ∷ headGood w f c st (r .frame)
-    ∷ given (eqb (f (r .next) .kind) kind.endBlock) (leb (getD st (r .frame + f (r .next) .a) 0) m)
-    ∷ given (eqb (f (r .next) .kind) kind.tailCall) (leb (topAtEntry st (r .frame)) m)
-    ∷ given (isReturn (f (r .next))) (leavesGood w f c m st (suc (r .frame)) (r .frame))
-    ∷ [])
+-- causes beside the rows: the record, its frames, and the lent stack and memory of m bytes
+module _ (p : Program) (m : ℕ) (r : Machine) (st : List ℕ) where
+  abbrev nextRow : Row
+  nextRow = p .rows (r .next)
 
--- 35 of a step
-unfoldable pub stepBroken : Width → Tables → Machine → List ℕ → ℕ → Broken
-stepBroken w t r st m =
-    ifTrue (countFault t) Somewhere
-    (orElse
-    (lowest (λ i. oneOf (rowFault (rows t) (t .count) (t .dataLength) i) (both (eqb i (r .next)) (nextBad (rows t) (t .count) i)))
-    (rowsUsed w (rows t) (t .count) r st))
-    (ifTrue (recordGood w (rows t) (t .count) m r st) No Somewhere))
+  -- "a next statement [..] in no function": past the rows
+  unfoldable pub nextPast : Bool
+  nextPast = leb (p .count) (r .next)
+
+  -- "a frame that doesn't end at the stack in use or lies past the lent stack"
+  unfoldable pub frameFault : Bool
+  frameFault = not (frameEnds (p .rows) (p .count) r (length st))
+
+  -- "an auto top (held or about to be restored) above the memory's length": m bytes; restored by `end block`, by `tail-call`, and
+  -- by a return from each frame it leaves
+  unfoldable pub topFault : Bool
+  topFault =
+      some
+      (ltb m (r .top)
+      ∷ both (eqb (nextRow .kind) kind.endBlock) (ltb m (getD st (r .frame + nextRow .a) 0))
+      ∷ both (eqb (nextRow .kind) kind.tailCall) (ltb m (topAtEntry st (r .frame)))
+      ∷ both (isReturn nextRow) (not (topsLeft (p .width) (p .rows) (p .count) m st (suc (r .frame)) (r .frame)))
+      ∷ [])
+
+  -- "a memory or stack over the limits"
+  unfoldable pub limitFault : Bool
+  limitFault = oneOf (ltb (memoryLimit (p .width)) m) (ltb stackWords (length st))
+
+  -- "in the frame in use and each a return leaves, the first's two marks aside, a place to return to that is no call or a caller's
+  -- frame that doesn't end where this one starts"
+  unfoldable pub headFault : Bool
+  headFault =
+      oneOf (not (headGood (p .width) (p .rows) (p .count) st (r .frame)))
+      (both (isReturn nextRow) (not (headsLeft (p .width) (p .rows) (p .count) st (suc (r .frame)) (r .frame))))
+
+  -- the record is broken
+  unfoldable pub recordFault : Bool
+  recordFault = some (nextPast ∷ frameFault ∷ topFault ∷ limitFault ∷ headFault ∷ [])
+
+-- 35 of a step. "a label row or count past its table": without statements no row can be judged
+unfoldable pub stepBroken : Program → Machine → List ℕ → ℕ → Broken
+stepBroken p r st m =
+    ifTrue (p .statementsPast) Somewhere
+    (orElse (lowest (λ i. oneOf (rowFault p i) (both (eqb i (r .next)) (nextBad (p .rows) (p .count) i))) (rowsUsed p r st))
+    (ifTrue (oneOf (p .labelsPast) (recordFault p m r st)) Somewhere No))
 
 -- ---- a start: "Start reads all rows"
 
@@ -89,8 +112,8 @@ numbersBelow zero = []
 numbersBelow (suc n) = n ∷ numbersBelow n
 
 -- 35 of a start, d bytes of data being lent
-unfoldable pub startBroken : Tables → ℕ → Broken
-startBroken t d =
-    ifTrue (oneOf (countFault t) (ltb d (t .dataLength))) Somewhere
-    (orElse (lowest (rowFault (rows t) (t .count) (t .dataLength)) (numbersBelow (t .count)))
-    (ifTrue (someBelow (λ i. labelFault (rows t) (t .count) (t .dataLength) (labelsOf t i)) (t .labelCount)) Somewhere No))
+unfoldable pub startBroken : Program → ℕ → Broken
+startBroken p d =
+    ifTrue (p .statementsPast) Somewhere
+    (orElse (lowest (rowFault p) (numbersBelow (p .count)))
+    (ifTrue (some (p .labelsPast ∷ ltb d (p .dataLength) ∷ someBelow (λ i. labelFault p (p .labels i)) (p .labelCount) ∷ [])) Somewhere No))

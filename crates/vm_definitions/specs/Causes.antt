@@ -12,6 +12,7 @@ use Rattle.base_limits.specs.declared.Width.{Width}
 use Rattle.lang_kinds.specs.Kinds as kind
 use Rattle.prog_tables.specs.Tests.{both, oneOf}
 use Rattle.prog_tables.specs.Statement.{Row, hasExpression, isCall}
+use Rattle.prog_tables.specs.Program.{Program}
 use Rattle.prog_tables.specs.declared.Operand.{Operand}
 use Rattle.vm_definitions.specs.Access.{byteAddress, wordAddress, loadOf}
 use Rattle.vm_definitions.specs.Operands.{isAt, numberIn}
@@ -70,23 +71,24 @@ readsOf r x =
     ++ touched (x .stack) (x .machine .frame) (r .operands)
 
 -- all, in reading order
-unfoldable pub meetingsOf : Width → (ℕ → Row) → ℕ → ℕ → World → List Meeting
-meetingsOf w f sum last x =
-    readsOf (f (x .machine .next)) x
-    ++ behindOperands w (x .machine .top) sum last (f (f (x .machine .next) .callee) .a) (f (x .machine .next))
-    (wordOf w (x .stack) (x .machine .frame) (x .memory) (operandNo (f (x .machine .next) .operands) 0))
-    (wordOf w (x .stack) (x .machine .frame) (x .memory) (operandNo (f (x .machine .next) .operands) 1))
+unfoldable pub meetingsOf : Program → ℕ → ℕ → World → List Meeting
+meetingsOf p sum last x =
+    readsOf (p .rows (x .machine .next)) x
+    ++ behindOperands (p .width) (x .machine .top) sum last (p .rows (p .rows (x .machine .next) .callee) .a) (p .rows (x .machine .next))
+    (wordOf (p .width) (x .stack) (x .machine .frame) (x .memory) (operandNo (p .rows (x .machine .next) .operands) 0))
+    (wordOf (p .width) (x .stack) (x .machine .frame) (x .memory) (operandNo (p .rows (x .machine .next) .operands) 1))
 
 -- the number of the first cause that the next statement meets
-unfoldable pub firstCause : Width → (ℕ → Row) → ℕ → ℕ → World → ℕ
-firstCause w f sum last x = firstOf w (length (x .memory)) (length (x .stack)) (meetingsOf w f sum last x)
+unfoldable pub firstCause : Program → ℕ → ℕ → World → ℕ
+firstCause p sum last x = firstOf (p .width) (length (x .memory)) (length (x .stack)) (meetingsOf p sum last x)
 
 -- "a call's or tail call's arguments are read": the next statement calls, and nothing it reads is a cause
-unfoldable pub argumentsRead : Width → (ℕ → Row) → World → Bool
-argumentsRead w f x =
-    both (isCall (f (x .machine .next) .kind) (f (x .machine .next) .expr))
-    (eqb (firstOf w (length (x .memory)) (length (x .stack)) (readsOf (f (x .machine .next)) x)) 0)
+unfoldable pub argumentsRead : Program → World → Bool
+argumentsRead p x =
+    both (isCall (p .rows (x .machine .next) .kind) (p .rows (x .machine .next) .expr))
+    (eqb (firstOf (p .width) (length (x .memory)) (length (x .stack)) (readsOf (p .rows (x .machine .next)) x)) 0)
 
 -- "and that sum with the new frame, for a tail call less the old one, passes the words lent"
-unfoldable pub passesStack : (ℕ → Row) → ℕ → ℕ → World → Bool
-passesStack f sum last x = ltb (length (x .stack)) (withFrame sum last (f (f (x .machine .next) .callee) .a) (f (x .machine .next)))
+unfoldable pub passesStack : Program → ℕ → ℕ → World → Bool
+passesStack p sum last x =
+    ltb (length (x .stack)) (withFrame sum last (p .rows (p .rows (x .machine .next) .callee) .a) (p .rows (x .machine .next)))

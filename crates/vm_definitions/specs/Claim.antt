@@ -5,12 +5,11 @@ use Prim.Native.Nat.{ℕ, _≤_, _<_}
 use mathlib.Core.Bool.{Bool, true, false}
 use mathlib.Core.List.{List, [], _∷_}
 use lib.ListN.{length}
-use Rattle.base_limits.specs.declared.Width.{Width}
 use Rattle.base_limits.specs.declared.State.{State}
 use Rattle.base_limits.specs.declared.State.the-variants.{Running, Finished, Stopped}
 use Rattle.base_limits.specs.Record.{stopped, withState}
 use Rattle.prog_tables.specs.Tests.{both}
-use Rattle.prog_tables.specs.Label.{Tables, rows}
+use Rattle.prog_tables.specs.Program.{Program}
 use Rattle.vm_definitions.specs.Step.{World, stepOf}
 use Rattle.vm_definitions.specs.Start.{startOf}
 use Rattle.vm_definitions.specs.Causes.{firstCause, argumentsRead, passesStack}
@@ -25,8 +24,8 @@ unfoldable pub runningWith : World → List ℕ → World
 runningWith x m = record { machine = withState Running (x .machine); stack = x .stack; memory = m }
 
 -- the number of the first cause that its statement meets, the words in use being those of the ledger
-unfoldable pub causeIn : Width → Tables → Ledger → World → ℕ
-causeIn w t es x = firstCause w (rows t) (sumOf (rows t) es) (lastOf (rows t) es) x
+unfoldable pub causeIn : Program → Ledger → World → ℕ
+causeIn p es x = firstCause p (sumOf (p .rows) es) (lastOf (p .rows) es) x
 
 -- a stop that the paper lists
 pub record Listed (k : ℕ) : Type 0 where
@@ -34,39 +33,39 @@ pub record Listed (k : ℕ) : Type 0 where
   pub to : k ≤ 34
 
 -- the stack stop's own cause
-unfoldable pub stackFull : Width → Tables → Ledger → World → Bool
-stackFull w t es x = both (argumentsRead w (rows t) x) (passesStack (rows t) (sumOf (rows t) es) (lastOf (rows t) es) x)
+unfoldable pub stackFull : Program → Ledger → World → Bool
+stackFull p es x = both (argumentsRead p x) (passesStack p (sumOf (p .rows) es) (lastOf (p .rows) es) x)
 
 -- a step from a running world
-pub record StepSound (w : Width) (t : Tables) (es : Ledger) (x : World) : Type 0 where
+pub record StepSound (p : Program) (es : Ledger) (x : World) : Type 0 where
   -- "It never meets a jump, name, call or frame it cannot make sense of"
-  pub whole : stepOf w t x .broken ≡ No
+  pub whole : stepOf p x .broken ≡ No
   -- "its next step counts one or stops so. A statement stops exactly when such a cause is there, with the number of the first it
   -- meets."
-  pub counts : causeIn w t es x ≡ 0 → stepOf w t x .count ≡ 1
-  pub stops : 0 < causeIn w t es x → stepOf w t x .world .machine ≡ stopped (x .machine) (causeIn w t es x)
-  pub still : 0 < causeIn w t es x → stepOf w t x .world .stack ≡ x .stack
-  pub kept : 0 < causeIn w t es x → stepOf w t x .world .memory ≡ x .memory
-  pub uncounted : 0 < causeIn w t es x → stepOf w t x .count ≡ 0
-  pub listed : 0 < causeIn w t es x → Listed (causeIn w t es x)
+  pub counts : causeIn p es x ≡ 0 → stepOf p x .count ≡ 1
+  pub stops : 0 < causeIn p es x → stepOf p x .world .machine ≡ stopped (x .machine) (causeIn p es x)
+  pub still : 0 < causeIn p es x → stepOf p x .world .stack ≡ x .stack
+  pub kept : 0 < causeIn p es x → stepOf p x .world .memory ≡ x .memory
+  pub uncounted : 0 < causeIn p es x → stepOf p x .count ≡ 0
+  pub listed : 0 < causeIn p es x → Listed (causeIn p es x)
   -- "The stack stop comes exactly when a call's or tail call's arguments are read and that sum with the new frame, for a tail call less
   -- the old one, passes the words lent."
-  pub full : stackFull w t es x ≡ true → causeIn w t es x ≡ 33
-  pub fullOnly : causeIn w t es x ≡ 33 → stackFull w t es x ≡ true
+  pub full : stackFull p es x ≡ true → causeIn p es x ≡ 33
+  pub fullOnly : causeIn p es x ≡ 33 → stackFull p es x ≡ true
 
 -- "or has stopped for one of the five listed causes": at its statement, for the first cause it met with the memory of that time
-pub record StopSound (w : Width) (t : Tables) (es : Ledger) (x : World) (k i : ℕ) : Type 0 where
+pub record StopSound (p : Program) (es : Ledger) (x : World) (k i : ℕ) : Type 0 where
   pub listed : Listed k
   pub at : i ≡ x .machine .next
   pub then : List ℕ
   pub long : length then ≡ length (x .memory)
-  pub met : causeIn w t es (runningWith x then) ≡ k
+  pub met : causeIn p es (runningWith x then) ≡ k
 
 -- what a state promises: "for any memory of that length" where it runs
-unfoldable pub StateSound : Width → Tables → Ledger → World → State → Type 0
-StateSound w t es x Running = (m : List ℕ) → length m ≡ length (x .memory) → StepSound w t es (runningWith x m)
-StateSound w t es x (Finished v) = es ≡ []
-StateSound w t es x (Stopped k i) = StopSound w t es x k i
+unfoldable pub StateSound : Program → Ledger → World → State → Type 0
+StateSound p es x Running = (m : List ℕ) → length m ≡ length (x .memory) → StepSound p es (runningWith x m)
+StateSound p es x (Finished v) = es ≡ []
+StateSound p es x (Stopped k i) = StopSound p es x k i
 
 unfoldable pub isFinished : State → Bool
 isFinished Running = false
@@ -74,12 +73,12 @@ isFinished (Finished v) = true
 isFinished (Stopped k i) = false
 
 -- the demand of one world
-pub record Sound (w : Width) (t : Tables) (es : Ledger) (x : World) : Type 0 where
+pub record Sound (p : Program) (es : Ledger) (x : World) : Type 0 where
   -- "the machine has finished, exactly when no function is open in the ledger of 01": one half is in its state
   pub finished : es ≡ [] → isFinished (x .machine .state) ≡ true
-  pub state : StateSound w t es x (x .machine .state)
+  pub state : StateSound p es x (x .machine .state)
   -- "The stack in use is the sum of the frame sizes of the functions open in the ledger."
-  pub used : x .machine .used ≡ sumOf (rows t) es
+  pub used : x .machine .used ≡ sumOf (p .rows) es
 
 -- "its length stays": every memory of some invocations has n bytes
 unfoldable pub AllLong : ℕ → List Invocation → Type 0
@@ -97,8 +96,8 @@ startedBy name args x cs = record { call = start name args; memory = x .memory }
 
 -- "Take [..] any list of starts, steps and runs on its tables and data, the first an accepted start": from any record, stack and
 -- memory
-unfoldable pub Demand : Width → Tables → List ℕ → Type 0
-Demand w t bytes =
-    (x : World) (name args : List ℕ) (cs : List Invocation) → startOf w t bytes name args x ≡ Begun → AllLong (length (x .memory)) cs
-    → Sound w t (ledgerOf (rows t) [] (eventsAfter w t bytes x (startedBy name args x cs))) (worldAfter w t bytes x (startedBy name args x cs))
-    × NoneBroken (refusalsAfter w t bytes x (startedBy name args x cs))
+unfoldable pub Demand : Program → List ℕ → Type 0
+Demand p bytes =
+    (x : World) (name args : List ℕ) (cs : List Invocation) → startOf p bytes name args x ≡ Begun → AllLong (length (x .memory)) cs
+    → Sound p (ledgerOf (p .rows) [] (eventsAfter p bytes x (startedBy name args x cs))) (worldAfter p bytes x (startedBy name args x cs))
+    × NoneBroken (refusalsAfter p bytes x (startedBy name args x cs))

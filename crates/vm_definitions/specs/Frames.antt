@@ -76,6 +76,18 @@ leavesGood w f c m st (suc fuel) s =
     (both (leb (topAtEntry st s) m)
     (ifTrue (passesOn w f c st s) (leavesGood w f c m st fuel (callerFrame st s)) true))
 
+-- the heads alone
+unfoldable pub headsLeft : Width → (ℕ → Row) → ℕ → List ℕ → ℕ → ℕ → Bool
+headsLeft w f c st zero s = false
+headsLeft w f c st (suc fuel) s =
+    both (headGood w f c st s) (ifTrue (passesOn w f c st s) (headsLeft w f c st fuel (callerFrame st s)) true)
+
+-- the auto tops of entry alone
+unfoldable pub topsLeft : Width → (ℕ → Row) → ℕ → ℕ → List ℕ → ℕ → ℕ → Bool
+topsLeft w f c m st zero s = true
+topsLeft w f c m st (suc fuel) s =
+    both (leb (topAtEntry st s) m) (ifTrue (passesOn w f c st s) (topsLeft w f c m st fuel (callerFrame st s)) true)
+
 -- the rows that such a return uses: each place to return to, with its function
 unfoldable pub rowsLeft : Width → (ℕ → Row) → ℕ → List ℕ → ℕ → ℕ → List ℕ
 rowsLeft w f c st zero s = []

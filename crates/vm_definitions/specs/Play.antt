@@ -3,8 +3,7 @@
 use Prim.Native.Nat.{ℕ, zero, suc}
 use mathlib.Core.List.{List, [], _∷_, _++_}
 use Rattle.base_prelude.specs.Choice.{ifEq}
-use Rattle.base_limits.specs.declared.Width.{Width}
-use Rattle.prog_tables.specs.Label.{Tables}
+use Rattle.prog_tables.specs.Program.{Program}
 use Rattle.vm_definitions.specs.Step.{World, After, stepOf, runOf}
 use Rattle.vm_definitions.specs.Start.{startOf, startLeaves, startedFunction}
 use Rattle.vm_definitions.specs.Ledger.{Event, started, counted}
@@ -32,10 +31,10 @@ pub record CallResult : Type 0 where
   pub broken : Broken
 
 -- the statements that a run counts
-unfoldable pub eventsOf : Width → Tables → ℕ → World → List Event
-eventsOf w t zero x = []
-eventsOf w t (suc b) x =
-    ifEq (stepOf w t x .count) 0 [] (counted (x .machine .next) ∷ eventsOf w t b (stepOf w t x .world))
+unfoldable pub eventsOf : Program → ℕ → World → List Event
+eventsOf p zero x = []
+eventsOf p (suc b) x =
+    ifEq (stepOf p x .count) 0 [] (counted (x .machine .next) ∷ eventsOf p b (stepOf p x .world))
 
 unfoldable pub startEvents : ℕ → Started → List Event
 startEvents g Begun = started g ∷ []
@@ -47,16 +46,16 @@ startBroke Begun = No
 startBroke (Refused k) = No
 startBroke (Unsound b) = b
 
-module _ (w : Width) (t : Tables) (bytes : List ℕ) where
+module _ (p : Program) (bytes : List ℕ) where
   unfoldable pub calledOn : Call → World → CallResult
   calledOn (start name args) x =
       record {
-        world = startLeaves w t bytes name args x;
-        events = startEvents (startedFunction w t bytes name args x) (startOf w t bytes name args x);
-        broken = startBroke (startOf w t bytes name args x);
+        world = startLeaves p bytes name args x;
+        events = startEvents (startedFunction p bytes name args x) (startOf p bytes name args x);
+        broken = startBroke (startOf p bytes name args x);
       }
-  calledOn step x = record { world = stepOf w t x .world; events = eventsOf w t 1 x; broken = stepOf w t x .broken }
-  calledOn (run b) x = record { world = runOf w t b x .world; events = eventsOf w t b x; broken = runOf w t b x .broken }
+  calledOn step x = record { world = stepOf p x .world; events = eventsOf p 1 x; broken = stepOf p x .broken }
+  calledOn (run b) x = record { world = runOf p b x .world; events = eventsOf p b x; broken = runOf p b x .broken }
 
   -- one invocation
   unfoldable pub invokedOn : Invocation → World → CallResult

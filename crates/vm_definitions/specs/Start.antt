@@ -9,11 +9,10 @@ use Rattle.base_prelude.specs.Choice.{ifLt, ifEq, ifTrue}
 use Rattle.base_prelude.specs.Lists.{sameList}
 use Rattle.base_limits.specs.Limits.{stackWords}
 use Rattle.base_limits.specs.Width.{memoryLimit}
-use Rattle.base_limits.specs.declared.Width.{Width}
 use Rattle.base_limits.specs.Record.{freshOf, mark}
 use Rattle.prog_tables.specs.Layout.{exportedFunction}
 use Rattle.prog_tables.specs.Tests.{both, oneOf, firstFrom}
-use Rattle.prog_tables.specs.Label.{Tables, rows, labelsOf}
+use Rattle.prog_tables.specs.Program.{Program}
 use Rattle.vm_definitions.specs.Access.{storeFrom}
 use Rattle.vm_definitions.specs.Frames.{frameWords}
 use Rattle.vm_definitions.specs.Broken.{startBroken}
@@ -24,28 +23,28 @@ use Rattle.vm_definitions.specs.declared.Started.{Started}
 use Rattle.vm_definitions.specs.declared.Started.the-variants.{Begun, Refused, Unsound}
 
 -- label i is an exported function of that name: "only when all their bytes agree"
-unfoldable pub exportsAs : Tables → List ℕ → ℕ → Bool
-exportsAs t name i = both (eqb (labelsOf t i .kind) exportedFunction) (sameList (labelsOf t i .name) name)
+unfoldable pub exportsAs : Program → List ℕ → ℕ → Bool
+exportsAs p name i = both (eqb (p .labels i .kind) exportedFunction) (sameList (p .labels i .name) name)
 
 -- the first such label; the count of labels without one
-unfoldable pub exportOf : Tables → List ℕ → ℕ
-exportOf t name = firstFrom (exportsAs t name) (t .labelCount) 0
+unfoldable pub exportOf : Program → List ℕ → ℕ
+exportOf p name = firstFrom (exportsAs p name) (p .labelCount) 0
 
-module _ (w : Width) (t : Tables) (bytes name args : List ℕ) (x : World) where
+module _ (p : Program) (bytes name args : List ℕ) (x : World) where
   -- the function's statement
   abbrev pub startedFunction : ℕ
-  startedFunction = labelsOf t (exportOf t name) .number
+  startedFunction = p .labels (exportOf p name) .number
 
   abbrev pub startedSize : ℕ
-  startedSize = rows t startedFunction .a
+  startedSize = p .rows startedFunction .a
 
   -- "no exported function of that name / argument count", "memory shorter than the data or too long / stack shorter than the first
   -- frame or too long"
   unfoldable pub startAnswer : Started
   startAnswer =
-      ifLt (exportOf t name) (t .labelCount)
-      (ifEq (length args) (rows t startedFunction .b)
-      (ifTrue (oneOf (ltb (length (x .memory)) (t .dataLength)) (ltb (memoryLimit w) (length (x .memory)))) (Refused 22)
+      ifLt (exportOf p name) (p .labelCount)
+      (ifEq (length args) (p .rows startedFunction .b)
+      (ifTrue (oneOf (ltb (length (x .memory)) (p .dataLength)) (ltb (memoryLimit (p .width)) (length (x .memory)))) (Refused 22)
       (ifTrue (oneOf (ltb (length (x .stack)) startedSize) (ltb stackWords (length (x .stack)))) (Refused 23) Begun))
       (Refused 21))
       (Refused 20)
@@ -54,9 +53,9 @@ module _ (w : Width) (t : Tables) (bytes name args : List ℕ) (x : World) where
   unfoldable pub startWorld : World
   startWorld =
       record {
-        machine = freshOf (suc startedFunction) startedSize (t .dataLength);
-        stack = storeFrom (x .stack) 0 (frameWords (mark w) (mark w) (t .dataLength) args startedSize);
-        memory = storeFrom (x .memory) 0 (take (t .dataLength) bytes);
+        machine = freshOf (suc startedFunction) startedSize (p .dataLength);
+        stack = storeFrom (x .stack) 0 (frameWords (mark (p .width)) (mark (p .width)) (p .dataLength) args startedSize);
+        memory = storeFrom (x .memory) 0 (take (p .dataLength) bytes);
       }
 
   unfoldable pub startBy : Broken → Started
@@ -71,7 +70,7 @@ module _ (w : Width) (t : Tables) (bytes name args : List ℕ) (x : World) where
 
   -- its answer, and the world it leaves
   unfoldable pub startOf : Started
-  startOf = startBy (startBroken t (length bytes))
+  startOf = startBy (startBroken p (length bytes))
 
   unfoldable pub startLeaves : World
   startLeaves = begunBy startOf

@@ -18,7 +18,7 @@ use Rattle.lang_kinds.specs.Kinds as kind
 use Rattle.prog_tables.specs.Layout.{noExpression}
 use Rattle.prog_tables.specs.Tests.{both}
 use Rattle.prog_tables.specs.Statement.{Row, isTest}
-use Rattle.prog_tables.specs.Label.{Tables, rows}
+use Rattle.prog_tables.specs.Program.{Program}
 use Rattle.vm_definitions.specs.Access.{byteAddress, wordAddress, byteGood, wordGood, storeFrom}
 use Rattle.vm_definitions.specs.Operands.{Words, words, bad, numberIn, readOf, readAll, onRead}
 use Rattle.vm_definitions.specs.Expressions.{evalOf, operandNo, testHolds}
@@ -47,9 +47,18 @@ unfoldable pub effectStop : Effect → ℕ
 effectStop (stops k) = k
 effectStop (leaves y) = 0
 
--- ---- statements: of a world x with the view f of c rows, the row being f (x .machine .next)
+-- ---- statements: of a program and a world x, the row being that of its next statement
 
-module _ (w : Width) (f : ℕ → Row) (c : ℕ) (x : World) where
+module _ (p : Program) (x : World) where
+  abbrev w : Width
+  w = p .width
+
+  abbrev f : ℕ → Row
+  f = p .rows
+
+  abbrev c : ℕ
+  c = p .count
+
   abbrev pub rowOf : Row
   rowOf = f (x .machine .next)
 
@@ -266,10 +275,9 @@ inState Running y z = y
 inState (Finished v) y z = z
 inState (Stopped k i) y z = z
 
-unfoldable pub stepOf : Width → Tables → World → After
-stepOf w t x =
-    inState (x .machine .state)
-    (guarded x (effectOf w (rows t) (t .count) x) (stepBroken w t (x .machine) (x .stack) (length (x .memory)))) (idle x No)
+unfoldable pub stepOf : Program → World → After
+stepOf p x =
+    inState (x .machine .state) (guarded x (effectOf p x) (stepBroken p (x .machine) (x .stack) (length (x .memory)))) (idle x No)
 
 -- ---- a run
 
@@ -278,6 +286,6 @@ unfoldable pub counting : ℕ → After → After
 counting n y = record { world = y .world; count = n + y .count; broken = y .broken }
 
 -- "A run steps until its count is the budget, the record has finished or stopped, or a 35 ends it with the count so far."
-unfoldable pub runOf : Width → Tables → ℕ → World → After
-runOf w t zero x = idle x No
-runOf w t (suc b) x = ifEq (stepOf w t x .count) 0 (stepOf w t x) (counting 1 (runOf w t b (stepOf w t x .world)))
+unfoldable pub runOf : Program → ℕ → World → After
+runOf p zero x = idle x No
+runOf p (suc b) x = ifEq (stepOf p x .count) 0 (stepOf p x) (counting 1 (runOf p b (stepOf p x .world)))

@@ -11,18 +11,20 @@ use lib.Dec.{eqb, ltb, leb}
 use borrow.Author.Tests.{eq-eqb, ne-eqb, lt-ltb, le-ltb, le-leb, lt-leb}
 use Rattle.base_prelude.specs.Choice.{ifLt, ifTrue}
 use Rattle.base_prelude.proofs.Choice.{either-true}
+use Rattle.base_limits.specs.Width.{memoryLimit}
 use Rattle.base_limits.specs.declared.Machine.{Machine}
 use Rattle.base_limits.specs.declared.Width.the-variants.{Bits32}
 use Rattle.base_limits.specs.Record.{mark}
 use Rattle.prog_tables.specs.Tests.{both, all}
 use Rattle.prog_tables.specs.Statement.{Row, hasExpression, isCall}
+use Rattle.prog_tables.specs.Program.{Program}
 use Rattle.prog_tables.specs.Faults.{inFunction, sizeAt, rowFault}
 use Rattle.vm_definitions.specs.Frames.{isFirst, isReturnCall, isReturn, isCalling, calledFrom, headGood, passesOn, leavesGood, rowsLeft, resumptionOf}
-use Rattle.vm_definitions.specs.Broken.{lower, lowest, orElse, nextBad, frameEnds, rowsUsed, recordGood}
+use Rattle.vm_definitions.specs.Broken.{lower, lowest, orElse, nextBad, frameEnds, rowsUsed}
 use Rattle.vm_definitions.specs.declared.Resumption.the-variants.{Ends, Caller}
 use Rattle.vm_definitions.specs.declared.Broken.{Broken}
 use Rattle.vm_definitions.specs.declared.Broken.the-variants.{No, At, Somewhere}
-use Rattle.vm_guard.specs.Guard.{rowBad, withinBroken, marked, callMarked, leftBroken, calleeMarked, functionMarked, shapeGood, keptGood}
+use Rattle.vm_guard.specs.Guard.{rowBad, recordGood, withinBroken, marked, callMarked, leftBroken, calleeMarked, functionMarked, shapeGood, keptGood}
 
 both-no : (p : Bool) → both p false ≡ false
 both-no true = refl
@@ -247,16 +249,16 @@ module _ (f : ℕ → Row) (c n k : ℕ) (e : k ≡ f n .kind) where
 
 pub ruleset next-ways = (next-function, next-inside, next-outside)
 
-module _ (f : ℕ → Row) (c d next i : ℕ) (b : Bool) (e : b ≡ rowFault f c d i) where
-  pub bad-fault : b ≡ true → true ≡ rowBad f c d next i
+module _ (prog : Program) (next i : ℕ) (b : Bool) (e : b ≡ rowFault prog i) where
+  pub bad-fault : b ≡ true → true ≡ rowBad prog next i
   unfolding rowBad
   bad-fault h = rw (← e, h)
 
-  pub bad-next : (v : Bool) → b ≡ false → i ≡ next → v ≡ nextBad f c i → v ≡ rowBad f c d next i
+  pub bad-next : (v : Bool) → b ≡ false → i ≡ next → v ≡ nextBad (prog .rows) (prog .count) i → v ≡ rowBad prog next i
   unfolding rowBad
   bad-next v h q g = rw (← e, h, eq-eqb _ _ q) g
 
-  pub bad-other : b ≡ false → (i ≡ next → ⊥) → false ≡ rowBad f c d next i
+  pub bad-other : b ≡ false → (i ≡ next → ⊥) → false ≡ rowBad prog next i
   unfolding rowBad
   bad-other h q = rw (← e, h, ne-eqb _ _ q)
 
@@ -279,43 +281,43 @@ module _ (i : ℕ) (b : Broken) where
 
 pub ruleset lower-ways = (lower-no, lower-at, lower-some)
 
-module _ (f : ℕ → Row) (c d next i : ℕ) (b : Broken) (v : Bool) (e : v ≡ rowBad f c d next i) where
-  pub mark-bad : (x : Broken) → v ≡ true → x ≡ lower i b → x ≡ marked (rowBad f c d next) i b
+module _ (prog : Program) (next i : ℕ) (b : Broken) (v : Bool) (e : v ≡ rowBad prog next i) where
+  pub mark-bad : (x : Broken) → v ≡ true → x ≡ lower i b → x ≡ marked (rowBad prog next) i b
   unfolding marked ifTrue
   mark-bad x h q = rw (← e, h) q
 
-  pub mark-good : v ≡ false → b ≡ marked (rowBad f c d next) i b
+  pub mark-good : v ≡ false → b ≡ marked (rowBad prog next) i b
   unfolding marked ifTrue
   mark-good h = rw (← e, h)
 
 pub ruleset mark-ways = (mark-bad, mark-good)
 
-module _ (f : ℕ → Row) (c d next : ℕ) (b : Broken) where
-  pub call-marked : (i g : ℕ) (x y : Broken) → x ≡ marked (rowBad f c d next) i b → g ≡ f i .func → y ≡ marked (rowBad f c d next) g x
-      → y ≡ callMarked f c d next i b
+module _ (prog : Program) (next : ℕ) (b : Broken) where
+  pub call-marked : (i g : ℕ) (x y : Broken) → x ≡ marked (rowBad prog next) i b → g ≡ prog .rows i .func → y ≡ marked (rowBad prog next) g x
+      → y ≡ callMarked prog next i b
   unfolding callMarked
   call-marked i g x y e q h = rw (← e, ← q) h
 
-  module _ (k x : ℕ) (v : Bool) (e : k ≡ f next .kind) (q : x ≡ f next .expr) (h : v ≡ isCall k x) where
-    pub callee-none : v ≡ false → b ≡ calleeMarked f c d next b
+  module _ (k x : ℕ) (v : Bool) (e : k ≡ prog .rows next .kind) (q : x ≡ prog .rows next .expr) (h : v ≡ isCall k x) where
+    pub callee-none : v ≡ false → b ≡ calleeMarked prog next b
     unfolding calleeMarked ifTrue
     callee-none o = rw (← e, ← q, ← h, o)
 
-    module _ (g : ℕ) (o : v ≡ true) (l : g ≡ f next .callee) where
-      pub callee-row : (y : Broken) → g < c → y ≡ marked (rowBad f c d next) g b → y ≡ calleeMarked f c d next b
+    module _ (g : ℕ) (o : v ≡ true) (l : g ≡ prog .rows next .callee) where
+      pub callee-row : (y : Broken) → g < prog .count → y ≡ marked (rowBad prog next) g b → y ≡ calleeMarked prog next b
       unfolding calleeMarked ifTrue
       callee-row y i j = rw (← e, ← q, ← h, o, ← l, lt-ltb _ _ i) j
 
-      pub callee-far : c ≤ g → b ≡ calleeMarked f c d next b
+      pub callee-far : prog .count ≤ g → b ≡ calleeMarked prog next b
       unfolding calleeMarked ifTrue
       callee-far i = rw (← e, ← q, ← h, o, ← l, le-ltb _ _ i)
 
-  module _ (v : Bool) (e : v ≡ inFunction f c next) where
-    pub function-row : (g : ℕ) (y : Broken) → v ≡ true → g ≡ f next .func → y ≡ marked (rowBad f c d next) g b → y ≡ functionMarked f c d next b
+  module _ (v : Bool) (e : v ≡ inFunction (prog .rows) (prog .count) next) where
+    pub function-row : (g : ℕ) (y : Broken) → v ≡ true → g ≡ prog .rows next .func → y ≡ marked (rowBad prog next) g b → y ≡ functionMarked prog next b
     unfolding functionMarked ifTrue
     function-row g y h q j = rw (← e, h, ← q) j
 
-    pub function-none : v ≡ false → b ≡ functionMarked f c d next b
+    pub function-none : v ≡ false → b ≡ functionMarked prog next b
     unfolding functionMarked ifTrue
     function-none h = rw (← e, h)
 
@@ -368,14 +370,14 @@ joined-none p (i ∷ is) =
     either-true (λ (x : Broken). joined No x ≡ x) (p i) (lower i (lowest p is)) (lowest p is) (λ e. joined-first i (lowest p is)) (λ e. joined-none p is)
 
 -- what is found so far, with what so many steps from the frame `at` find, is the answer
-pub record Finding (f : ℕ → Row) (c d next : ℕ) (st : List ℕ) (s : ℕ) (b : Broken) (at left : ℕ) : Type 0 where
-  pub rest : joined b (lowest (rowBad f c d next) (rowsLeft Bits32 f c st left at)) ≡ lowest (rowBad f c d next) (rowsLeft Bits32 f c st (suc s) s)
+pub record Finding (prog : Program) (next : ℕ) (st : List ℕ) (s : ℕ) (b : Broken) (at left : ℕ) : Type 0 where
+  pub rest : joined b (lowest (rowBad prog next) (rowsLeft Bits32 (prog .rows) (prog .count) st left at)) ≡ lowest (rowBad prog next) (rowsLeft Bits32 (prog .rows) (prog .count) st (suc s) s)
 
-pub finding-start : (f : ℕ → Row) (c d next : ℕ) (st : List ℕ) (s : ℕ) → Finding f c d next st s No s (s + 1)
-finding-start f c d next st s = record { rest = rw add-one (joined-none (rowBad f c d next) (rowsLeft Bits32 f c st (suc s) s)) }
+pub finding-start : (prog : Program) (next : ℕ) (st : List ℕ) (s : ℕ) → Finding prog next st s No s (s + 1)
+finding-start prog next st s = record { rest = rw add-one (joined-none (rowBad prog next) (rowsLeft Bits32 (prog .rows) (prog .count) st (suc s) s)) }
 
-module _ (f : ℕ → Row) (c d next : ℕ) (st : List ℕ) (s : ℕ) (b : Broken) (at left : ℕ) (h : Finding f c d next st s b at left) where
-  pub finding-out : left ≤ 0 → b ≡ lowest (rowBad f c d next) (rowsLeft Bits32 f c st (suc s) s)
+module _ (prog : Program) (next : ℕ) (st : List ℕ) (s : ℕ) (b : Broken) (at left : ℕ) (h : Finding prog next st s b at left) where
+  pub finding-out : left ≤ 0 → b ≡ lowest (rowBad prog next) (rowsLeft Bits32 (prog .rows) (prog .count) st (suc s) s)
   unfolding rowsLeft lowest joined
   finding-out l = let e : left ≡ 0 = omega arith in rw e at (h .rest)
 
@@ -383,40 +385,40 @@ module _ (f : ℕ → Row) (c d next : ℕ) (st : List ℕ) (s : ℕ) (b : Broke
     finding-left : left ≡ suc (left - 1)
     finding-left = omega arith
 
-    found : joined b (lowest (rowBad f c d next) (rowsLeft Bits32 f c st (suc (left - 1)) at)) ≡ lowest (rowBad f c d next) (rowsLeft Bits32 f c st (suc s) s)
+    found : joined b (lowest (rowBad prog next) (rowsLeft Bits32 (prog .rows) (prog .count) st (suc (left - 1)) at)) ≡ lowest (rowBad prog next) (rowsLeft Bits32 (prog .rows) (prog .count) st (suc s) s)
     found = rw finding-left at (h .rest)
 
-    pub finding-first : v ≡ true → b ≡ lowest (rowBad f c d next) (rowsLeft Bits32 f c st (suc s) s)
+    pub finding-first : v ≡ true → b ≡ lowest (rowBad prog next) (rowsLeft Bits32 (prog .rows) (prog .count) st (suc s) s)
     unfolding rowsLeft lowest joined ifTrue
     finding-first q = rw (← e, q) at found
 
-    module _ (x : Bool) (q : v ≡ false) (o : x ≡ calledFrom f c st at) where
-      pub finding-stray : x ≡ false → b ≡ lowest (rowBad f c d next) (rowsLeft Bits32 f c st (suc s) s)
+    module _ (x : Bool) (q : v ≡ false) (o : x ≡ calledFrom (prog .rows) (prog .count) st at) where
+      pub finding-stray : x ≡ false → b ≡ lowest (rowBad prog next) (rowsLeft Bits32 (prog .rows) (prog .count) st (suc s) s)
       unfolding rowsLeft lowest joined ifTrue
       finding-stray w = rw (← e, q, ← o, w) at found
 
       module _ (p : ℕ) (a : Broken) (y : Bool) (w : x ≡ true) (g : p ≡ getD st at 0)
-          (n : a ≡ callMarked f c d next p b) (i : y ≡ isReturnCall (f p)) where
+          (n : a ≡ callMarked prog next p b) (i : y ≡ isReturnCall (prog .rows p)) where
         -- with the two rows of this frame
-        on : (is : List ℕ) → rowsLeft Bits32 f c st (suc (left - 1)) at ≡ p ∷ f p .func ∷ is
-            → joined a (lowest (rowBad f c d next) is) ≡ lowest (rowBad f c d next) (rowsLeft Bits32 f c st (suc s) s)
+        on : (is : List ℕ) → rowsLeft Bits32 (prog .rows) (prog .count) st (suc (left - 1)) at ≡ p ∷ prog .rows p .func ∷ is
+            → joined a (lowest (rowBad prog next) is) ≡ lowest (rowBad prog next) (rowsLeft Bits32 (prog .rows) (prog .count) st (suc s) s)
         unfolding callMarked
         on is k =
-            ap (λ (z : Broken). joined z (lowest (rowBad f c d next) is)) n
-            ∙ joined-marked (rowBad f c d next) (f p .func) (marked (rowBad f c d next) p b) (lowest (rowBad f c d next) is)
-            ∙ joined-marked (rowBad f c d next) p b (marked (rowBad f c d next) (f p .func) (lowest (rowBad f c d next) is))
-            ∙ ap (λ (z : Broken). joined b (marked (rowBad f c d next) p z)) (sym (lowest-cons (rowBad f c d next) (f p .func) is))
-            ∙ ap (joined b) (sym (lowest-cons (rowBad f c d next) p (f p .func ∷ is)))
-            ∙ ap (λ (z : List ℕ). joined b (lowest (rowBad f c d next) z)) (sym k)
+            ap (λ (z : Broken). joined z (lowest (rowBad prog next) is)) n
+            ∙ joined-marked (rowBad prog next) (prog .rows p .func) (marked (rowBad prog next) p b) (lowest (rowBad prog next) is)
+            ∙ joined-marked (rowBad prog next) p b (marked (rowBad prog next) (prog .rows p .func) (lowest (rowBad prog next) is))
+            ∙ ap (λ (z : Broken). joined b (marked (rowBad prog next) p z)) (sym (lowest-cons (rowBad prog next) (prog .rows p .func) is))
+            ∙ ap (joined b) (sym (lowest-cons (rowBad prog next) p (prog .rows p .func ∷ is)))
+            ∙ ap (λ (z : List ℕ). joined b (lowest (rowBad prog next) z)) (sym k)
             ∙ found
 
-        pub finding-caller : y ≡ false → a ≡ lowest (rowBad f c d next) (rowsLeft Bits32 f c st (suc s) s)
+        pub finding-caller : y ≡ false → a ≡ lowest (rowBad prog next) (rowsLeft Bits32 (prog .rows) (prog .count) st (suc s) s)
         unfolding rowsLeft lowest joined ifTrue
         finding-caller j = on [] (rw (← e, q, ← o, w, ← g, ← i, j))
 
-        pub finding-on : (u : ℕ) → y ≡ true → u ≡ getD st (at + 1) 0 → Finding f c d next st s a u (left - 1)
+        pub finding-on : (u : ℕ) → y ≡ true → u ≡ getD st (at + 1) 0 → Finding prog next st s a u (left - 1)
         unfolding rowsLeft ifTrue
-        finding-on u j z = record { rest = on (rowsLeft Bits32 f c st (left - 1) u) (rw (← e, q, ← o, w, ← g, ← i, j, ← z)) }
+        finding-on u j z = record { rest = on (rowsLeft Bits32 (prog .rows) (prog .count) st (left - 1) u) (rw (← e, q, ← o, w, ← g, ← i, j, ← z)) }
 
 pub ruleset finding = (finding-start, finding-out, finding-first, finding-stray, finding-caller, finding-on)
 
@@ -433,18 +435,18 @@ module _ (f : ℕ → Row) (c : ℕ) (r : Machine) (s n : ℕ) (e : n ≡ sizeAt
 
 pub ruleset ends-ways = (ends-at, ends-else)
 
-module _ (f : ℕ → Row) (c d : ℕ) (r : Machine) (st : List ℕ) (v : Bool) (e : v ≡ isReturn (f (r .next))) where
-  pub frames-none : v ≡ false → No ≡ leftBroken Bits32 f c d r st
+module _ (prog : Program) (r : Machine) (st : List ℕ) (v : Bool) (e : v ≡ isReturn (prog .rows (r .next))) where
+  pub frames-none : v ≡ false → No ≡ leftBroken prog r st
   unfolding leftBroken ifTrue lowest
   frames-none h = rw (← e, h)
 
-  module _ (x : Bool) (h : v ≡ true) (q : x ≡ frameEnds f c r (length st)) where
-    pub frames-open : x ≡ false → No ≡ leftBroken Bits32 f c d r st
+  module _ (x : Bool) (h : v ≡ true) (q : x ≡ frameEnds (prog .rows) (prog .count) r (length st)) where
+    pub frames-open : x ≡ false → No ≡ leftBroken prog r st
     unfolding leftBroken ifTrue lowest
     frames-open o = rw (← e, h, ← q, o)
 
-    pub frames-left : (b : Broken) → x ≡ true → b ≡ lowest (rowBad f c d (r .next)) (rowsLeft Bits32 f c st (suc (r .frame)) (r .frame))
-        → b ≡ leftBroken Bits32 f c d r st
+    pub frames-left : (b : Broken) → x ≡ true → b ≡ lowest (rowBad prog (r .next)) (rowsLeft (prog .width) (prog .rows) (prog .count) st (suc (r .frame)) (r .frame))
+        → b ≡ leftBroken prog r st
     unfolding leftBroken ifTrue
     frames-left b o g = rw (← e, h, ← q, o) g
 
@@ -456,14 +458,14 @@ unfolding ifTrue
 maybe-row p true i is = lowest-cons p i is
 maybe-row p false i is = refl
 
-module _ (f : ℕ → Row) (c d : ℕ) (r : Machine) (st : List ℕ) where
-  pub used-past : c ≤ r .next → No ≡ lowest (rowBad f c d (r .next)) (rowsUsed Bits32 f c r st)
+module _ (prog : Program) (r : Machine) (st : List ℕ) where
+  pub used-past : prog .count ≤ r .next → No ≡ lowest (rowBad prog (r .next)) (rowsUsed prog r st)
   unfolding rowsUsed lowest ifLt
   used-past h = rw (le-ltb _ _ h)
 
-  pub used-within : (a b x y : Broken) → r .next < c → a ≡ leftBroken Bits32 f c d r st → b ≡ calleeMarked f c d (r .next) a
-      → x ≡ functionMarked f c d (r .next) b → y ≡ marked (rowBad f c d (r .next)) (r .next) x
-      → y ≡ lowest (rowBad f c d (r .next)) (rowsUsed Bits32 f c r st)
+  pub used-within : (a b x y : Broken) → r .next < prog .count → a ≡ leftBroken prog r st → b ≡ calleeMarked prog (r .next) a
+      → x ≡ functionMarked prog (r .next) b → y ≡ marked (rowBad prog (r .next)) (r .next) x
+      → y ≡ lowest (rowBad prog (r .next)) (rowsUsed prog r st)
   unfolding rowsUsed leftBroken calleeMarked functionMarked ifLt
   used-within a b x y h e q g o =
       rw (lt-ltb _ _ h, lowest-cons, maybe-row, maybe-row, ← e, ← q, ← g) o
@@ -519,11 +521,11 @@ module _ (f : ℕ → Row) (c m next : ℕ) (st : List ℕ) (s k : ℕ) (e : k �
 pub ruleset kept-ways = (kept-block, kept-tail, kept-return, kept-other)
 
 -- the tests of the record in three parts
-record-parts : (f : ℕ → Row) (c m : ℕ) (r : Machine) (st : List ℕ)
-    → recordGood Bits32 f c m r st ≡ both (shapeGood Bits32 f c m r st) (both (headGood Bits32 f c st (r .frame)) (keptGood Bits32 f c m (r .next) st (r .frame)))
+record-parts : (prog : Program) (m : ℕ) (r : Machine) (st : List ℕ)
+    → recordGood prog m r st ≡ both (shapeGood (prog .width) (prog .rows) (prog .count) m r st) (both (headGood (prog .width) (prog .rows) (prog .count) st (r .frame)) (keptGood (prog .width) (prog .rows) (prog .count) m (r .next) st (r .frame)))
 unfolding recordGood shapeGood keptGood all
-record-parts f c m r st =
-    by (ltb (r .next) c) (frameEnds f c r (length st)) (leb (r .top) m) (leb m 65536) (leb (length st) 16384) (both (headGood Bits32 f c st (r .frame)) (keptGood Bits32 f c m (r .next) st (r .frame)))
+record-parts prog m r st =
+    by (ltb (r .next) (prog .count)) (frameEnds (prog .rows) (prog .count) r (length st)) (leb (r .top) m) (leb m (memoryLimit (prog .width))) (leb (length st) 16384) (both (headGood (prog .width) (prog .rows) (prog .count) st (r .frame)) (keptGood (prog .width) (prog .rows) (prog .count) m (r .next) st (r .frame)))
   where
     by : (a b x y z n : Bool) → both a (both b (both x (both y (both z n)))) ≡ both (both a (both b (both x (both y (both z true))))) n
     by true true true true true n = refl
@@ -533,34 +535,34 @@ record-parts f c m r st =
     by true false x y z n = refl
     by false b x y z n = refl
 
-module _ (f : ℕ → Row) (c m : ℕ) (r : Machine) (st : List ℕ) (v : Bool) (e : v ≡ shapeGood Bits32 f c m r st) where
-  pub record-shape : v ≡ false → false ≡ recordGood Bits32 f c m r st
+module _ (prog : Program) (m : ℕ) (r : Machine) (st : List ℕ) (v : Bool) (e : v ≡ shapeGood (prog .width) (prog .rows) (prog .count) m r st) where
+  pub record-shape : v ≡ false → false ≡ recordGood prog m r st
   record-shape h = rw (record-parts, ← e, h)
 
-  module _ (x : Bool) (h : v ≡ true) (q : x ≡ headGood Bits32 f c st (r .frame)) where
-    pub record-head : x ≡ false → false ≡ recordGood Bits32 f c m r st
+  module _ (x : Bool) (h : v ≡ true) (q : x ≡ headGood (prog .width) (prog .rows) (prog .count) st (r .frame)) where
+    pub record-head : x ≡ false → false ≡ recordGood prog m r st
     record-head o = rw (record-parts, ← e, h, ← q, o)
 
-    pub record-kept : (y : Bool) → x ≡ true → y ≡ keptGood Bits32 f c m (r .next) st (r .frame) → y ≡ recordGood Bits32 f c m r st
+    pub record-kept : (y : Bool) → x ≡ true → y ≡ keptGood (prog .width) (prog .rows) (prog .count) m (r .next) st (r .frame) → y ≡ recordGood prog m r st
     record-kept y o g = rw (record-parts, ← e, h, ← q, o) g
 
 pub ruleset record-ways = (record-shape, record-head, record-kept)
 
-module _ (f : ℕ → Row) (c d : ℕ) (r : Machine) (st : List ℕ) (m : ℕ) (b : Broken) (e : b ≡ lowest (rowBad f c d (r .next)) (rowsUsed Bits32 f c r st)) where
-  pub broken-at : (i : ℕ) → b ≡ At i → At i ≡ withinBroken Bits32 f c d r st m
+module _ (prog : Program) (r : Machine) (st : List ℕ) (m : ℕ) (b : Broken) (e : b ≡ lowest (rowBad prog (r .next)) (rowsUsed prog r st)) where
+  pub broken-at : (i : ℕ) → b ≡ At i → At i ≡ withinBroken prog r st m
   unfolding withinBroken orElse
   broken-at i h = rw (← e, h)
 
-  pub broken-some : b ≡ Somewhere → Somewhere ≡ withinBroken Bits32 f c d r st m
+  pub broken-some : b ≡ Somewhere → Somewhere ≡ withinBroken prog r st m
   unfolding withinBroken orElse
   broken-some h = rw (← e, h)
 
-  module _ (v : Bool) (h : b ≡ No) (q : v ≡ recordGood Bits32 f c m r st) where
-    pub broken-none : v ≡ true → No ≡ withinBroken Bits32 f c d r st m
+  module _ (v : Bool) (h : b ≡ No) (q : v ≡ recordGood prog m r st) where
+    pub broken-none : v ≡ true → No ≡ withinBroken prog r st m
     unfolding withinBroken orElse ifTrue
     broken-none o = rw (← e, h, ← q, o)
 
-    pub broken-record : v ≡ false → Somewhere ≡ withinBroken Bits32 f c d r st m
+    pub broken-record : v ≡ false → Somewhere ≡ withinBroken prog r st m
     unfolding withinBroken orElse ifTrue
     broken-record o = rw (← e, h, ← q, o)
 

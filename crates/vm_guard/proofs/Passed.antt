@@ -1,39 +1,144 @@
 -- What a step that is not refused knows; and a good return resumes behind a call of the table, below the frame left.
 -- Assumes nothing.
-use mathlib.Core.Path.{_≡_, refl, sym}
+use mathlib.Core.Path.{_≡_, refl, sym, _∙_, ap}
 use mathlib.Core.Bool.{Bool, true, false, not}
 use mathlib.Core.List.{List, [], _∷_}
 use Prim.Native.Nat.{ℕ, zero, suc, _+_, _<_, _≤_}
+use native.Mathlib.Decide.{decLt}
 use native.Mathlib.Omega.{arith}
 use lib.ListN.{length, getD}
 use lib.Dec.{eqb, ltb, leb}
-use borrow.Author.Tests.{eqb-true, ltb-true, leb-true, lt-ltb}
+use borrow.Author.Tests.{eqb-true, ltb-true, leb-true, lt-ltb, le-ltb, le-leb, lt-leb}
 use Rattle.base_prelude.specs.Choice.{ifLt, ifTrue}
 use Rattle.base_prelude.proofs.Choice.{true-false}
+use Rattle.base_limits.specs.Limits.{stackWords}
+use Rattle.base_limits.specs.Width.{memoryLimit}
 use Rattle.base_limits.specs.declared.Width.{Width}
 use Rattle.base_limits.specs.declared.Width.the-variants.{Bits32}
 use Rattle.base_limits.specs.declared.Machine.{Machine}
+use Rattle.lang_kinds.specs.Kinds as kind
 use Rattle.prog_tables.specs.Tests.{both, oneOf, given, all, some}
-use Rattle.prog_tables.specs.Statement.{Row, hasExpression, isCall}
-use Rattle.prog_tables.specs.Label.{Tables, rows}
+use Rattle.prog_tables.specs.Statement.{Row, rowAt, hasExpression, isCall}
+use Rattle.prog_tables.specs.Program.{Program, programFrom, lentProgram}
 use Rattle.prog_tables.specs.Nesting.{isListed}
-use Rattle.prog_tables.specs.Faults.{expressionListed, expressionFault, inFunction, sizeAt, kindFault, targetFault, calleeFault, rowFault, countFault}
+use Rattle.prog_tables.specs.Faults.{expressionListed, expressionFault, inFunction, sizeAt, kindFault, targetFault, calleeFault, sizeFault, wordFault, operandsFault, addressFault, rowFault}
 use Rattle.prog_tables.proofs.Each.{both-left, both-right, given-then, all-at}
-use Rattle.vm_definitions.specs.Frames.{returnsTo, callerFrame, topAtEntry, isFirst, isReturn, isCalling, calledFrom, headGood, passesOn, leavesGood, resumptionOf}
-use Rattle.vm_definitions.specs.Broken.{lower, lowest, orElse, frameEnds, rowsUsed, recordGood, stepBroken}
+use Rattle.vm_definitions.specs.Frames.{returnsTo, callerFrame, topAtEntry, isFirst, isReturn, isCalling, calledFrom, headGood, passesOn, leavesGood, headsLeft, topsLeft, resumptionOf}
+use Rattle.vm_definitions.specs.Lent.{tablesOf}
+use Rattle.vm_definitions.specs.Broken.{lower, lowest, orElse, frameEnds, rowsUsed, nextPast, frameFault, topFault, limitFault, headFault, recordFault, stepBroken}
 use Rattle.vm_definitions.specs.declared.Resumption.the-variants.{Ends, Caller}
 use Rattle.vm_definitions.specs.declared.Broken.{Broken}
 use Rattle.vm_definitions.specs.declared.Broken.the-variants.{No, At, Somewhere}
-use Rattle.vm_guard.specs.Guard.{rowBad, withinBroken}
+use Rattle.vm_definitions.proofs.Seen.{leaves-parts}
+use Rattle.vm_guard.specs.Guard.{rowBad, recordGood, withinBroken}
 use Rattle.vm_guard.specs.Passed.{Passed}
 use Rattle.prog_tables.proofs.Each.{one-no, one-rest}
 use Rattle.prog_tables.proofs.CallRows.{expression-listed}
 
--- refusal 35 of a step: the counts, then the rest
-pub step-broken : (w : Width) (t : Tables) (r : Machine) (st : List ℕ) (m : ℕ)
-    → stepBroken w t r st m ≡ ifTrue (countFault t) Somewhere (withinBroken w (rows t) (t .count) (t .dataLength) r st m)
+-- ---- refusal 35 of a step: the counts of statements, then the rows and the record, then the counts of labels
+
+at-most : (a b : ℕ) → ltb b a ≡ not (leb a b)
+at-most a b =
+    elim (decLt b a) [
+      | yes h ↦ lt-ltb b a h ∙ ap not (sym (lt-leb a b h))
+      | no h ↦ le-ltb b a (omega (arith, h)) ∙ ap not (sym (le-leb a b (omega (arith, h))))
+    ]
+
+below : (a b : ℕ) → leb b a ≡ not (ltb a b)
+below a b =
+    elim (decLt a b) [
+      | yes h ↦ lt-leb b a h ∙ ap not (sym (lt-ltb a b h))
+      | no h ↦ le-leb b a (omega (arith, h)) ∙ ap not (sym (le-ltb a b (omega (arith, h))))
+    ]
+
+where-asked : (p q : Bool) → both p (not q) ≡ not (given p q)
+where-asked true q = refl
+where-asked false q = refl
+
+given-both : (p a b : Bool) → given p (both a b) ≡ both (given p a) (given p b)
+given-both true a b = refl
+given-both false a b = refl
+
+-- no test of the record fails exactly when every one passes
+record-tests : (a b c d e f g i j k : Bool)
+    → some (not a ∷ not b ∷ some (not c ∷ not d ∷ not e ∷ not f ∷ []) ∷ oneOf (not g) (not i) ∷ oneOf (not j) (not k) ∷ [])
+    ≡ not (all (a ∷ b ∷ c ∷ g ∷ i ∷ j ∷ d ∷ e ∷ both k f ∷ []))
+unfolding some all
+record-tests false b c d e f g i j k = refl
+record-tests true false c d e f g i j k = refl
+record-tests true true false d e f g i j k = refl
+record-tests true true true false e f true true true k = refl
+record-tests true true true false e f true true false k = refl
+record-tests true true true false e f true false j k = refl
+record-tests true true true false e f false i j k = refl
+record-tests true true true true false f true true true k = refl
+record-tests true true true true false f true true false k = refl
+record-tests true true true true false f true false j k = refl
+record-tests true true true true false f false i j k = refl
+record-tests true true true true true false true true true true = refl
+record-tests true true true true true false true true true false = refl
+record-tests true true true true true false true true false k = refl
+record-tests true true true true true false true false j k = refl
+record-tests true true true true true false false i j k = refl
+record-tests true true true true true true false i j k = refl
+record-tests true true true true true true true false j k = refl
+record-tests true true true true true true true true false k = refl
+record-tests true true true true true true true true true false = refl
+record-tests true true true true true true true true true true = refl
+
+module _ (p : Program) (m : ℕ) (r : Machine) (st : List ℕ) where
+  abbrev row : Row
+  row = p .rows (r .next)
+
+  abbrev heads : Bool
+  heads = headsLeft (p .width) (p .rows) (p .count) st (suc (r .frame)) (r .frame)
+
+  abbrev tops : Bool
+  tops = topsLeft (p .width) (p .rows) (p .count) m st (suc (r .frame)) (r .frame)
+
+  pub record-fault : recordFault p m r st ≡ not (recordGood p m r st)
+  unfolding recordFault nextPast frameFault topFault limitFault headFault recordGood
+  record-fault =
+      rw (
+        below (r .next) (p .count),
+        at-most (r .top) m,
+        at-most (getD st (r .frame + row .a) 0) m,
+        at-most (topAtEntry st (r .frame)) m,
+        at-most m (memoryLimit (p .width)),
+        at-most (length st) stackWords,
+        where-asked (eqb (row .kind) kind.endBlock) (leb (getD st (r .frame + row .a) 0) m),
+        where-asked (eqb (row .kind) kind.tailCall) (leb (topAtEntry st (r .frame)) m),
+        where-asked (isReturn row) tops,
+        where-asked (isReturn row) heads,
+        leaves-parts (p .width) (p .rows) (p .count) m st (suc (r .frame)) (r .frame),
+        given-both (isReturn row) heads tops,
+      )
+      (record-tests (ltb (r .next) (p .count)) (frameEnds (p .rows) (p .count) r (length st)) (leb (r .top) m)
+      (given (eqb (row .kind) kind.endBlock) (leb (getD st (r .frame + row .a) 0) m)) (given (eqb (row .kind) kind.tailCall) (leb (topAtEntry st (r .frame)) m))
+      (given (isReturn row) tops) (leb m (memoryLimit (p .width))) (leb (length st) stackWords) (headGood (p .width) (p .rows) (p .count) st (r .frame)) (given (isReturn row) heads))
+
+then-labels : (x : Broken) (a b : Bool) → orElse x (ifTrue (oneOf a (not b)) Somewhere No) ≡ orElse (orElse x (ifTrue b No Somewhere)) (ifTrue a Somewhere No)
+unfolding orElse ifTrue
+then-labels No true true = refl
+then-labels No true false = refl
+then-labels No false true = refl
+then-labels No false false = refl
+then-labels (At i) a b = refl
+then-labels Somewhere a b = refl
+
+pub step-broken : (p : Program) (r : Machine) (st : List ℕ) (m : ℕ)
+    → stepBroken p r st m ≡ ifTrue (p .statementsPast) Somewhere (orElse (withinBroken p r st m) (ifTrue (p .labelsPast) Somewhere No))
 unfolding stepBroken withinBroken rowBad
-step-broken w t r st m = refl
+step-broken p r st m =
+    ap (λ (b : Bool). ifTrue (p .statementsPast) Somewhere (orElse (lowest (rowBad p (r .next)) (rowsUsed p r st)) (ifTrue (oneOf (p .labelsPast) b) Somewhere No)))
+    (record-fault p m r st)
+    ∙ ap (ifTrue (p .statementsPast) Somewhere) (then-labels (lowest (rowBad p (r .next)) (rowsUsed p r st)) (p .labelsPast) (recordGood p m r st))
+
+-- the names of the labels and the counts do not matter to the rest
+pub within-lent : (t : List ℕ) (c : ℕ) (l : List ℕ) (k : ℕ) (names : List ℕ) (d : ℕ) (r : Machine) (st : List ℕ) (m : ℕ)
+    → withinBroken (programFrom Bits32 (tablesOf t c l k names d)) r st m ≡ withinBroken (lentProgram t c l k d) r st m
+unfolding withinBroken rowBad rowFault kindFault targetFault calleeFault sizeFault wordFault operandsFault addressFault rowsUsed recordGood
+within-lent t c l k names d r st m = refl
 
 -- ---- tests
 
@@ -81,35 +186,35 @@ first-good p i is = by (p i)
     by true e = lower-some i (lowest p is) (true ≡ false) e
     by false e = refl
 
-module _ (f : ℕ → Row) (c d n : ℕ) (e : rowFault f c d n ≡ false) where
-  kind-good : kindFault f n ≡ false
+module _ (prog : Program) (n : ℕ) (e : rowFault prog n ≡ false) where
+  kind-good : kindFault prog n ≡ false
   unfolding rowFault some
-  kind-good = one-no (kindFault f n) _ e
+  kind-good = one-no (kindFault prog n) _ e
 
-  callee-good : calleeFault f c n ≡ false
+  callee-good : calleeFault prog n ≡ false
   unfolding rowFault some
-  callee-good = one-no (calleeFault f c n) _ (one-rest (targetFault f c n) _ (one-rest (kindFault f n) _ e))
+  callee-good = one-no (calleeFault prog n) _ (one-rest (targetFault prog n) _ (one-rest (kindFault prog n) _ e))
 
-  pub row-listed : hasExpression (f n .kind) ≡ true → expressionListed (f n .kind) (f n .expr) ≡ true
+  pub row-listed : hasExpression (prog .rows n .kind) ≡ true → expressionListed (prog .rows n .kind) (prog .rows n .expr) ≡ true
   unfolding kindFault ifTrue
-  row-listed h = by (isListed (f n .kind)) kind-good
+  row-listed h = by (isListed (prog .rows n .kind)) kind-good
     where
-      by : (q : Bool) → ifTrue q (expressionFault (f n .kind) (f n .expr)) true ≡ false
-          → expressionListed (f n .kind) (f n .expr) ≡ true
-      by true g = expression-listed (f n .kind) (f n .expr) g h
+      by : (q : Bool) → ifTrue q (expressionFault (prog .rows n .kind) (prog .rows n .expr)) true ≡ false
+          → expressionListed (prog .rows n .kind) (prog .rows n .expr) ≡ true
+      by true g = expression-listed (prog .rows n .kind) (prog .rows n .expr) g h
       by false g = true-false g
 
-  pub row-callee : isCall (f n .kind) (f n .expr) ≡ true → f n .callee < c
+  pub row-callee : isCall (prog .rows n .kind) (prog .rows n .expr) ≡ true → prog .rows n .callee < prog .count
   unfolding calleeFault
   row-callee h =
-      ltb-true _ _ (both-left (ltb (f n .callee) c) _ (not-both (isCall (f n .kind) (f n .expr)) (both (ltb (f n .callee) c) _) callee-good h))
+      ltb-true _ _ (both-left (ltb (prog .rows n .callee) (prog .count)) _ (not-both (isCall (prog .rows n .kind) (prog .rows n .expr)) (both (ltb (prog .rows n .callee) (prog .count)) _) callee-good h))
 
-module _ (f : ℕ → Row) (c d : ℕ) (r : Machine) (st : List ℕ) (m : ℕ) (e : withinBroken Bits32 f c d r st m ≡ No) where
-  record-passed : recordGood Bits32 f c m r st ≡ true
+module _ (t : List ℕ) (c : ℕ) (l : List ℕ) (k d : ℕ) (r : Machine) (st : List ℕ) (m : ℕ) (e : withinBroken (lentProgram t c l k d) r st m ≡ No) where
+  record-passed : recordGood (lentProgram t c l k d) m r st ≡ true
   unfolding withinBroken
-  record-passed = good-then (recordGood Bits32 f c m r st) (broken-then (lowest (rowBad f c d (r .next)) (rowsUsed Bits32 f c r st)) _ e)
+  record-passed = good-then (recordGood (lentProgram t c l k d) m r st) (broken-then (lowest (rowBad (lentProgram t c l k d) (r .next)) (rowsUsed (lentProgram t c l k d) r st)) _ e)
 
-  rows-passed : lowest (rowBad f c d (r .next)) (rowsUsed Bits32 f c r st) ≡ No
+  rows-passed : lowest (rowBad (lentProgram t c l k d) (r .next)) (rowsUsed (lentProgram t c l k d) r st) ≡ No
   unfolding withinBroken
   rows-passed = broken-no _ _ e
 
@@ -117,35 +222,35 @@ module _ (f : ℕ → Row) (c d : ℕ) (r : Machine) (st : List ℕ) (m : ℕ) (
   unfolding recordGood all
   next-within = ltb-true _ _ (both-left (ltb (r .next) c) _ record-passed)
 
-  row-passed : rowFault f c d (r .next) ≡ false
+  row-passed : rowFault (lentProgram t c l k d) (r .next) ≡ false
   unfolding rowsUsed ifLt rowBad
-  row-passed = one-no (rowFault f c d (r .next)) _ (first-good (rowBad f c d (r .next)) (r .next) _ (rw (lt-ltb _ _ next-within) at rows-passed))
+  row-passed = one-no (rowFault (lentProgram t c l k d) (r .next)) _ (first-good (rowBad (lentProgram t c l k d) (r .next)) (r .next) _ (rw (lt-ltb _ _ next-within) at rows-passed))
 
   -- test k of the record
-  tested : (k : ℕ) → k < 9 → getD (
+  tested : (j : ℕ) → j < 9 → getD (
       ltb (r .next) c
-      ∷ frameEnds f c r (length st)
+      ∷ frameEnds (rowAt t) c r (length st)
       ∷ leb (r .top) m
       ∷ leb m 65536
       ∷ leb (length st) 16384
-      ∷ headGood Bits32 f c st (r .frame)
-      ∷ given (eqb (f (r .next) .kind) 4) (leb (getD st (r .frame + f (r .next) .a) 0) m)
-      ∷ given (eqb (f (r .next) .kind) 12) (leb (topAtEntry st (r .frame)) m)
-      ∷ given (isReturn (f (r .next))) (leavesGood Bits32 f c m st (suc (r .frame)) (r .frame))
-      ∷ []) k true ≡ true
+      ∷ headGood Bits32 (rowAt t) c st (r .frame)
+      ∷ given (eqb (rowAt t (r .next) .kind) 4) (leb (getD st (r .frame + rowAt t (r .next) .a) 0) m)
+      ∷ given (eqb (rowAt t (r .next) .kind) 12) (leb (topAtEntry st (r .frame)) m)
+      ∷ given (isReturn (rowAt t (r .next))) (leavesGood Bits32 (rowAt t) c m st (suc (r .frame)) (r .frame))
+      ∷ []) j true ≡ true
   unfolding recordGood
-  tested k h = all-at _ k record-passed h
+  tested j h = all-at _ j record-passed h
 
-  pub passed : Passed f c d r st m
+  pub passed : Passed (lentProgram t c l k d) r st m
   passed =
       record {
         within = next-within;
         row = row-passed;
-        callee = row-callee f c d (r .next) row-passed;
+        callee = row-callee (lentProgram t c l k d) (r .next) row-passed;
         stack = leb-true _ _ (tested 4 (omega arith));
         memory = leb-true _ _ (tested 3 (omega arith));
-        leaves = given-then (isReturn (f (r .next))) _ (tested 8 (omega arith));
-        listed = row-listed f c d (r .next) row-passed;
+        leaves = given-then (isReturn (rowAt t (r .next))) _ (tested 8 (omega arith));
+        listed = row-listed (lentProgram t c l k d) (r .next) row-passed;
       }
 
 -- ---- a good way out

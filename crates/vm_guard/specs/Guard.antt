@@ -13,45 +13,62 @@ use Rattle.base_limits.specs.declared.Machine.{Machine}
 use Rattle.lang_kinds.specs.Kinds as kind
 use Rattle.prog_tables.specs.Tests.{both, oneOf, given, all}
 use Rattle.prog_tables.specs.Statement.{Row, isCall}
+use Rattle.prog_tables.specs.Program.{Program}
 use Rattle.prog_tables.specs.Faults.{inFunction, rowFault}
-use Rattle.vm_definitions.specs.Frames.{topAtEntry, isReturn, leavesGood, rowsLeft}
-use Rattle.vm_definitions.specs.Broken.{lower, lowest, orElse, nextBad, frameEnds, rowsUsed, recordGood}
+use Rattle.vm_definitions.specs.Frames.{topAtEntry, isReturn, headGood, leavesGood, rowsLeft}
+use Rattle.vm_definitions.specs.Broken.{lower, lowest, orElse, nextBad, frameEnds, rowsUsed}
 use Rattle.vm_definitions.specs.declared.Broken.{Broken}
 use Rattle.vm_definitions.specs.declared.Broken.the-variants.{No, Somewhere}
 
 -- a row that a step uses is bad: broken, or the next statement on a `function` line or in no function
-unfoldable pub rowBad : (ℕ → Row) → ℕ → ℕ → ℕ → ℕ → Bool
-rowBad f c d next i = oneOf (rowFault f c d i) (both (eqb i next) (nextBad f c i))
+unfoldable pub rowBad : Program → ℕ → ℕ → Bool
+rowBad p next i = oneOf (rowFault p i) (both (eqb i next) (nextBad (p .rows) (p .count) i))
+
+-- the record, its frames, and the lent stack and memory, of m bytes, are good: no cause of `recordFault`
+unfoldable pub recordGood : Program → ℕ → Machine → List ℕ → Bool
+recordGood p m r st =
+    all
+    (ltb (r .next) (p .count)
+    ∷ frameEnds (p .rows) (p .count) r (length st)
+    ∷ leb (r .top) m
+    ∷ leb m (memoryLimit (p .width))
+    ∷ leb (length st) stackWords
+    ∷ headGood (p .width) (p .rows) (p .count) st (r .frame)
+    ∷ given (eqb (p .rows (r .next) .kind) kind.endBlock) (leb (getD st (r .frame + p .rows (r .next) .a) 0) m)
+    ∷ given (eqb (p .rows (r .next) .kind) kind.tailCall) (leb (topAtEntry st (r .frame)) m)
+    ∷ given (isReturn (p .rows (r .next))) (leavesGood (p .width) (p .rows) (p .count) m st (suc (r .frame)) (r .frame))
+    ∷ [])
 
 -- 35 of a step, the counts of the tables being good
-unfoldable pub withinBroken : Width → (ℕ → Row) → ℕ → ℕ → Machine → List ℕ → ℕ → Broken
-withinBroken w f c d r st m =
-    orElse (lowest (rowBad f c d (r .next)) (rowsUsed w f c r st)) (ifTrue (recordGood w f c m r st) No Somewhere)
+unfoldable pub withinBroken : Program → Machine → List ℕ → ℕ → Broken
+withinBroken p r st m = orElse (lowest (rowBad p (r .next)) (rowsUsed p r st)) (ifTrue (recordGood p m r st) No Somewhere)
 
 -- ---- the place, found row by row
 
 -- the place with one row more
 unfoldable pub marked : (ℕ → Bool) → ℕ → Broken → Broken
-marked p i b = ifTrue (p i) (lower i b) b
+marked bad i b = ifTrue (bad i) (lower i b) b
 
 -- the place with row i and its function
-unfoldable pub callMarked : (ℕ → Row) → ℕ → ℕ → ℕ → ℕ → Broken → Broken
-callMarked f c d next i b = marked (rowBad f c d next) (f i .func) (marked (rowBad f c d next) i b)
+unfoldable pub callMarked : Program → ℕ → ℕ → Broken → Broken
+callMarked p next i b = marked (rowBad p next) (p .rows i .func) (marked (rowBad p next) i b)
 
 -- the lowest bad row of the frames that a return leaves
-unfoldable pub leftBroken : Width → (ℕ → Row) → ℕ → ℕ → Machine → List ℕ → Broken
-leftBroken w f c d r st =
-    lowest (rowBad f c d (r .next))
-    (ifTrue (both (isReturn (f (r .next))) (frameEnds f c r (length st))) (rowsLeft w f c st (suc (r .frame)) (r .frame)) [])
+unfoldable pub leftBroken : Program → Machine → List ℕ → Broken
+leftBroken p r st =
+    lowest (rowBad p (r .next))
+    (ifTrue (both (isReturn (p .rows (r .next))) (frameEnds (p .rows) (p .count) r (length st)))
+    (rowsLeft (p .width) (p .rows) (p .count) st (suc (r .frame)) (r .frame)) [])
 
 -- the place with the function that the next statement calls
-unfoldable pub calleeMarked : (ℕ → Row) → ℕ → ℕ → ℕ → Broken → Broken
-calleeMarked f c d next b =
-    ifTrue (both (isCall (f next .kind) (f next .expr)) (ltb (f next .callee) c)) (marked (rowBad f c d next) (f next .callee) b) b
+unfoldable pub calleeMarked : Program → ℕ → Broken → Broken
+calleeMarked p next b =
+    ifTrue (both (isCall (p .rows next .kind) (p .rows next .expr)) (ltb (p .rows next .callee) (p .count)))
+    (marked (rowBad p next) (p .rows next .callee) b) b
 
 -- the place with the function of the next statement
-unfoldable pub functionMarked : (ℕ → Row) → ℕ → ℕ → ℕ → Broken → Broken
-functionMarked f c d next b = ifTrue (inFunction f c next) (marked (rowBad f c d next) (f next .func) b) b
+unfoldable pub functionMarked : Program → ℕ → Broken → Broken
+functionMarked p next b = ifTrue (inFunction (p .rows) (p .count) next) (marked (rowBad p next) (p .rows next .func) b) b
 
 -- ---- the record
 

@@ -8,15 +8,16 @@ use lib.ListN.{length}
 use Rattle.base_limits.specs.Limits.{memoryBytes, stackWords}
 use Rattle.base_limits.specs.declared.Width.the-variants.{Bits32}
 use Rattle.base_limits.specs.declared.Machine.{Machine}
-use Rattle.prog_tables.specs.Statement.{Row, hasExpression, isCall}
+use Rattle.prog_tables.specs.Statement.{hasExpression, isCall}
+use Rattle.prog_tables.specs.Program.{Program}
 use Rattle.prog_tables.specs.Faults.{expressionListed, rowFault}
 use Rattle.vm_definitions.specs.Frames.{isReturn, leavesGood}
 
-pub record Passed (f : ℕ → Row) (c d : ℕ) (r : Machine) (st : List ℕ) (m : ℕ) : Type 0 where
-  pub within : r .next < c
-  pub row : rowFault f c d (r .next) ≡ false
-  pub callee : isCall (f (r .next) .kind) (f (r .next) .expr) ≡ true → f (r .next) .callee < c
+pub record Passed (p : Program) (r : Machine) (st : List ℕ) (m : ℕ) : Type 0 where
+  pub within : r .next < p .count
+  pub row : rowFault p (r .next) ≡ false
+  pub callee : isCall (p .rows (r .next) .kind) (p .rows (r .next) .expr) ≡ true → p .rows (r .next) .callee < p .count
   pub stack : length st ≤ stackWords
   pub memory : m ≤ memoryBytes
-  pub leaves : isReturn (f (r .next)) ≡ true → leavesGood Bits32 f c m st (suc (r .frame)) (r .frame) ≡ true
-  pub listed : hasExpression (f (r .next) .kind) ≡ true → expressionListed (f (r .next) .kind) (f (r .next) .expr) ≡ true
+  pub leaves : isReturn (p .rows (r .next)) ≡ true → leavesGood Bits32 (p .rows) (p .count) m st (suc (r .frame)) (r .frame) ≡ true
+  pub listed : hasExpression (p .rows (r .next) .kind) ≡ true → expressionListed (p .rows (r .next) .kind) (p .rows (r .next) .expr) ≡ true

@@ -10,12 +10,13 @@ ghost use lib.Dec.{eqb};
 ghost use lib.ListN.{length, getD};
 ghost use Rattle.base_limits.specs.declared.Width.the-variants.{Bits32};
 ghost use Rattle.prog_tables.specs.Statement.{rowAt};
+ghost use Rattle.prog_tables.specs.Program.{lentProgram};
 ghost use Rattle.prog_tables.specs.Faults.{sizeAt};
 ghost use Rattle.prog_tables.specs.Layout.{statementRow};
 ghost use Rattle.vm_definitions.specs.Frames.{isFirst, isReturnCall, isReturn, isCalling, calledFrom, headGood, passesOn, leavesGood, rowsLeft, resumptionOf, returnsTo, callerFrame, topAtEntry};
-ghost use Rattle.vm_definitions.specs.Broken.{lower, lowest, nextBad, frameEnds, rowsUsed, recordGood};
+ghost use Rattle.vm_definitions.specs.Broken.{lower, lowest, nextBad, frameEnds, rowsUsed};
 ghost use Rattle.vm_guard.specs.FrameInUse.{frameGood, goodFrameSize};
-ghost use Rattle.vm_guard.specs.Guard.{rowBad, withinBroken, marked, callMarked, leftBroken, calleeMarked, functionMarked, shapeGood, keptGood};
+ghost use Rattle.vm_guard.specs.Guard.{rowBad, recordGood, withinBroken, marked, callMarked, leftBroken, calleeMarked, functionMarked, shapeGood, keptGood};
 
 // Whether row n is `return call`.
 pub fn is_return_call(t: &[u32], n: u32) -> bool
@@ -214,10 +215,10 @@ fn next_bad(t: &[u32], c: u32, n: u32) -> bool
 }
 
 // Whether row i, which a step uses, is bad.
-fn row_bad(t: &[u32], c: u32, d: u32, next: u32, i: u32) -> bool
-    ensures { λ r. ⌜ r ≡ rowBad (rowAt (now (t .entry))) c d next i ⌝ }
+fn row_bad(t: &[u32], c: u32, l: &[u32], lc: u32, d: u32, next: u32, i: u32) -> bool
+    ensures { λ r. ⌜ r ≡ rowBad (lentProgram (now (t .entry)) c (now (l .entry)) lc d) next i ⌝ }
 {
-    if prog_faults::row_fault(t, c, d, i) {
+    if prog_faults::row_fault(t, c, l, lc, d, i) {
         return true;
     }
     if i == next {
@@ -245,26 +246,26 @@ fn lower_to(i: u32, b: Broken) -> Broken
 }
 
 // The place with row i.
-fn mark_row(t: &[u32], c: u32, d: u32, next: u32, i: u32, b: Broken) -> Broken
-    ensures { λ r. ⌜ r ≡ marked (rowBad (rowAt (now (t .entry))) c d next) i b ⌝ }
+fn mark_row(t: &[u32], c: u32, l: &[u32], lc: u32, d: u32, next: u32, i: u32, b: Broken) -> Broken
+    ensures { λ r. ⌜ r ≡ marked (rowBad (lentProgram (now (t .entry)) c (now (l .entry)) lc d) next) i b ⌝ }
 {
-    if row_bad(t, c, d, next, i) {
+    if row_bad(t, c, l, lc, d, next, i) {
         return lower_to(i, b);
     }
     b
 }
 
 // The place with row i and its function.
-fn mark_call(t: &[u32], c: u32, d: u32, next: u32, i: u32, b: Broken) -> Broken
-    ensures { λ r. ⌜ r ≡ callMarked (rowAt (now (t .entry))) c d next i b ⌝ }
+fn mark_call(t: &[u32], c: u32, l: &[u32], lc: u32, d: u32, next: u32, i: u32, b: Broken) -> Broken
+    ensures { λ r. ⌜ r ≡ callMarked (lentProgram (now (t .entry)) c (now (l .entry)) lc d) next i b ⌝ }
 {
-    let own = mark_row(t, c, d, next, i, b);
-    mark_row(t, c, d, next, prog_tables::func_at(t, i), own)
+    let own = mark_row(t, c, l, lc, d, next, i, b);
+    mark_row(t, c, l, lc, d, next, prog_tables::func_at(t, i), own)
 }
 
 // The lowest bad row that a return from the frame at s uses.
-fn find_left(t: &[u32], c: u32, d: u32, next: u32, st: &[u32], s: u32) -> Broken
-    ensures { λ r. ⌜ r ≡ lowest (rowBad (rowAt (now (t .entry))) c d next) (rowsLeft Bits32 (rowAt (now (t .entry))) c (now (st .entry)) (suc s) s) ⌝ }
+fn find_left(t: &[u32], c: u32, l: &[u32], lc: u32, d: u32, next: u32, st: &[u32], s: u32) -> Broken
+    ensures { λ r. ⌜ r ≡ lowest (rowBad (lentProgram (now (t .entry)) c (now (l .entry)) lc d) next) (rowsLeft Bits32 (rowAt (now (t .entry))) c (now (st .entry)) (suc s) s) ⌝ }
 {
     let mut b = Broken::No;
     let mut at = s;
@@ -276,7 +277,7 @@ fn find_left(t: &[u32], c: u32, d: u32, next: u32, st: &[u32], s: u32) -> Broken
         }
         if is_called(t, c, st, at) {
             let p = place_at(st, at);
-            b = mark_call(t, c, d, next, p, b);
+            b = mark_call(t, c, l, lc, d, next, p, b);
             if is_return_call(t, p) {
                 at = caller_at(st, at);
                 continue;
@@ -303,14 +304,14 @@ fn frame_ends(t: &[u32], c: u32, r: Machine, s: usize) -> bool
 }
 
 // The lowest bad row of the frames that the next statement leaves.
-fn find_frames(t: &[u32], c: u32, d: u32, r: Machine, st: &[u32]) -> Broken
-    ensures { λ x. ⌜ x ≡ leftBroken Bits32 (rowAt (now (t .entry))) c d r (now (st .entry)) ⌝ }
+fn find_frames(t: &[u32], c: u32, l: &[u32], lc: u32, d: u32, r: Machine, st: &[u32]) -> Broken
+    ensures { λ x. ⌜ x ≡ leftBroken (lentProgram (now (t .entry)) c (now (l .entry)) lc d) r (now (st .entry)) ⌝ }
 {
     let next = r.next;
     if is_return(t, next) {
         if frame_ends(t, c, r, st.len()) {
             let frame = r.frame;
-            return find_left(t, c, d, next, st, frame);
+            return find_left(t, c, l, lc, d, next, st, frame);
         }
         return Broken::No;
     }
@@ -318,15 +319,15 @@ fn find_frames(t: &[u32], c: u32, d: u32, r: Machine, st: &[u32]) -> Broken
 }
 
 // The place with the function that the next statement calls.
-fn mark_callee(t: &[u32], c: u32, d: u32, next: u32, b: Broken) -> Broken
-    ensures { λ x. ⌜ x ≡ calleeMarked (rowAt (now (t .entry))) c d next b ⌝ }
+fn mark_callee(t: &[u32], c: u32, l: &[u32], lc: u32, d: u32, next: u32, b: Broken) -> Broken
+    ensures { λ x. ⌜ x ≡ calleeMarked (lentProgram (now (t .entry)) c (now (l .entry)) lc d) next b ⌝ }
 {
     let k = prog_tables::kind_at(t, next);
     let e = prog_tables::expression_at(t, next);
     if prog_tables::is_call(k, e) {
         let g = prog_tables::callee_at(t, next);
         if g < c {
-            return mark_row(t, c, d, next, g, b);
+            return mark_row(t, c, l, lc, d, next, g, b);
         }
         return b;
     }
@@ -334,27 +335,27 @@ fn mark_callee(t: &[u32], c: u32, d: u32, next: u32, b: Broken) -> Broken
 }
 
 // The place with the function of the next statement.
-fn mark_function(t: &[u32], c: u32, d: u32, next: u32, b: Broken) -> Broken
-    ensures { λ x. ⌜ x ≡ functionMarked (rowAt (now (t .entry))) c d next b ⌝ }
+fn mark_function(t: &[u32], c: u32, l: &[u32], lc: u32, d: u32, next: u32, b: Broken) -> Broken
+    ensures { λ x. ⌜ x ≡ functionMarked (lentProgram (now (t .entry)) c (now (l .entry)) lc d) next b ⌝ }
 {
     if prog_faults::is_in_function(t, c, next) {
-        return mark_row(t, c, d, next, prog_tables::func_at(t, next), b);
+        return mark_row(t, c, l, lc, d, next, prog_tables::func_at(t, next), b);
     }
     b
 }
 
 // The lowest bad row that a step uses.
-fn find_used(t: &[u32], c: u32, d: u32, r: Machine, st: &[u32]) -> Broken
-    ensures { λ x. ⌜ x ≡ lowest (rowBad (rowAt (now (t .entry))) c d (r .next)) (rowsUsed Bits32 (rowAt (now (t .entry))) c r (now (st .entry))) ⌝ }
+fn find_used(t: &[u32], c: u32, l: &[u32], lc: u32, d: u32, r: Machine, st: &[u32]) -> Broken
+    ensures { λ x. ⌜ x ≡ lowest (rowBad (lentProgram (now (t .entry)) c (now (l .entry)) lc d) (r .next)) (rowsUsed (lentProgram (now (t .entry)) c (now (l .entry)) lc d) r (now (st .entry))) ⌝ }
 {
     let next = r.next;
     if c <= next {
         return Broken::No;
     }
-    let left = find_frames(t, c, d, r, st);
-    let called = mark_callee(t, c, d, next, left);
-    let within = mark_function(t, c, d, next, called);
-    mark_row(t, c, d, next, next, within)
+    let left = find_frames(t, c, l, lc, d, r, st);
+    let called = mark_callee(t, c, l, lc, d, next, left);
+    let within = mark_function(t, c, l, lc, d, next, called);
+    mark_row(t, c, l, lc, d, next, next, within)
 }
 
 // Whether the record's numbers and what is lent are good.
@@ -399,8 +400,17 @@ fn has_kept(t: &[u32], c: u32, m: usize, next: u32, st: &[u32], s: u32) -> bool
 }
 
 // Whether the record, its frames, and the lent stack and memory are good.
-fn record_good(t: &[u32], c: u32, m: usize, r: Machine, st: &[u32]) -> bool
-    ensures { λ x. ⌜ x ≡ recordGood Bits32 (rowAt (now (t .entry))) c m r (now (st .entry)) ⌝ }
+fn record_good(
+    t: &[u32],
+    c: u32,
+    l: &[u32],
+    lc: u32,
+    d: u32,
+    m: usize,
+    r: Machine,
+    st: &[u32],
+) -> bool
+    ensures { λ x. ⌜ x ≡ recordGood (lentProgram (now (t .entry)) c (now (l .entry)) lc d) m r (now (st .entry)) ⌝ }
 {
     if has_shape(t, c, m, r, st) {
         let frame = r.frame;
@@ -414,13 +424,22 @@ fn record_good(t: &[u32], c: u32, m: usize, r: Machine, st: &[u32]) -> bool
 }
 
 // 35 of a step but for the counts of the tables.
-pub fn find_broken(t: &[u32], c: u32, d: u32, r: Machine, st: &[u32], m: usize) -> Broken
-    ensures { λ x. ⌜ x ≡ withinBroken Bits32 (rowAt (now (t .entry))) c d r (now (st .entry)) m ⌝ }
+pub fn find_broken(
+    t: &[u32],
+    c: u32,
+    l: &[u32],
+    lc: u32,
+    d: u32,
+    r: Machine,
+    st: &[u32],
+    m: usize,
+) -> Broken
+    ensures { λ x. ⌜ x ≡ withinBroken (lentProgram (now (t .entry)) c (now (l .entry)) lc d) r (now (st .entry)) m ⌝ }
 {
-    let b = find_used(t, c, d, r, st);
+    let b = find_used(t, c, l, lc, d, r, st);
     match b {
         Broken::No => {
-            if record_good(t, c, m, r, st) {
+            if record_good(t, c, l, lc, d, m, r, st) {
                 return Broken::No;
             }
             Broken::Somewhere

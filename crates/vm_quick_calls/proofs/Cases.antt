@@ -10,6 +10,7 @@ use lib.Dec.{eqb, ltb, leb}
 use borrow.Author.Tests.{eq-eqb, ne-eqb, lt-ltb, le-ltb, le-leb, lt-leb}
 use Rattle.base_prelude.specs.Choice.{ifLt, ifEq, ifTrue}
 use Rattle.prog_tables.specs.Statement.{Row, operandOf, operandAt, slots, rowAt}
+use Rattle.prog_tables.specs.Program.{Program, lentProgram}
 use Rattle.prog_tables.specs.Faults.{operandFault}
 use Rattle.vm_definitions.specs.Access.{storeFrom}
 use Rattle.vm_definitions.specs.Frames.{frameWords}
@@ -90,12 +91,12 @@ pub ruleset goods = (good-none, good-bad, good-more, good-done)
 
 -- ---- rows that call
 
-module _ (t : List ℕ) (c p k b : ℕ) (e : b ≡ rowAt t p .b) where
-  pub callee-fits : (r : ℕ) → b ≡ k → r ≡ sizeOf (rowAt t) c p → r ≡ calleeSize (rowAt t) c p k
+module _ (t : List ℕ) (c : ℕ) (lw : List ℕ) (lc d p k b : ℕ) (e : b ≡ rowAt t p .b) where
+  pub callee-fits : (r : ℕ) → b ≡ k → r ≡ sizeOf (rowAt t) c p → r ≡ calleeSize (lentProgram t c lw lc d) p k
   unfolding calleeSize ifEq
   callee-fits r h q = rw (← e, eq-eqb b k h) q
 
-  pub callee-other : (b ≡ k → ⊥) → 0 ≡ calleeSize (rowAt t) c p k
+  pub callee-other : (b ≡ k → ⊥) → 0 ≡ calleeSize (lentProgram t c lw lc d) p k
   unfolding calleeSize ifEq
   callee-other h = rw (← e, ne-eqb b k h)
 
@@ -137,22 +138,22 @@ pub ruleset locals = (local-bare, local-none, local-let, local-set, local-other)
 
 pub ruleset anys = (any-return, any-local)
 
-module _ (t : List ℕ) (c d size p k : ℕ) (e : k ≡ rowAt t p .count) where
-  pub call-many : 8 < k → false ≡ callGood t c d size p
+module _ (t : List ℕ) (c : ℕ) (lw : List ℕ) (lc d size p k : ℕ) (e : k ≡ rowAt t p .count) where
+  pub call-many : 8 < k → false ≡ callGood t c lw lc d size p
   unfolding callGood ifLt
   call-many l = rw (← e, lt-ltb 8 k l)
 
-  module _ (f z : ℕ) (l : k ≤ 8) (i : f ≡ rowAt t p .callee) (h : z ≡ calleeSize (rowAt t) c f k) where
-    pub call-none : z ≡ 0 → false ≡ callGood t c d size p
+  module _ (f z : ℕ) (l : k ≤ 8) (i : f ≡ rowAt t p .callee) (h : z ≡ calleeSize (lentProgram t c lw lc d) f k) where
+    pub call-none : z ≡ 0 → false ≡ callGood t c lw lc d size p
     unfolding callGood ifLt ifEq
     call-none q = rw (← e, le-ltb 8 k l, ← i, ← h, q)
 
     module _ (b : Bool) (q : z ≡ 0 → ⊥) (g : b ≡ callsLocal (rowAt t) size p) where
-      pub call-other : b ≡ false → false ≡ callGood t c d size p
+      pub call-other : b ≡ false → false ≡ callGood t c lw lc d size p
       unfolding callGood ifLt ifEq ifTrue
       call-other w = rw (← e, le-ltb 8 k l, ← i, ← h, ne-eqb z 0 q, ← g, w)
 
-      pub call-local : (r : Bool) → b ≡ true → r ≡ goodFrom t (p * 27) size d k 0 → r ≡ callGood t c d size p
+      pub call-local : (r : Bool) → b ≡ true → r ≡ goodFrom t (p * 27) size d k 0 → r ≡ callGood t c lw lc d size p
       unfolding callGood ifLt ifEq ifTrue
       call-local r w o = rw (← e, le-ltb 8 k l, ← i, ← h, ne-eqb z 0 q, ← g, w) o
 
@@ -185,40 +186,40 @@ module _ (t : List ℕ) (d size : ℕ) (st : List ℕ) (s : ℕ) (m : List ℕ) 
 
 pub ruleset entering = (enter-full, enter-bad, enter-pushed)
 
-module _ (t : List ℕ) (c d size : ℕ) (st : List ℕ) (s : ℕ) (m : List ℕ) (n at call below top k : ℕ) (e : k ≡ rowAt t n .count) where
-  pub transfer-many : 8 < k → transferred Stays st ≡ callTransfer t c d size st s m n at call below top
+module _ (t : List ℕ) (c : ℕ) (lw : List ℕ) (lc d size : ℕ) (st : List ℕ) (s : ℕ) (m : List ℕ) (n at call below top k : ℕ) (e : k ≡ rowAt t n .count) where
+  pub transfer-many : 8 < k → transferred Stays st ≡ callTransfer t c lw lc d size st s m n at call below top
   unfolding callTransfer ifLt
   transfer-many l = rw (← e, lt-ltb 8 k l)
 
   module _ (p : ℕ) (l : k ≤ 8) (g : p ≡ rowAt t n .callee) where
-    pub transfer-past : c ≤ p → transferred Stays st ≡ callTransfer t c d size st s m n at call below top
+    pub transfer-past : c ≤ p → transferred Stays st ≡ callTransfer t c lw lc d size st s m n at call below top
     unfolding callTransfer ifLt
     transfer-past h = rw (← e, le-ltb 8 k l, ← g, le-ltb p c h)
 
-    module _ (z : ℕ) (h : p < c) (i : z ≡ calleeSize (rowAt t) c p k) where
-      pub transfer-none : z ≡ 0 → transferred Stays st ≡ callTransfer t c d size st s m n at call below top
+    module _ (z : ℕ) (h : p < c) (i : z ≡ calleeSize (lentProgram t c lw lc d) p k) where
+      pub transfer-none : z ≡ 0 → transferred Stays st ≡ callTransfer t c lw lc d size st s m n at call below top
       unfolding callTransfer ifLt ifEq
       transfer-none q = rw (← e, le-ltb 8 k l, ← g, lt-ltb p c h, ← i, q)
 
       pub transfer-enters : (r : Transfer) (st′ : List ℕ) → (z ≡ 0 → ⊥) → transferred r st′ ≡ entered t d size st s m n at call below top p k z
-          → transferred r st′ ≡ callTransfer t c d size st s m n at call below top
+          → transferred r st′ ≡ callTransfer t c lw lc d size st s m n at call below top
       unfolding callTransfer ifLt ifEq
       transfer-enters r st′ q o = rw (← e, le-ltb 8 k l, ← g, lt-ltb p c h, ← i, ne-eqb z 0 q) o
 
 pub ruleset calling = (transfer-many, transfer-past, transfer-none, transfer-enters)
 
-module _ (t : List ℕ) (c d size : ℕ) (st : List ℕ) (s : ℕ) (m : List ℕ) (n x : ℕ) (f : x ≡ rowAt t n .expr) where
-  pub tail-other : (x ≡ 2 → ⊥) → transferred Stays st ≡ tailTransfer t c d size st s m n
+module _ (t : List ℕ) (c : ℕ) (lw : List ℕ) (lc d size : ℕ) (st : List ℕ) (s : ℕ) (m : List ℕ) (n x : ℕ) (f : x ≡ rowAt t n .expr) where
+  pub tail-other : (x ≡ 2 → ⊥) → transferred Stays st ≡ tailTransfer t c lw lc d size st s m n
   unfolding tailTransfer ifEq
   tail-other q = rw (← f, ne-eqb x 2 q)
 
   module _ (z : x ≡ 2) (top : ℕ) (h : top ≡ getD st (s + 2) 0) where
-    pub tail-high : length m < top → transferred Stays st ≡ tailTransfer t c d size st s m n
+    pub tail-high : length m < top → transferred Stays st ≡ tailTransfer t c lw lc d size st s m n
     unfolding tailTransfer ifLt ifEq
     tail-high l = rw (← f, z, ← h, lt-ltb (length m) top l)
 
     pub tail-calls : (call below : ℕ) (r : Transfer) (st′ : List ℕ) → call ≡ getD st s 0 → below ≡ getD st (s + 1) 0 → top ≤ length m
-        → transferred r st′ ≡ callTransfer t c d size st s m n s call below top → transferred r st′ ≡ tailTransfer t c d size st s m n
+        → transferred r st′ ≡ callTransfer t c lw lc d size st s m n s call below top → transferred r st′ ≡ tailTransfer t c lw lc d size st s m n
     unfolding tailTransfer ifLt ifEq
     tail-calls call below r st′ e g l q = rw (← f, z, ← h, le-ltb (length m) top l, ← e, ← g) q
 
@@ -256,74 +257,74 @@ module _ (t : List ℕ) (st : List ℕ) (s v p caller back k : ℕ) (e : k ≡ r
 
 pub ruleset resumptions = (resume-drops, resume-stores)
 
-module _ (t : List ℕ) (c d : ℕ) (st : List ℕ) (s m v p : ℕ) (e : p ≡ getD st s 0) where
-  pub hand-past : c ≤ p → transferred Stays st ≡ handTransfer t c d st s m v
+module _ (t : List ℕ) (c : ℕ) (lw : List ℕ) (lc d : ℕ) (st : List ℕ) (s m v p : ℕ) (e : p ≡ getD st s 0) where
+  pub hand-past : c ≤ p → transferred Stays st ≡ handTransfer t c lw lc d st s m v
   unfolding handTransfer ifLt
   hand-past l = rw (← e, le-ltb p c l)
 
   module _ (g z : ℕ) (l : p < c) (i : g ≡ rowAt t p .func) (h : z ≡ sizeOf (rowAt t) c g) where
-    pub hand-none : z ≡ 0 → transferred Stays st ≡ handTransfer t c d st s m v
+    pub hand-none : z ≡ 0 → transferred Stays st ≡ handTransfer t c lw lc d st s m v
     unfolding handTransfer ifLt ifEq
     hand-none q = rw (← e, lt-ltb p c l, ← i, ← h, q)
 
-    pub hand-on : (r : Transfer) (st′ : List ℕ) → (z ≡ 0 → ⊥) → transferred r st′ ≡ handTo t c d st s m v p z → transferred r st′ ≡ handTransfer t c d st s m v
+    pub hand-on : (r : Transfer) (st′ : List ℕ) → (z ≡ 0 → ⊥) → transferred r st′ ≡ handTo t c lw lc d st s m v p z → transferred r st′ ≡ handTransfer t c lw lc d st s m v
     unfolding handTransfer ifLt ifEq
     hand-on r st′ q o = rw (← e, lt-ltb p c l, ← i, ← h, ne-eqb z 0 q) o
 
 pub ruleset handing = (hand-past, hand-none, hand-on)
 
-module _ (t : List ℕ) (c d : ℕ) (st : List ℕ) (s m v p z caller back : ℕ) (j : caller ≡ getD st (s + 1) 0) (o : back ≡ getD st (s + 2) 0) where
-  pub to-high : m < back → transferred Stays st ≡ handTo t c d st s m v p z
+module _ (t : List ℕ) (c : ℕ) (lw : List ℕ) (lc d : ℕ) (st : List ℕ) (s m v p z caller back : ℕ) (j : caller ≡ getD st (s + 1) 0) (o : back ≡ getD st (s + 2) 0) where
+  pub to-high : m < back → transferred Stays st ≡ handTo t c lw lc d st s m v p z
   unfolding handTo ifLt
   to-high x = rw (← o, lt-ltb m back x)
 
-  pub to-apart : back ≤ m → (caller + z ≡ s → ⊥) → transferred Stays st ≡ handTo t c d st s m v p z
+  pub to-apart : back ≤ m → (caller + z ≡ s → ⊥) → transferred Stays st ≡ handTo t c lw lc d st s m v p z
   unfolding handTo ifLt ifEq
   to-apart x y = rw (← o, le-ltb m back x, ← j, ne-eqb (caller + z) s y)
 
-  module _ (b : Bool) (x : back ≤ m) (y : caller + z ≡ s) (w : b ≡ callGood t c d z p) where
-    pub to-bad : b ≡ false → transferred Stays st ≡ handTo t c d st s m v p z
+  module _ (b : Bool) (x : back ≤ m) (y : caller + z ≡ s) (w : b ≡ callGood t c lw lc d z p) where
+    pub to-bad : b ≡ false → transferred Stays st ≡ handTo t c lw lc d st s m v p z
     unfolding handTo ifLt ifEq ifTrue
     to-bad u = rw (← o, le-ltb m back x, ← j, eq-eqb (caller + z) s y, ← w, u)
 
-    pub to-caller : (r : Transfer) (st′ : List ℕ) → b ≡ true → transferred r st′ ≡ resumed (rowAt t) st s v p caller back → transferred r st′ ≡ handTo t c d st s m v p z
+    pub to-caller : (r : Transfer) (st′ : List ℕ) → b ≡ true → transferred r st′ ≡ resumed (rowAt t) st s v p caller back → transferred r st′ ≡ handTo t c lw lc d st s m v p z
     unfolding handTo ifLt ifEq ifTrue
     to-caller r st′ u k = rw (← o, le-ltb m back x, ← j, eq-eqb (caller + z) s y, ← w, u) k
 
 pub ruleset handing-to = (to-high, to-apart, to-bad, to-caller)
 
-module _ (t : List ℕ) (c d size : ℕ) (st : List ℕ) (s : ℕ) (m : List ℕ) (n top : ℕ) (x : Worked) (e : x ≡ resultOf t d size st s m n top) where
-  pub back-value : (v end : ℕ) (r : Transfer) (st′ : List ℕ) → x ≡ Value v end → transferred r st′ ≡ handTransfer t c d st s (length m) v → transferred r st′ ≡ returnTransfer t c d size st s m n top
+module _ (t : List ℕ) (c : ℕ) (lw : List ℕ) (lc d size : ℕ) (st : List ℕ) (s : ℕ) (m : List ℕ) (n top : ℕ) (x : Worked) (e : x ≡ resultOf t d size st s m n top) where
+  pub back-value : (v end : ℕ) (r : Transfer) (st′ : List ℕ) → x ≡ Value v end → transferred r st′ ≡ handTransfer t c lw lc d st s (length m) v → transferred r st′ ≡ returnTransfer t c lw lc d size st s m n top
   unfolding returnTransfer returnBy
   back-value v end r st′ h q = rw (← e, h) q
 
-  pub back-stop : (k : ℕ) → x ≡ Stop k → transferred Stays st ≡ returnTransfer t c d size st s m n top
+  pub back-stop : (k : ℕ) → x ≡ Stop k → transferred Stays st ≡ returnTransfer t c lw lc d size st s m n top
   unfolding returnTransfer returnBy
   back-stop k h = rw (← e, h)
 
 pub ruleset backs = (back-value, back-stop)
 
-module _ (t : List ℕ) (c g d size : ℕ) (st : List ℕ) (s used : ℕ) (m : List ℕ) (n top : ℕ) where
-  pub transfer-beyond : c ≤ n → transferred Stays st ≡ transferOf t c g d size st s used m n top
+module _ (t : List ℕ) (c : ℕ) (lw : List ℕ) (lc g d size : ℕ) (st : List ℕ) (s used : ℕ) (m : List ℕ) (n top : ℕ) where
+  pub transfer-beyond : c ≤ n → transferred Stays st ≡ transferOf t c lw lc g d size st s used m n top
   unfolding transferOf ifLt
   transfer-beyond l = rw (le-ltb n c l)
 
   module _ (own : ℕ) (l : n < c) (e : own ≡ rowAt t n .func) where
-    pub transfer-other : (own ≡ g → ⊥) → transferred Stays st ≡ transferOf t c g d size st s used m n top
+    pub transfer-other : (own ≡ g → ⊥) → transferred Stays st ≡ transferOf t c lw lc g d size st s used m n top
     unfolding transferOf ifLt ifEq
     transfer-other h = rw (lt-ltb n c l, ← e, ne-eqb own g h)
 
     module _ (b : Bool) (r : Transfer) (st′ : List ℕ) (h : own ≡ g) (q : b ≡ callsAny (rowAt t) size n) where
-      pub transfer-call : b ≡ true → transferred r st′ ≡ callTransfer t c d size st s m n used n s top → transferred r st′ ≡ transferOf t c g d size st s used m n top
+      pub transfer-call : b ≡ true → transferred r st′ ≡ callTransfer t c lw lc d size st s m n used n s top → transferred r st′ ≡ transferOf t c lw lc g d size st s used m n top
       unfolding transferOf ifLt ifEq ifTrue
       transfer-call z o = rw (lt-ltb n c l, ← e, eq-eqb own g h, ← q, z) o
 
       module _ (k : ℕ) (z : b ≡ false) (i : k ≡ rowAt t n .kind) where
-        pub transfer-tail : k ≡ 12 → transferred r st′ ≡ tailTransfer t c d size st s m n → transferred r st′ ≡ transferOf t c g d size st s used m n top
+        pub transfer-tail : k ≡ 12 → transferred r st′ ≡ tailTransfer t c lw lc d size st s m n → transferred r st′ ≡ transferOf t c lw lc g d size st s used m n top
         unfolding transferOf ifLt ifEq ifTrue
         transfer-tail j o = rw (lt-ltb n c l, ← e, eq-eqb own g h, ← q, z, ← i, eq-eqb k 12 j) o
 
-        pub transfer-back : (k ≡ 12 → ⊥) → transferred r st′ ≡ returnTransfer t c d size st s m n top → transferred r st′ ≡ transferOf t c g d size st s used m n top
+        pub transfer-back : (k ≡ 12 → ⊥) → transferred r st′ ≡ returnTransfer t c lw lc d size st s m n top → transferred r st′ ≡ transferOf t c lw lc g d size st s used m n top
         unfolding transferOf ifLt ifEq ifTrue
         transfer-back j o = rw (lt-ltb n c l, ← e, eq-eqb own g h, ← q, z, ← i, ne-eqb k 12 j) o
 

@@ -15,6 +15,7 @@ use Rattle.base_limits.specs.declared.Machine.{Machine}
 use Rattle.base_limits.specs.Record.{mark, movedTo}
 use Rattle.prog_tables.specs.Tests.{both, oneOf, given, someOf}
 use Rattle.prog_tables.specs.Statement.{Row, hasExpression, isTest, isOperator, isCall, expressionUses, usedBy, operandAt, slots, rowFrom, rowAt}
+use Rattle.prog_tables.specs.Program.{Program, lentProgram}
 use Rattle.prog_tables.specs.Nesting.{isListed, hasTarget}
 use Rattle.prog_tables.specs.Faults.{expressionListed, inFunction, sizeAt, operandFault, kindFault, targetFault, calleeFault, sizeFault, ownWord, hasWord, wordFault, operandsFault, addressFault, rowFault}
 use Rattle.prog_tables.specs.declared.Operand.{Operand}
@@ -82,24 +83,25 @@ record Callee (f : ℕ → Row) (c p k z : ℕ) : Type 0 where
   parameters : f p .b ≡ k
   function : Function f c p z
 
-callee-good : (f : ℕ → Row) (c p k z : ℕ) → (z ≡ 0 → ⊥) → calleeSize f c p k ≡ z → Callee f c p k z
+callee-good : (prog : Program) (p k z : ℕ) → (z ≡ 0 → ⊥) → calleeSize prog p k ≡ z → Callee (prog .rows) (prog .count) p k z
 unfolding calleeSize
-callee-good f c p k z n =
-    either-eq (λ (x : ℕ). x ≡ z → Callee f c p k z) (f p .b) k (sizeOf f c p) 0 (λ q e. record { parameters = q; function = size-function f c p z n e })
+callee-good prog p k z n =
+    either-eq (λ (x : ℕ). x ≡ z → Callee (prog .rows) (prog .count) p k z) (prog .rows p .b) k (sizeOf (prog .rows) (prog .count) p) 0
+    (λ q e. record { parameters = q; function = size-function (prog .rows) (prog .count) p z n e })
     (λ q e. absurd (n (sym e)))
 
 -- ---- rows that call
 
-module _ (t : List ℕ) (c d n size : ℕ) (sized : sizeAt (rowAt t) c n ≡ size) where
+module _ (t : List ℕ) (c : ℕ) (lw : List ℕ) (lc d n size : ℕ) (sized : sizeAt (rowAt t) c n ≡ size) where
   abbrev row : Row
   row = rowAt t n
 
   record CallRow : Type 0 where
-    kinds : kindFault (rowAt t) n ≡ false
-    targets : targetFault (rowAt t) c n ≡ false
-    sizes : sizeFault (rowAt t) n ≡ false
-    words : wordFault (rowAt t) c n ≡ false
-    address : addressFault (rowAt t) c d n ≡ false
+    kinds : kindFault (lentProgram t c lw lc d) n ≡ false
+    targets : targetFault (lentProgram t c lw lc d) n ≡ false
+    sizes : sizeFault (lentProgram t c lw lc d) n ≡ false
+    words : wordFault (lentProgram t c lw lc d) n ≡ false
+    address : addressFault (lentProgram t c lw lc d) n ≡ false
     calls : isCall (row .kind) (row .expr) ≡ true
     used : usedBy (row .kind) (row .expr) (row .count) ≡ row .count
     line : eqb (row .kind) 1 ≡ false
@@ -246,34 +248,34 @@ module _ (t : List ℕ) (c d n size : ℕ) (sized : sizeAt (rowAt t) c n ≡ siz
   operands-are x = ap (λ (k : ℕ). take k (slots t (n * 27))) (x .used)
 
   call-good : (z : ℕ) → CallRow → row .count ≤ 8 → Callee (rowAt t) c (row .callee) (row .count) z → someOf (operandFault size d) (take (row .count) (slots t (n * 27))) ≡ false
-      → rowFault (rowAt t) c d n ≡ false
+      → rowFault (lentProgram t c lw lc d) n ≡ false
   unfolding calleeFault operandsFault
   call-good z x l e o =
-      no-fault (rowAt t) c d n (x .kinds) (x .targets)
+      no-fault (lentProgram t c lw lc d) n (x .kinds) (x .targets)
       (rw (x .calls, lt-ltb _ _ (e .function .below), e .function .kind, eq-eqb _ _ (e .parameters), le-leb _ _ l))
       (x .sizes) (x .words) (rw (operands-are x, sized) o) (x .address)
 
 -- row p, to which a value is handed, is good
-record Handed (t : List ℕ) (c d size p : ℕ) : Type 0 where
-  good : rowFault (rowAt t) c d p ≡ false
+record Handed (t : List ℕ) (c : ℕ) (lw : List ℕ) (lc d size p : ℕ) : Type 0 where
+  good : rowFault (lentProgram t c lw lc d) p ≡ false
   calling : isCalling (rowAt t p) ≡ true
   at : eqb (rowAt t p .kind) 7 ≡ false
   stays : eqb (rowAt t p .kind) 13 ≡ false
 
-handed : (t : List ℕ) (c d size p : ℕ) → sizeAt (rowAt t) c p ≡ size → callGood t c d size p ≡ true → Handed t c d size p
+handed : (t : List ℕ) (c : ℕ) (lw : List ℕ) (lc d size p : ℕ) → sizeAt (rowAt t) c p ≡ size → callGood t c lw lc d size p ≡ true → Handed t c lw lc d size p
 unfolding callGood
-handed t c d size p sized =
-    either (λ (b : Bool). b ≡ true → Handed t c d size p) 8 (rowAt t p .count) false _ (λ l e. true-false (sym e))
-    (λ l. either-eq (λ (b : Bool). b ≡ true → Handed t c d size p) (calleeSize (rowAt t) c (rowAt t p .callee) (rowAt t p .count)) 0 false _ (λ q e. true-false (sym e))
-    (λ q. either-true (λ (b : Bool). b ≡ true → Handed t c d size p) (callsLocal (rowAt t) size p) (goodFrom t (p * 27) size d (rowAt t p .count) 0) false
-    (λ y e. made l q (local-row t c d p size sized y) e) (λ y e. true-false (sym e))))
+handed t c lw lc d size p sized =
+    either (λ (b : Bool). b ≡ true → Handed t c lw lc d size p) 8 (rowAt t p .count) false _ (λ l e. true-false (sym e))
+    (λ l. either-eq (λ (b : Bool). b ≡ true → Handed t c lw lc d size p) (calleeSize (lentProgram t c lw lc d) (rowAt t p .callee) (rowAt t p .count)) 0 false _ (λ q e. true-false (sym e))
+    (λ q. either-true (λ (b : Bool). b ≡ true → Handed t c lw lc d size p) (callsLocal (rowAt t) size p) (goodFrom t (p * 27) size d (rowAt t p .count) 0) false
+    (λ y e. made l q (local-row t c lw lc d p size sized y) e) (λ y e. true-false (sym e))))
   where
-    made : rowAt t p .count ≤ 8 → (calleeSize (rowAt t) c (rowAt t p .callee) (rowAt t p .count) ≡ 0 → ⊥) → LocalRow t c d p size sized
-        → goodFrom t (p * 27) size d (rowAt t p .count) 0 ≡ true → Handed t c d size p
+    made : rowAt t p .count ≤ 8 → (calleeSize (lentProgram t c lw lc d) (rowAt t p .callee) (rowAt t p .count) ≡ 0 → ⊥) → LocalRow t c lw lc d p size sized
+        → goodFrom t (p * 27) size d (rowAt t p .count) 0 ≡ true → Handed t c lw lc d size p
     made l q x e =
         record {
           good =
-              call-good t c d p size sized _ (x .call .call) l (callee-good (rowAt t) c (rowAt t p .callee) (rowAt t p .count) _ q refl)
+              call-good t c lw lc d p size sized _ (x .call .call) l (callee-good (lentProgram t c lw lc d) (rowAt t p .callee) (rowAt t p .count) _ q refl)
               (from-good t (p * 27) size d (rowAt t p .count) 0 (rowAt t p .count) (omega arith) l e);
           calling = x .call .calling;
           at = x .call .call .at;
@@ -282,7 +284,7 @@ handed t c d size p sized =
 
 -- ---- the transfer
 
-module _ (t : List ℕ) (c g d size : ℕ) (r : Machine) (st m : List ℕ) where
+module _ (t : List ℕ) (c : ℕ) (lw : List ℕ) (lc g d size : ℕ) (r : Machine) (st m : List ℕ) where
   abbrev n : ℕ
   n = r .next
 
@@ -294,8 +296,8 @@ module _ (t : List ℕ) (c g d size : ℕ) (r : Machine) (st m : List ℕ) where
 
   -- the statement went on at statement i in another frame
   pub record Moved (i frame used end : ℕ) (st′ : List ℕ) : Type 0 where
-    pub fine : withinBroken Bits32 (rowAt t) c d r st (length m) ≡ No
-    pub effect : effectOf Bits32 (rowAt t) c (world r st m) ≡ leaves (world (movedTo r i frame used end) st′ m)
+    pub fine : withinBroken (lentProgram t c lw lc d) r st (length m) ≡ No
+    pub effect : effectOf (lentProgram t c lw lc d) (world r st m) ≡ leaves (world (movedTo r i frame used end) st′ m)
     pub stack : length st′ ≡ length st
 
   unfoldable pub RightBy : Transfer → List ℕ → Type 0
@@ -315,7 +317,7 @@ module _ (t : List ℕ) (c g d size : ℕ) (r : Machine) (st m : List ℕ) where
 
     -- ---- calls
 
-    went-call : Calling t c d n size sized → here .count ≤ 8 → (z : ℕ) → Callee (rowAt t) c (here .callee) (here .count) z → (vs : List ℕ)
+    went-call : Calling t c lw lc d n size sized → here .count ≤ 8 → (z : ℕ) → Callee (rowAt t) c (here .callee) (here .count) z → (vs : List ℕ)
         → Each size d st s m (take (here .count) (slots t (n * 27))) vs → r .used + z ≤ length st
         → Moved (suc (here .callee)) (r .used) (r .used + z) (r .top) (storeFrom st (r .used) (frameWords n s (r .top) vs z))
     unfolding effectOf callOf callBy argumentsOf ifTrue ifEq ifLt
@@ -323,10 +325,10 @@ module _ (t : List ℕ) (c g d size : ℕ) (r : Machine) (st m : List ℕ) where
         let x = w .call in
         record {
           fine =
-              call-fine t c g d size r st m h below own (x .line) (call-good t c d n size sized z x l e (o .good)) (x .calls) (e .function .below)
-              (function-good t c (here .callee) z (e .function) d) (x .returns)
-              (record-fine t c g d size r st m h below own (rw (x .block)) (rw (w .tail)) (rw (x .returns)));
-          effect = rw (w .calling, x .at, operands-are t c d n size sized x, o .all, e .function .words, le-ltb _ _ b);
+              call-fine t c lw lc g d size r st m h below own (x .line) (call-good t c lw lc d n size sized z x l e (o .good)) (x .calls) (e .function .below)
+              (function-good t c (here .callee) z (e .function) lw lc d) (x .returns)
+              (record-fine t c lw lc g d size r st m h below own (rw (x .block)) (rw (w .tail)) (rw (x .returns)));
+          effect = rw (w .calling, x .at, operands-are t c lw lc d n size sized x, o .all, e .function .words, le-ltb _ _ b);
           stack = store-length st (r .used) _;
         }
 
@@ -335,13 +337,13 @@ module _ (t : List ℕ) (c g d size : ℕ) (r : Machine) (st m : List ℕ) where
         → Moved (suc (here .callee)) s (s + z) (getD st (s + 2) 0) (storeFrom st s (frameWords (getD st s 0) (getD st (s + 1) 0) (getD st (s + 2) 0) vs z))
     unfolding effectOf tailCallBy argumentsOf isCalling isReturn isTest hasExpression ifTrue ifEq ifLt
     went-tail q f k l z e vs o b =
-        let x = row-12 t c d n size sized q f in
+        let x = row-12 t c lw lc d n size sized q f in
         record {
           fine =
-              call-fine t c g d size r st m h below own (x .line) (call-good t c d n size sized z x l e (o .good)) (x .calls) (e .function .below)
-              (function-good t c (here .callee) z (e .function) d) (x .returns)
-              (record-fine t c g d size r st m h below own (rw (x .block)) (rw (q, le-leb _ _ k)) (rw (x .returns)));
-          effect = rw (operands-are t c d n size sized x, q, o .all, e .function .words, le-ltb _ _ b);
+              call-fine t c lw lc g d size r st m h below own (x .line) (call-good t c lw lc d n size sized z x l e (o .good)) (x .calls) (e .function .below)
+              (function-good t c (here .callee) z (e .function) lw lc d) (x .returns)
+              (record-fine t c lw lc g d size r st m h below own (rw (x .block)) (rw (q, le-leb _ _ k)) (rw (x .returns)));
+          effect = rw (operands-are t c lw lc d n size sized x, q, o .all, e .function .words, le-ltb _ _ b);
           stack = store-length st s _;
         }
 
@@ -360,16 +362,16 @@ module _ (t : List ℕ) (c g d size : ℕ) (r : Machine) (st m : List ℕ) where
           by b (machine.words vs) q = go l z e vs (each-good size d st s m (take (here .count) (slots t (n * 27))) vs q) b
           by b bad q = same
 
-      right-call : Right (callTransfer t c d size st s m n at call under top)
+      right-call : Right (callTransfer t c lw lc d size st s m n at call under top)
       unfolding callTransfer
       right-call =
           either Right 8 (here .count) (transferred Stays st) _ (λ l. same)
           (λ l. either Right (here .callee) c _ (transferred Stays st)
-          (λ p. either-eq Right (calleeSize (rowAt t) c (here .callee) (here .count)) 0 (transferred Stays st) _ (λ q. same)
-          (λ q. right-entered l _ (callee-good (rowAt t) c (here .callee) (here .count) _ q refl)))
+          (λ p. either-eq Right (calleeSize (lentProgram t c lw lc d) (here .callee) (here .count)) 0 (transferred Stays st) _ (λ q. same)
+          (λ q. right-entered l _ (callee-good (lentProgram t c lw lc d) (here .callee) (here .count) _ q refl)))
           (λ p. same))
 
-    right-tail : here .kind ≡ 12 → Right (tailTransfer t c d size st s m n)
+    right-tail : here .kind ≡ 12 → Right (tailTransfer t c lw lc d size st s m n)
     unfolding tailTransfer
     right-tail q =
         either-eq Right (here .expr) 2 _ (transferred Stays st)
@@ -381,13 +383,13 @@ module _ (t : List ℕ) (c g d size : ℕ) (r : Machine) (st m : List ℕ) where
 
     -- the statement returns this value
     record Gives (v : ℕ) : Type 0 where
-      good : rowFault (rowAt t) c d n ≡ false
+      good : rowFault (lentProgram t c lw lc d) n ≡ false
       line : eqb (here .kind) 1 ≡ false
       block : eqb (here .kind) 4 ≡ false
       tail : eqb (here .kind) 12 ≡ false
       calls : isCall (here .kind) (here .expr) ≡ false
       returns : isReturn here ≡ true
-      effect : effectOf Bits32 (rowAt t) c (world r st m) ≡ handedBy Bits32 (rowAt t) c (world r st m) v (resumptionOf Bits32 (rowAt t) c st (suc s) s)
+      effect : effectOf (lentProgram t c lw lc d) (world r st m) ≡ handedBy (lentProgram t c lw lc d) (world r st m) v (resumptionOf Bits32 (rowAt t) c st (suc s) s)
 
     used : here .operands ≡ take (usedBy (here .kind) (here .expr) (here .count)) (slots t (n * 27))
     unfolding rowAt rowFrom
@@ -398,7 +400,7 @@ module _ (t : List ℕ) (c g d size : ℕ) (r : Machine) (st m : List ℕ) where
         effectOf returnOf returned
     gives-end q =
         record {
-          good = no-fault (rowAt t) c d n (rw q) (rw q) (rw q) (rw q) (rw q) (rw (used, q)) (rw q);
+          good = no-fault (lentProgram t c lw lc d) n (rw q) (rw q) (rw q) (rw q) (rw q) (rw (used, q)) (rw q);
           line = rw q;
           block = rw q;
           tail = rw q;
@@ -412,7 +414,7 @@ module _ (t : List ℕ) (c g d size : ℕ) (r : Machine) (st m : List ℕ) where
         usedBy ifLt ifEq ifTrue someOf effectOf returnOf returned
     gives-bare q e =
         record {
-          good = no-fault (rowAt t) c d n (rw (q, e)) (rw q) (rw (q, e)) (rw q) (rw q) (rw (used, q, e)) (rw q);
+          good = no-fault (lentProgram t c lw lc d) n (rw (q, e)) (rw q) (rw (q, e)) (rw q) (rw q) (rw (used, q, e)) (rw q);
           line = rw q;
           block = rw q;
           tail = rw q;
@@ -428,7 +430,7 @@ module _ (t : List ℕ) (c g d size : ℕ) (r : Machine) (st m : List ℕ) where
         effectOf returnOf returned workedOf
     gives-value v end q e l b o w =
         record {
-          good = no-fault (rowAt t) c d n (rw (q, l 13)) (rw q) (rw (q, b)) (rw q) (rw q) (rw (used, q, sized) o) (rw q);
+          good = no-fault (lentProgram t c lw lc d) n (rw (q, l 13)) (rw q) (rw (q, b)) (rw q) (rw q) (rw (used, q, sized) o) (rw q);
           line = rw q;
           block = rw q;
           tail = rw q;
@@ -455,7 +457,7 @@ module _ (t : List ℕ) (c g d size : ℕ) (r : Machine) (st m : List ℕ) where
 
     -- the call at row p in the frame behind
     module _ (small : c < 4294967296) (v p caller back z : ℕ) (low : p < c) (ep : getD st s 0 ≡ p) (ec : getD st (s + 1) 0 ≡ caller) (eb : getD st (s + 2) 0 ≡ back)
-        (function : Function (rowAt t) c (rowAt t p .func) z) (fits : back ≤ length m) (meets : caller + z ≡ s) (x : Handed t c d z p) (y : Gives v) where
+        (function : Function (rowAt t) c (rowAt t p .func) z) (fits : back ≤ length m) (meets : caller + z ≡ s) (x : Handed t c lw lc d z p) (y : Gives v) where
       not-first : isFirst Bits32 st s ≡ false
       unfolding isFirst mark
       not-first = rw (ep, ne-eqb p 4294967295 (λ e. omega (arith, low, small, e))) (both-false (eqb s 0))
@@ -481,11 +483,11 @@ module _ (t : List ℕ) (c g d size : ℕ) (r : Machine) (st m : List ℕ) where
       unfolding resumptionOf passesOn ifTrue
       resumes = rw (not-first, called, ep, not-passed, ec, eb)
 
-      back-fine : withinBroken Bits32 (rowAt t) c d r st (length m) ≡ No
+      back-fine : withinBroken (lentProgram t c lw lc d) r st (length m) ≡ No
       back-fine =
-          return-fine t c g d size r st m h below own (y .line) (y .good) p (y .calls) (y .returns) (frame-fine t c g d size r st m h below own) rows-left (x .good)
-          (function-good t c (rowAt t p .func) z function d)
-          (record-fine t c g d size r st m h below own (rw (y .block)) (rw (y .tail)) (rw (y .returns) leaves-good))
+          return-fine t c lw lc g d size r st m h below own (y .line) (y .good) p (y .calls) (y .returns) (frame-fine t c lw lc g d size r st m h below own) rows-left (x .good)
+          (function-good t c (rowAt t p .func) z function lw lc d)
+          (record-fine t c lw lc g d size r st m h below own (rw (y .block)) (rw (y .tail)) (rw (y .returns) leaves-good))
 
       right-resumed : Right (resumed (rowAt t) st s v p caller back)
       unfolding resumed RightBy handedBy handedTo ifEq
@@ -494,43 +496,43 @@ module _ (t : List ℕ) (c g d size : ℕ) (r : Machine) (st m : List ℕ) where
           (λ q. record { fine = back-fine; effect = y .effect ∙ rw (resumes, x .at, q); stack = refl })
           (λ q. record { fine = back-fine; effect = y .effect ∙ rw (resumes, x .at, ne-eqb _ _ q); stack = length-set st (caller + rowAt t p .a) v })
 
-    right-hand : c < 4294967296 → (v : ℕ) → Gives v → Right (handTransfer t c d st s (length m) v)
+    right-hand : c < 4294967296 → (v : ℕ) → Gives v → Right (handTransfer t c lw lc d st s (length m) v)
     unfolding handTransfer handTo
     right-hand small v y =
         either Right (getD st s 0) c _ (transferred Stays st)
         (λ l. either-eq Right (sizeOf (rowAt t) c (rowAt t (getD st s 0) .func)) 0 (transferred Stays st) _ (λ q. same)
         (λ q. either Right (length m) (getD st (s + 2) 0) (transferred Stays st) _ (λ b. same)
         (λ b. either-eq Right (getD st (s + 1) 0 + sizeOf (rowAt t) c (rowAt t (getD st s 0) .func)) s _ (transferred Stays st)
-        (λ e. either-true Right (callGood t c d (sizeOf (rowAt t) c (rowAt t (getD st s 0) .func)) (getD st s 0)) _ (transferred Stays st)
+        (λ e. either-true Right (callGood t c lw lc d (sizeOf (rowAt t) c (rowAt t (getD st s 0) .func)) (getD st s 0)) _ (transferred Stays st)
         (λ w. resumption l q b e w) (λ w. same))
         (λ e. same))))
         (λ l. same)
       where
         resumption : getD st s 0 < c → (sizeOf (rowAt t) c (rowAt t (getD st s 0) .func) ≡ 0 → ⊥) → getD st (s + 2) 0 ≤ length m
             → getD st (s + 1) 0 + sizeOf (rowAt t) c (rowAt t (getD st s 0) .func) ≡ s
-            → callGood t c d (sizeOf (rowAt t) c (rowAt t (getD st s 0) .func)) (getD st s 0) ≡ true
+            → callGood t c lw lc d (sizeOf (rowAt t) c (rowAt t (getD st s 0) .func)) (getD st s 0) ≡ true
             → Right (resumed (rowAt t) st s v (getD st s 0) (getD st (s + 1) 0) (getD st (s + 2) 0))
         resumption l q b e w =
             let f = size-function (rowAt t) c (rowAt t (getD st s 0) .func) _ q refl in
             right-resumed small v (getD st s 0) (getD st (s + 1) 0) (getD st (s + 2) 0) _ l refl refl refl f b e
-            (handed t c d _ (getD st s 0) (row-size t c (rowAt t (getD st s 0) .func) _ f (getD st s 0) refl) w) y
+            (handed t c lw lc d _ (getD st s 0) (row-size t c (rowAt t (getD st s 0) .func) _ f (getD st s 0) refl) w) y
 
-    right-return : c < 4294967296 → Right (returnTransfer t c d size st s m n (r .top))
+    right-return : c < 4294967296 → Right (returnTransfer t c lw lc d size st s m n (r .top))
     unfolding returnTransfer returnBy
     right-return small = by (resultOf t d size st s m n (r .top)) refl
       where
-        by : (w : Worked) → resultOf t d size st s m n (r .top) ≡ w → Right (returnBy t c d size st s m n (r .top) w)
+        by : (w : Worked) → resultOf t d size st s m n (r .top) ≡ w → Right (returnBy t c lw lc d size st s m n (r .top) w)
         by (Value v end) e = right-hand small v (gives v end e)
         by (Stop k) e = same
 
   -- what became of a call or a return is right
-  pub right-transfer : c < 4294967296 → InFrame t c g size r st m → Right (transferOf t c g d size st s (r .used) m n (r .top))
+  pub right-transfer : c < 4294967296 → InFrame t c g size r st m → Right (transferOf t c lw lc g d size st s (r .used) m n (r .top))
   unfolding transferOf
   right-transfer small h =
       either Right n c _ (transferred Stays st)
       (λ l. either-eq Right (here .func) g _ (transferred Stays st)
       (λ e. either-true Right (callsAny (rowAt t) size n) _ _
-      (λ q. right-call h l e (r .used) n s (r .top) (went-call h l e (any-row t c d n size (sized h l e) q)))
+      (λ q. right-call h l e (r .used) n s (r .top) (went-call h l e (any-row t c lw lc d n size (sized h l e) q)))
       (λ q. either-eq Right (here .kind) 12 _ _ (λ k. right-tail h l e k) (λ k. right-return h l e small)))
       (λ e. same))
       (λ l. same)

@@ -11,6 +11,7 @@ use Rattle.lang_kinds.specs.Kinds as kind
 use Rattle.prog_tables.specs.Layout.{noExpression, callExpression, operandSlots}
 use Rattle.prog_tables.specs.Places.{placeOf, slotPlace}
 use Rattle.prog_tables.specs.Statement.{Row, operandAt, slots, rowAt}
+use Rattle.prog_tables.specs.Program.{Program, lentProgram}
 use Rattle.prog_tables.specs.Faults.{operandFault}
 use Rattle.prog_tables.specs.declared.Operand.{Operand}
 use Rattle.vm_definitions.specs.Access.{storeFrom}
@@ -39,8 +40,8 @@ goodFrom t at size d (suc left) i =
     ifTrue (operandFault size d (operandAt t (slotPlace at i))) false (goodFrom t at size d left (suc i))
 
 -- the frame size of function p, where it has k parameters; else 0
-unfoldable pub calleeSize : (ℕ → Row) → ℕ → ℕ → ℕ → ℕ
-calleeSize f c p k = ifEq (f p .b) k (sizeOf f c p) 0
+unfoldable pub calleeSize : Program → ℕ → ℕ → ℕ
+calleeSize prog p k = ifEq (prog .rows p .b) k (sizeOf (prog .rows) (prog .count) p) 0
 
 -- a bare call; `let` and `set` of a local with a call, whose word is in the frame
 unfoldable pub callsLocal : (ℕ → Row) → ℕ → ℕ → Bool
@@ -55,10 +56,10 @@ unfoldable pub callsAny : (ℕ → Row) → ℕ → ℕ → Bool
 callsAny f size n = ifEq (f n .kind) kind.return (eqb (f n .expr) callExpression) (callsLocal f size n)
 
 -- row p, to which a value is handed, has a good callee and good arguments
-unfoldable pub callGood : List ℕ → ℕ → ℕ → ℕ → ℕ → Bool
-callGood t c d size p =
+unfoldable pub callGood : List ℕ → ℕ → List ℕ → ℕ → ℕ → ℕ → ℕ → Bool
+callGood t c lw lc d size p =
     ifLt operandSlots (rowAt t p .count) false
-    (ifEq (calleeSize (rowAt t) c (rowAt t p .callee) (rowAt t p .count)) 0 false
+    (ifEq (calleeSize (lentProgram t c lw lc d) (rowAt t p .callee) (rowAt t p .count)) 0 false
     (ifTrue (callsLocal (rowAt t) size p) (goodFrom t (placeOf p) size d (rowAt t p .count) 0) false))
 
 -- ---- calls
@@ -81,20 +82,20 @@ module _ (t : List ℕ) (d size : ℕ) (st : List ℕ) (s : ℕ) (m : List ℕ) 
   entered = ifLt (length st) (at + z) (transferred Stays st) (enteredBy (goodAll size d st s m (take k (slots t (placeOf n)))))
 
 -- row n calls its function, whose frame starts at a place
-unfoldable pub callTransfer : List ℕ → ℕ → ℕ → ℕ → List ℕ → ℕ → List ℕ → ℕ → ℕ → ℕ → ℕ → ℕ → Transferred
-callTransfer t c d size st s m n at call below top =
+unfoldable pub callTransfer : List ℕ → ℕ → List ℕ → ℕ → ℕ → ℕ → List ℕ → ℕ → List ℕ → ℕ → ℕ → ℕ → ℕ → ℕ → Transferred
+callTransfer t c lw lc d size st s m n at call below top =
     ifLt operandSlots (rowAt t n .count) (transferred Stays st)
     (ifLt (rowAt t n .callee) c
-    (ifEq (calleeSize (rowAt t) c (rowAt t n .callee) (rowAt t n .count)) 0 (transferred Stays st)
-    (entered t d size st s m n at call below top (rowAt t n .callee) (rowAt t n .count) (calleeSize (rowAt t) c (rowAt t n .callee) (rowAt t n .count))))
+    (ifEq (calleeSize (lentProgram t c lw lc d) (rowAt t n .callee) (rowAt t n .count)) 0 (transferred Stays st)
+    (entered t d size st s m n at call below top (rowAt t n .callee) (rowAt t n .count) (calleeSize (lentProgram t c lw lc d) (rowAt t n .callee) (rowAt t n .count))))
     (transferred Stays st))
 
 -- `tail-call` at row n: the new frame has the head of the frame in use, and its auto top of entry is restored
-unfoldable pub tailTransfer : List ℕ → ℕ → ℕ → ℕ → List ℕ → ℕ → List ℕ → ℕ → Transferred
-tailTransfer t c d size st s m n =
+unfoldable pub tailTransfer : List ℕ → ℕ → List ℕ → ℕ → ℕ → ℕ → List ℕ → ℕ → List ℕ → ℕ → Transferred
+tailTransfer t c lw lc d size st s m n =
     ifEq (rowAt t n .expr) callExpression
     (ifLt (length m) (topAtEntry st s) (transferred Stays st)
-    (callTransfer t c d size st s m n s (returnsTo st s) (callerFrame st s) (topAtEntry st s)))
+    (callTransfer t c lw lc d size st s m n s (returnsTo st s) (callerFrame st s) (topAtEntry st s)))
     (transferred Stays st)
 
 -- ---- returns
@@ -110,24 +111,24 @@ unfoldable pub resumed : (ℕ → Row) → List ℕ → ℕ → ℕ → ℕ → 
 resumed f st s v p caller back = transferred (To (suc p) caller s back) (ifEq (f p .kind) kind.call st (set st (caller + f p .a) v))
 
 -- a value handed back from the frame at s to the call at row p, whose frame has z words; m bytes of memory
-unfoldable pub handTo : List ℕ → ℕ → ℕ → List ℕ → ℕ → ℕ → ℕ → ℕ → ℕ → Transferred
-handTo t c d st s m v p z =
+unfoldable pub handTo : List ℕ → ℕ → List ℕ → ℕ → ℕ → List ℕ → ℕ → ℕ → ℕ → ℕ → ℕ → Transferred
+handTo t c lw lc d st s m v p z =
     ifLt m (topAtEntry st s) (transferred Stays st)
     (ifEq (callerFrame st s + z) s
-    (ifTrue (callGood t c d z p) (resumed (rowAt t) st s v p (callerFrame st s) (topAtEntry st s)) (transferred Stays st))
+    (ifTrue (callGood t c lw lc d z p) (resumed (rowAt t) st s v p (callerFrame st s) (topAtEntry st s)) (transferred Stays st))
     (transferred Stays st))
 
 -- a value handed back from the frame at s
-unfoldable pub handTransfer : List ℕ → ℕ → ℕ → List ℕ → ℕ → ℕ → ℕ → Transferred
-handTransfer t c d st s m v =
+unfoldable pub handTransfer : List ℕ → ℕ → List ℕ → ℕ → ℕ → List ℕ → ℕ → ℕ → ℕ → Transferred
+handTransfer t c lw lc d st s m v =
     ifLt (returnsTo st s) c
     (ifEq (sizeOf (rowAt t) c (rowAt t (returnsTo st s) .func)) 0 (transferred Stays st)
-    (handTo t c d st s m v (returnsTo st s) (sizeOf (rowAt t) c (rowAt t (returnsTo st s) .func))))
+    (handTo t c lw lc d st s m v (returnsTo st s) (sizeOf (rowAt t) c (rowAt t (returnsTo st s) .func))))
     (transferred Stays st)
 
-module _ (t : List ℕ) (c d size : ℕ) (st : List ℕ) (s : ℕ) (m : List ℕ) (n top : ℕ) where
+module _ (t : List ℕ) (c : ℕ) (lw : List ℕ) (lc d size : ℕ) (st : List ℕ) (s : ℕ) (m : List ℕ) (n top : ℕ) where
   unfoldable pub returnBy : Worked → Transferred
-  returnBy (Value v end) = handTransfer t c d st s (length m) v
+  returnBy (Value v end) = handTransfer t c lw lc d st s (length m) v
   returnBy (Stop k) = transferred Stays st
 
   -- the return at row n
@@ -135,11 +136,11 @@ module _ (t : List ℕ) (c d size : ℕ) (st : List ℕ) (s : ℕ) (m : List ℕ
   returnTransfer = returnBy (resultOf t d size st s m n top)
 
 -- the call or return at row n, where that is one of c rows and a row of function g
-unfoldable pub transferOf : List ℕ → ℕ → ℕ → ℕ → ℕ → List ℕ → ℕ → ℕ → List ℕ → ℕ → ℕ → Transferred
-transferOf t c g d size st s used m n top =
+unfoldable pub transferOf : List ℕ → ℕ → List ℕ → ℕ → ℕ → ℕ → ℕ → List ℕ → ℕ → ℕ → List ℕ → ℕ → ℕ → Transferred
+transferOf t c lw lc g d size st s used m n top =
     ifLt n c
     (ifEq (rowAt t n .func) g
-    (ifTrue (callsAny (rowAt t) size n) (callTransfer t c d size st s m n used n s top)
-    (ifEq (rowAt t n .kind) kind.tailCall (tailTransfer t c d size st s m n) (returnTransfer t c d size st s m n top)))
+    (ifTrue (callsAny (rowAt t) size n) (callTransfer t c lw lc d size st s m n used n s top)
+    (ifEq (rowAt t n .kind) kind.tailCall (tailTransfer t c lw lc d size st s m n) (returnTransfer t c lw lc d size st s m n top)))
     (transferred Stays st))
     (transferred Stays st)

@@ -11,6 +11,7 @@ ghost use Prim.Native.Nat.{_+_, _*_, _≤_, _<_};
 ghost use lib.ListN.{length, take};
 ghost use Rattle.base_limits.specs.Limits.{wordValues, greatestWord, memoryBytes, stackWords};
 ghost use Rattle.prog_tables.specs.Statement.{operandAt, rowAt, slots};
+ghost use Rattle.prog_tables.specs.Program.{lentProgram};
 ghost use Rattle.prog_tables.specs.Faults.{operandFault};
 ghost use Rattle.vm_calls.specs.Outcomes.{wordsIn};
 ghost use Rattle.prog_tables.specs.Layout.{statementRow, operandSlots};
@@ -70,9 +71,9 @@ fn are_good(t: &[u32], n: u32, d: u32, size: u32, k: u32) -> bool
 }
 
 // The frame size of function p, where it has k parameters; else 0.
-fn callee_size(t: &[u32], c: u32, p: u32, k: u32) -> u32
+fn callee_size(t: &[u32], c: u32, l: &[u32], lc: u32, d: u32, p: u32, k: u32) -> u32
     requires { ⌜ c * statementRow ≤ length (now t) ⌝ }
-    ensures { λ r. ⌜ r ≡ calleeSize (rowAt (now (t .entry))) c p k ⌝ }
+    ensures { λ r. ⌜ r ≡ calleeSize (lentProgram (now (t .entry)) c (now (l .entry)) lc d) p k ⌝ }
 {
     if prog_tables::parameters_at(t, p) == k {
         return vm_quick_operands::size_of(t, c, p);
@@ -110,15 +111,15 @@ fn calls_any(t: &[u32], size: u32, n: u32) -> bool
 }
 
 // Whether row p is a call to which a value is handed, with a good callee and good arguments; its frame has this size.
-fn is_call_good(t: &[u32], c: u32, d: u32, size: u32, p: u32) -> bool
+fn is_call_good(t: &[u32], c: u32, l: &[u32], lc: u32, d: u32, size: u32, p: u32) -> bool
     requires { ⌜ (p < c) × (c * statementRow ≤ length (now t)) ⌝ }
-    ensures { λ r. ⌜ r ≡ callGood (now (t .entry)) c d size p ⌝ }
+    ensures { λ r. ⌜ r ≡ callGood (now (t .entry)) c (now (l .entry)) lc d size p ⌝ }
 {
     let k = prog_tables::count_at(t, p);
     if Machine::PARAMETERS < k {
         return false;
     }
-    if callee_size(t, c, prog_tables::callee_at(t, p), k) == 0 {
+    if callee_size(t, c, l, lc, d, prog_tables::callee_at(t, p), k) == 0 {
         return false;
     }
     if calls_local(t, size, p) {
@@ -232,6 +233,8 @@ fn enter(
 fn call_at(
     t: &[u32],
     c: u32,
+    l: &[u32],
+    lc: u32,
     d: u32,
     size: u32,
     st: &mut [u32],
@@ -244,7 +247,7 @@ fn call_at(
     top: u32,
 ) -> Transfer
     requires { ⌜ (n < c) × (c * statementRow ≤ length (now t)) × (s + size ≤ length (now st)) × (length (now st) ≤ stackWords) ⌝ }
-    ensures { λ r. ⌜ transferred r (now (st .exit)) ≡ callTransfer (now (t .entry)) c d size (now (st .entry)) s (now (m .entry)) n at call below top ⌝ }
+    ensures { λ r. ⌜ transferred r (now (st .exit)) ≡ callTransfer (now (t .entry)) c (now (l .entry)) lc d size (now (st .entry)) s (now (m .entry)) n at call below top ⌝ }
 {
     let k = prog_tables::count_at(t, n);
     if Machine::PARAMETERS < k {
@@ -254,7 +257,7 @@ fn call_at(
     if c <= p {
         return Transfer::Stays;
     }
-    let z = callee_size(t, c, p, k);
+    let z = callee_size(t, c, l, lc, d, p, k);
     if z == 0 {
         return Transfer::Stays;
     }
@@ -265,6 +268,8 @@ fn call_at(
 fn tail_call(
     t: &[u32],
     c: u32,
+    l: &[u32],
+    lc: u32,
     d: u32,
     size: u32,
     st: &mut [u32],
@@ -273,7 +278,7 @@ fn tail_call(
     n: u32,
 ) -> Transfer
     requires { ⌜ (n < c) × (c * statementRow ≤ length (now t)) × (s + size ≤ length (now st)) × (length (now st) ≤ stackWords) ⌝ }
-    ensures { λ r. ⌜ transferred r (now (st .exit)) ≡ tailTransfer (now (t .entry)) c d size (now (st .entry)) s (now (m .entry)) n ⌝ }
+    ensures { λ r. ⌜ transferred r (now (st .exit)) ≡ tailTransfer (now (t .entry)) c (now (l .entry)) lc d size (now (st .entry)) s (now (m .entry)) n ⌝ }
 {
     let e = prog_tables::expression_at(t, n);
     if e != ExpressionKind::CALL {
@@ -286,7 +291,7 @@ fn tail_call(
     if m.len() < top as usize {
         return Transfer::Stays;
     }
-    call_at(t, c, d, size, st, s, m, n, s, call, below, top)
+    call_at(t, c, l, lc, d, size, st, s, m, n, s, call, below, top)
 }
 
 // ---- returns
@@ -347,6 +352,8 @@ fn resume(t: &[u32], st: &mut [u32], s: u32, v: u32, p: u32, caller: u32, back: 
 fn hand_to(
     t: &[u32],
     c: u32,
+    l: &[u32],
+    lc: u32,
     d: u32,
     st: &mut [u32],
     s: u32,
@@ -356,7 +363,7 @@ fn hand_to(
     z: u32,
 ) -> Transfer
     requires { ⌜ (p < c) × (c < wordValues) × (c * statementRow ≤ length (now t)) ⌝ }
-    ensures { λ r. ⌜ transferred r (now (st .exit)) ≡ handTo (now (t .entry)) c d (now (st .entry)) s m v p z ⌝ }
+    ensures { λ r. ⌜ transferred r (now (st .exit)) ≡ handTo (now (t .entry)) c (now (l .entry)) lc d (now (st .entry)) s m v p z ⌝ }
 {
     let at = s as usize;
     let caller = prog_tables::word_at(st, at + 1);
@@ -365,7 +372,7 @@ fn hand_to(
         return Transfer::Stays;
     }
     if caller as u64 + z as u64 == s as u64 {
-        if is_call_good(t, c, d, z, p) {
+        if is_call_good(t, c, l, lc, d, z, p) {
             return resume(t, st, s, v, p, caller, back);
         }
         return Transfer::Stays;
@@ -374,9 +381,19 @@ fn hand_to(
 }
 
 // A value handed back from the frame at s to the call behind it.
-fn hand(t: &[u32], c: u32, d: u32, st: &mut [u32], s: u32, m: usize, v: u32) -> Transfer
+fn hand(
+    t: &[u32],
+    c: u32,
+    l: &[u32],
+    lc: u32,
+    d: u32,
+    st: &mut [u32],
+    s: u32,
+    m: usize,
+    v: u32,
+) -> Transfer
     requires { ⌜ c * statementRow ≤ length (now t) ⌝ }
-    ensures { λ r. ⌜ transferred r (now (st .exit)) ≡ handTransfer (now (t .entry)) c d (now (st .entry)) s m v ⌝ }
+    ensures { λ r. ⌜ transferred r (now (st .exit)) ≡ handTransfer (now (t .entry)) c (now (l .entry)) lc d (now (st .entry)) s m v ⌝ }
 {
     let p = prog_tables::word_at(st, s as usize);
     if c <= p {
@@ -386,13 +403,15 @@ fn hand(t: &[u32], c: u32, d: u32, st: &mut [u32], s: u32, m: usize, v: u32) -> 
     if z == 0 {
         return Transfer::Stays;
     }
-    hand_to(t, c, d, st, s, m, v, p, z)
+    hand_to(t, c, l, lc, d, st, s, m, v, p, z)
 }
 
 // A return at row n.
 fn give_back(
     t: &[u32],
     c: u32,
+    l: &[u32],
+    lc: u32,
     d: u32,
     size: u32,
     st: &mut [u32],
@@ -402,11 +421,11 @@ fn give_back(
     top: u32,
 ) -> Transfer
     requires { ⌜ (n < c) × (c * statementRow ≤ length (now t)) × (s + size ≤ length (now st)) × (length (now m) ≤ memoryBytes) ⌝ }
-    ensures { λ r. ⌜ transferred r (now (st .exit)) ≡ returnTransfer (now (t .entry)) c d size (now (st .entry)) s (now (m .entry)) n top ⌝ }
+    ensures { λ r. ⌜ transferred r (now (st .exit)) ≡ returnTransfer (now (t .entry)) c (now (l .entry)) lc d size (now (st .entry)) s (now (m .entry)) n top ⌝ }
 {
     let x = result(t, d, size, st, s, m, n, top);
     match x {
-        Worked::Value { word, top: end } => hand(t, c, d, st, s, m.len(), word),
+        Worked::Value { word, top: end } => hand(t, c, l, lc, d, st, s, m.len(), word),
         Worked::Stop(_) => Transfer::Stays,
     }
 }
@@ -415,6 +434,8 @@ fn give_back(
 pub fn take_transfer(
     t: &[u32],
     c: u32,
+    l: &[u32],
+    lc: u32,
     g: u32,
     d: u32,
     size: u32,
@@ -426,7 +447,7 @@ pub fn take_transfer(
     top: u32,
 ) -> Transfer
     requires { ⌜ (c * statementRow ≤ length (now t)) × (s + size ≤ length (now st)) × (length (now st) ≤ stackWords) × (length (now m) ≤ memoryBytes) ⌝ }
-    ensures { λ r. ⌜ transferred r (now (st .exit)) ≡ transferOf (now (t .entry)) c g d size (now (st .entry)) s used (now (m .entry)) n top ⌝ }
+    ensures { λ r. ⌜ transferred r (now (st .exit)) ≡ transferOf (now (t .entry)) c (now (l .entry)) lc g d size (now (st .entry)) s used (now (m .entry)) n top ⌝ }
 {
     if c <= n {
         return Transfer::Stays;
@@ -434,13 +455,13 @@ pub fn take_transfer(
     let own = prog_tables::func_at(t, n);
     if own == g {
         if calls_any(t, size, n) {
-            return call_at(t, c, d, size, st, s, m, n, used, n, s, top);
+            return call_at(t, c, l, lc, d, size, st, s, m, n, used, n, s, top);
         }
         let k = prog_tables::kind_at(t, n);
         if k == Kind::TAIL_CALL {
-            return tail_call(t, c, d, size, st, s, m, n);
+            return tail_call(t, c, l, lc, d, size, st, s, m, n);
         }
-        return give_back(t, c, d, size, st, s, m, n, top);
+        return give_back(t, c, l, lc, d, size, st, s, m, n, top);
     }
     Transfer::Stays
 }

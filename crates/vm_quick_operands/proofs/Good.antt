@@ -14,6 +14,7 @@ use Rattle.base_prelude.proofs.Choice.{true-false, either, either-eq}
 use Rattle.base_limits.specs.declared.Width.the-variants.{Bits32}
 use Rattle.prog_tables.specs.Tests.{both, oneOf, some, someOf}
 use Rattle.prog_tables.specs.Statement.{Row, hasExpression, isTest, isOperator, isCall, expressionUses, usedBy, operandAt, slots, rowFrom, rowAt}
+use Rattle.prog_tables.specs.Program.{Program, lentProgram}
 use Rattle.prog_tables.specs.Nesting.{isListed, hasTarget}
 use Rattle.prog_tables.specs.Faults.{expressionListed, inFunction, sizeAt, operandFault, kindFault, targetFault, calleeFault, sizeFault, hasWord, wordFault, operandsFault, addressFault, rowFault}
 use Rattle.prog_tables.specs.declared.Operand.{Operand}
@@ -169,10 +170,10 @@ module _ (t : List ℕ) (at size d : ℕ) (st : List ℕ) (s : ℕ) (m : List �
 -- ---- rows
 
 -- a row whose causes are all absent
-pub no-fault : (f : ℕ → Row) (c d n : ℕ) → kindFault f n ≡ false → targetFault f c n ≡ false → calleeFault f c n ≡ false → sizeFault f n ≡ false
-    → wordFault f c n ≡ false → operandsFault f c d n ≡ false → addressFault f c d n ≡ false → rowFault f c d n ≡ false
+pub no-fault : (p : Program) (n : ℕ) → kindFault p n ≡ false → targetFault p n ≡ false → calleeFault p n ≡ false → sizeFault p n ≡ false
+    → wordFault p n ≡ false → operandsFault p n ≡ false → addressFault p n ≡ false → rowFault p n ≡ false
 unfolding rowFault some
-no-fault f c d n e1 e2 e3 e4 e5 e6 e7 = rw (e1, e2, e3, e4, e5, e6, e7)
+no-fault p n e1 e2 e3 e4 e5 e6 e7 = rw (e1, e2, e3, e4, e5, e6, e7)
 
 -- row g is a good `function` row with this frame size
 pub record Function (f : ℕ → Row) (c g size : ℕ) : Type 0 where
@@ -182,12 +183,12 @@ pub record Function (f : ℕ → Row) (c g size : ℕ) : Type 0 where
   pub least : 3 + f g .b ≤ size
 
 module _ (t : List ℕ) (c g size : ℕ) (h : Function (rowAt t) c g size) where
-  pub function-good : (d : ℕ) → rowFault (rowAt t) c d g ≡ false
+  pub function-good : (lw : List ℕ) (lc d : ℕ) → rowFault (lentProgram t c lw lc d) g ≡ false
   unfolding kindFault targetFault calleeFault sizeFault wordFault operandsFault addressFault isListed hasExpression hasTarget isTest isCall hasWord usedBy
       ifLt ifEq ifTrue rowAt rowFrom someOf
-  function-good d =
+  function-good lw lc d =
       let e = h .kind in
-      no-fault (rowAt t) c d g (rw e) (rw e) (rw e) (rw (e, h .words, le-ltb _ _ (h .least))) (rw e) (rw e) (rw e)
+      no-fault (lentProgram t c lw lc d) g (rw e) (rw e) (rw e) (rw (e, h .words, le-ltb _ _ (h .least))) (rw e) (rw e) (rw e)
 
   -- of a row of this function
   module _ (n : ℕ) (e : rowAt t n .func ≡ g) where

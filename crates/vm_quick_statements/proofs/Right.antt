@@ -18,6 +18,7 @@ use Rattle.base_limits.specs.Record.{goingOn}
 use Rattle.base_word.specs.Bytes.{wordBytes}
 use Rattle.prog_tables.specs.Tests.{both, oneOf, given, some, someOf}
 use Rattle.prog_tables.specs.Statement.{Row, hasExpression, isTest, isCall, expressionUses, usedBy, operandOf, operandAt, slots, rowFrom, rowAt}
+use Rattle.prog_tables.specs.Program.{Program, lentProgram}
 use Rattle.prog_tables.specs.Nesting.{isListed, hasTarget}
 use Rattle.prog_tables.specs.Faults.{expressionListed, inFunction, sizeAt, operandFault, addressListed, kindFault, targetFault, calleeFault, sizeFault, ownWord, hasWord, wordFault, operandsFault, addressFault, rowFault}
 use Rattle.prog_tables.specs.declared.Operand.{Operand}
@@ -57,9 +58,10 @@ aims t c g a =
     either (λ (b : Bool). b ≡ true → Aims t c g a) a c (eqb (getD t (a * 27 + 1) 0) g) false
     (λ l e. record { below = l; own = eqb-true _ g e }) (λ l e. true-false (sym e))
 
-target-in : (f : ℕ → Row) (c n g a : ℕ) → inFunction f c n ≡ true → f n .func ≡ g → f n .a ≡ a → a < c → f a .func ≡ g → targetFault f c n ≡ false
+target-in : (p : Program) (n g a : ℕ) → inFunction (p .rows) (p .count) n ≡ true → p .rows n .func ≡ g → p .rows n .a ≡ a → a < p .count → p .rows a .func ≡ g
+    → targetFault p n ≡ false
 unfolding targetFault
-target-in f c n g a i j k l m = rw (i, k, lt-ltb a c l, m, j, eq-eqb g g refl) (both-false (oneOf (hasTarget (f n .kind)) (eqb (f n .kind) 10)))
+target-in p n g a i j k l m = rw (i, k, lt-ltb a (p .count) l, m, j, eq-eqb g g refl) (both-false (oneOf (hasTarget (p .rows n .kind)) (eqb (p .rows n .kind) 10)))
 
 -- ---- a row of a plain run
 
@@ -74,7 +76,10 @@ pub record InFrame (t : List ℕ) (c g size : ℕ) (r : Machine) (st m : List �
   pub top : r .top ≤ length m
   pub head : headGood Bits32 (rowAt t) c st (r .frame) ≡ true
 
-module _ (t : List ℕ) (c g d size : ℕ) (r : Machine) (st m : List ℕ) where
+module _ (t : List ℕ) (c : ℕ) (lw : List ℕ) (lc g d size : ℕ) (r : Machine) (st m : List ℕ) where
+  abbrev prog : Program
+  prog = lentProgram t c lw lc d
+
   abbrev n : ℕ
   n = r .next
 
@@ -91,13 +96,13 @@ module _ (t : List ℕ) (c g d size : ℕ) (r : Machine) (st m : List ℕ) where
   pub record Went (i end : ℕ) (st′ m′ : List ℕ) : Type 0 where
     pub below : n < c
     pub own : row .func ≡ g
-    pub good : rowFault (rowAt t) c d n ≡ false
+    pub good : rowFault prog n ≡ false
     pub line : eqb (row .kind) 1 ≡ false
     pub tail : eqb (row .kind) 12 ≡ false
     pub calls : isCall (row .kind) (row .expr) ≡ false
     pub returns : isReturn row ≡ false
     pub block : given (eqb (row .kind) 4) (leb (getD st (s + row .a) 0) (length m)) ≡ true
-    pub effect : effectOf Bits32 (rowAt t) c (world r st m) ≡ leaves (world (goingOn r i end) st′ m′)
+    pub effect : effectOf prog (world r st m) ≡ leaves (world (goingOn r i end) st′ m′)
     pub stack : length st′ ≡ length st
     pub memory : length m′ ≡ length m
     pub first : getD st′ s 0 ≡ getD st s 0
@@ -147,8 +152,8 @@ module _ (t : List ℕ) (c g d size : ℕ) (r : Machine) (st m : List ℕ) where
     unfolding rowAt rowFrom
     func-of q = q
 
-    aims-good : aimed t c g a ≡ true → targetFault (rowAt t) c n ≡ false
-    aims-good e = target-in (rowAt t) c n g a within own fields-a (aims t c g a e .below) (func-of (aims t c g a e .own))
+    aims-good : aimed t c g a ≡ true → targetFault prog n ≡ false
+    aims-good e = target-in prog n g a within own fields-a (aims t c g a e .below) (func-of (aims t c g a e .own))
 
     -- ---- `goto`, `else`, `end if`
 
@@ -158,7 +163,7 @@ module _ (t : List ℕ) (c g d size : ℕ) (r : Machine) (st m : List ℕ) where
         record {
           below = below;
           own = own;
-          good = no-fault (rowAt t) c d n (rw q) (aims-good e) (rw q) (rw q) (rw q) (rw (used, q)) (rw q);
+          good = no-fault prog n (rw q) (aims-good e) (rw q) (rw q) (rw q) (rw (used, q)) (rw q);
           line = rw q;
           tail = rw q;
           calls = rw q;
@@ -178,7 +183,7 @@ module _ (t : List ℕ) (c g d size : ℕ) (r : Machine) (st m : List ℕ) where
         record {
           below = below;
           own = own;
-          good = no-fault (rowAt t) c d n (rw q) (aims-good e) (rw q) (rw q) (rw q) (rw (used, q)) (rw q);
+          good = no-fault prog n (rw q) (aims-good e) (rw q) (rw q) (rw q) (rw (used, q)) (rw q);
           line = rw q;
           tail = rw q;
           calls = rw q;
@@ -198,7 +203,7 @@ module _ (t : List ℕ) (c g d size : ℕ) (r : Machine) (st m : List ℕ) where
         record {
           below = below;
           own = own;
-          good = no-fault (rowAt t) c d n (rw q) (aims-good e) (rw q) (rw q) (rw q) (rw (used, q)) (rw q);
+          good = no-fault prog n (rw q) (aims-good e) (rw q) (rw q) (rw q) (rw (used, q)) (rw q);
           line = rw q;
           tail = rw q;
           calls = rw q;
@@ -224,7 +229,7 @@ module _ (t : List ℕ) (c g d size : ℕ) (r : Machine) (st m : List ℕ) where
         record {
           below = below;
           own = own;
-          good = no-fault (rowAt t) c d n (rw q) (rw q) (rw q) (rw q) (rw q) (rw (used, q)) (rw q);
+          good = no-fault prog n (rw q) (rw q) (rw q) (rw q) (rw q) (rw (used, q)) (rw q);
           line = rw q;
           tail = rw q;
           calls = rw q;
@@ -248,7 +253,7 @@ module _ (t : List ℕ) (c g d size : ℕ) (r : Machine) (st m : List ℕ) where
         record {
           below = below;
           own = own;
-          good = no-fault (rowAt t) c d n (rw q) (rw q) (rw q) (rw q) (rw (q, sized, fields-a, fields-b) (lt-leb size _ b)) (rw (used, q)) (rw q);
+          good = no-fault prog n (rw q) (rw q) (rw q) (rw q) (rw (q, sized, fields-a, fields-b) (lt-leb size _ b)) (rw (used, q)) (rw q);
           line = rw q;
           tail = rw q;
           calls = rw q;
@@ -277,7 +282,7 @@ module _ (t : List ℕ) (c g d size : ℕ) (r : Machine) (st m : List ℕ) where
         record {
           below = below;
           own = own;
-          good = no-fault (rowAt t) c d n (rw q) (rw q) (rw q) (rw q) (rw (q, sized, fields-a) (lt-leb size _ l)) (rw (used, q)) (rw q);
+          good = no-fault prog n (rw q) (rw q) (rw q) (rw q) (rw (q, sized, fields-a) (lt-leb size _ l)) (rw (used, q)) (rw q);
           line = rw q;
           tail = rw q;
           calls = rw q;
@@ -335,7 +340,7 @@ module _ (t : List ℕ) (c g d size : ℕ) (r : Machine) (st m : List ℕ) where
         record {
           below = below;
           own = own;
-          good = no-fault (rowAt t) c d n (rw (q, x .listed 5)) (rw q) (rw (q, x .bare)) (rw q) (rw (q, sized, fields-a) (lt-leb size a b)) (rw (used, q, sized) (x .operands)) (rw q);
+          good = no-fault prog n (rw (q, x .listed 5)) (rw q) (rw (q, x .bare)) (rw q) (rw (q, sized, fields-a) (lt-leb size a b)) (rw (used, q, sized) (x .operands)) (rw q);
           line = rw q;
           tail = rw q;
           calls = rw (q, x .bare);
@@ -356,7 +361,7 @@ module _ (t : List ℕ) (c g d size : ℕ) (r : Machine) (st m : List ℕ) where
         record {
           below = below;
           own = own;
-          good = no-fault (rowAt t) c d n (rw (q, x .listed 6)) (rw q) (rw (q, x .bare)) (rw q) (rw (q, sized, fields-a) (lt-leb size a b)) (rw (used, q, sized) (x .operands)) (rw q);
+          good = no-fault prog n (rw (q, x .listed 6)) (rw q) (rw (q, x .bare)) (rw q) (rw (q, sized, fields-a) (lt-leb size a b)) (rw (used, q, sized) (x .operands)) (rw q);
           line = rw q;
           tail = rw q;
           calls = rw (q, x .bare);
@@ -410,7 +415,7 @@ module _ (t : List ℕ) (c g d size : ℕ) (r : Machine) (st m : List ℕ) where
         record {
           below = below;
           own = own;
-          good = no-fault (rowAt t) c d n (rw (q, y .listed 7)) (rw q) (rw (q, y .bare)) (rw q) (rw q) (rw (used, q, sized) (y .operands)) (rw (q, i, sized, j));
+          good = no-fault prog n (rw (q, y .listed 7)) (rw q) (rw (q, y .bare)) (rw q) (rw q) (rw (used, q, sized) (y .operands)) (rw (q, i, sized, j));
           line = rw q;
           tail = rw q;
           calls = rw (q, y .bare);
@@ -483,7 +488,7 @@ module _ (t : List ℕ) (c g d size : ℕ) (r : Machine) (st m : List ℕ) where
         record {
           below = below;
           own = own;
-          good = no-fault (rowAt t) c d n (rw q) (rw q) (rw q) (rw q) (rw q) (rw (used, q, sized) (three-good x y z o)) (rw q);
+          good = no-fault prog n (rw q) (rw q) (rw q) (rw q) (rw q) (rw (used, q, sized) (three-good x y z o)) (rw q);
           line = rw q;
           tail = rw q;
           calls = rw q;
@@ -514,7 +519,7 @@ module _ (t : List ℕ) (c g d size : ℕ) (r : Machine) (st m : List ℕ) where
         record {
           below = below;
           own = own;
-          good = no-fault (rowAt t) c d n (rw q) (rw q) (rw q) (rw q) (rw q) (rw (used, q, sized) (three-good x y z o)) (rw q);
+          good = no-fault prog n (rw q) (rw q) (rw q) (rw q) (rw q) (rw (used, q, sized) (three-good x y z o)) (rw q);
           line = rw q;
           tail = rw q;
           calls = rw q;
@@ -563,14 +568,14 @@ module _ (t : List ℕ) (c g d size : ℕ) (r : Machine) (st m : List ℕ) where
           below = below;
           own = own;
           good =
-              no-fault (rowAt t) c d n (rw (p0, l23, test-bare (row .kind) e)) (aims-good z) (rw (test-uncalled (row .kind) (row .expr) e)) (rw p1) (rw (l3, l7))
+              no-fault prog n (rw (p0, l23, test-bare (row .kind) e)) (aims-good z) (rw (test-uncalled (row .kind) (row .expr) e)) (rw p1) (rw (l3, l7))
               (rw (two e, sized, o .good, p .good)) (rw p7);
           line = p1;
           tail = p12;
           calls = test-uncalled (row .kind) (row .expr) e;
           returns = rw (p2, p13);
           block = rw p4;
-          effect = of-test Bits32 (rowAt t) c (world r st m) e ∙ rw (two e, o .word, p .word, fields-a);
+          effect = of-test prog (world r st m) e ∙ rw (two e, o .word, p .word, fields-a);
           stack = refl;
           memory = refl;
           first = refl;

@@ -14,12 +14,13 @@ use Rattle.base_limits.specs.declared.Width.the-variants.{Bits32}
 use Rattle.base_limits.specs.declared.Machine.{Machine}
 use Rattle.prog_tables.specs.Tests.{both, oneOf, given, all}
 use Rattle.prog_tables.specs.Statement.{Row, isCall, rowAt}
+use Rattle.prog_tables.specs.Program.{Program, lentProgram}
 use Rattle.prog_tables.specs.Faults.{inFunction, sizeAt, rowFault}
 use Rattle.vm_definitions.specs.Frames.{topAtEntry, isReturn, headGood, leavesGood, rowsLeft}
-use Rattle.vm_definitions.specs.Broken.{lowest, orElse, nextBad, frameEnds, rowsUsed, recordGood}
+use Rattle.vm_definitions.specs.Broken.{lowest, orElse, nextBad, frameEnds, rowsUsed}
 use Rattle.vm_definitions.specs.declared.Broken.{Broken}
 use Rattle.vm_definitions.specs.declared.Broken.the-variants.{No, At, Somewhere}
-use Rattle.vm_guard.specs.Guard.{rowBad, withinBroken}
+use Rattle.vm_guard.specs.Guard.{rowBad, recordGood, withinBroken}
 use Rattle.vm_quick_operands.proofs.Good.{Function, function-good, row-within, row-size}
 use Rattle.vm_quick_statements.proofs.Right.{InFrame, Went}
 use Rattle.prog_tables.proofs.Each.{both-false}
@@ -30,16 +31,19 @@ pub next-fine : (f : ℕ → Row) (c n : ℕ) → eqb (f n .kind) 1 ≡ false �
 unfolding nextBad
 next-fine f c n e q = rw (e, q)
 
-pub row-fine : (f : ℕ → Row) (c d n i : ℕ) → nextBad f c n ≡ false → rowFault f c d i ≡ false → rowBad f c d n i ≡ false
+pub row-fine : (p : Program) (n i : ℕ) → nextBad (p .rows) (p .count) n ≡ false → rowFault p i ≡ false → rowBad p n i ≡ false
 unfolding rowBad
-row-fine f c d n i q e = elim (ℕ-discrete i n) [
+row-fine p n i q e = elim (ℕ-discrete i n) [
   | yes z ↦ rw (e, z, q) (both-false (eqb n n))
   | no z ↦ rw (e, ne-eqb i n z)
 ]
 
 -- ---- the record
 
-module _ (t : List ℕ) (c g d size : ℕ) (r : Machine) (st m : List ℕ) (h : InFrame t c g size r st m) (below : r .next < c) (own : rowAt t (r .next) .func ≡ g) where
+module _ (t : List ℕ) (c : ℕ) (lw : List ℕ) (lc g d size : ℕ) (r : Machine) (st m : List ℕ) (h : InFrame t c g size r st m) (below : r .next < c) (own : rowAt t (r .next) .func ≡ g) where
+  abbrev prog : Program
+  prog = lentProgram t c lw lc d
+
   abbrev f : ℕ → Row
   f = rowAt t
 
@@ -53,7 +57,7 @@ module _ (t : List ℕ) (c g d size : ℕ) (r : Machine) (st m : List ℕ) (h : 
 
   pub record-fine : given (eqb (row .kind) 4) (leb (getD st (r .frame + row .a) 0) (length m)) ≡ true
       → given (eqb (row .kind) 12) (leb (topAtEntry st (r .frame)) (length m)) ≡ true
-      → given (isReturn row) (leavesGood Bits32 f c (length m) st (suc (r .frame)) (r .frame)) ≡ true → recordGood Bits32 f c (length m) r st ≡ true
+      → given (isReturn row) (leavesGood Bits32 f c (length m) st (suc (r .frame)) (r .frame)) ≡ true → recordGood prog (length m) r st ≡ true
   unfolding recordGood all
   record-fine k4 k12 kr =
       rw (
@@ -69,48 +73,48 @@ module _ (t : List ℕ) (c g d size : ℕ) (r : Machine) (st m : List ℕ) (h : 
       )
 
   -- the function of the next statement is good
-  func-fine : rowFault f c d (row .func) ≡ false
-  func-fine = rw own (function-good t c g size (h .function) d)
+  func-fine : rowFault prog (row .func) ≡ false
+  func-fine = rw own (function-good t c g size (h .function) lw lc d)
 
-  module _ (line : eqb (row .kind) 1 ≡ false) (good : rowFault f c d (r .next) ≡ false) where
+  module _ (line : eqb (row .kind) 1 ≡ false) (good : rowFault prog (r .next) ≡ false) where
     pub next-good : nextBad f c (r .next) ≡ false
     next-good = next-fine f c (r .next) line (row-within t c g size (h .function) (r .next) own)
 
-    own-rows : (is : List ℕ) → lowest (rowBad f c d (r .next)) is ≡ No → lowest (rowBad f c d (r .next)) (r .next ∷ row .func ∷ is) ≡ No
+    own-rows : (is : List ℕ) → lowest (rowBad prog (r .next)) is ≡ No → lowest (rowBad prog (r .next)) (r .next ∷ row .func ∷ is) ≡ No
     unfolding lowest ifTrue
-    own-rows is e = rw (row-fine f c d (r .next) (r .next) next-good good, row-fine f c d (r .next) (row .func) next-good func-fine) e
+    own-rows is e = rw (row-fine prog (r .next) (r .next) next-good good, row-fine prog (r .next) (row .func) next-good func-fine) e
 
-    broken-by : (is : List ℕ) → rowsUsed Bits32 f c r st ≡ r .next ∷ row .func ∷ is → lowest (rowBad f c d (r .next)) is ≡ No → recordGood Bits32 f c (length m) r st ≡ true
-        → withinBroken Bits32 f c d r st (length m) ≡ No
+    broken-by : (is : List ℕ) → rowsUsed prog r st ≡ r .next ∷ row .func ∷ is → lowest (rowBad prog (r .next)) is ≡ No → recordGood prog (length m) r st ≡ true
+        → withinBroken prog r st (length m) ≡ No
     unfolding withinBroken orElse ifTrue
     broken-by is u e q = rw (u, own-rows is e, q)
 
     -- a statement that neither calls nor returns
-    pub plain-fine : isCall (row .kind) (row .expr) ≡ false → isReturn row ≡ false → recordGood Bits32 f c (length m) r st ≡ true
-        → withinBroken Bits32 f c d r st (length m) ≡ No
+    pub plain-fine : isCall (row .kind) (row .expr) ≡ false → isReturn row ≡ false → recordGood prog (length m) r st ≡ true
+        → withinBroken prog r st (length m) ≡ No
     unfolding rowsUsed ifLt ifTrue lowest
     plain-fine e q k = broken-by [] (rw (lt-ltb _ _ below, row-within t c g size (h .function) (r .next) own, e, q)) refl k
 
     -- one that calls
-    pub call-fine : isCall (row .kind) (row .expr) ≡ true → row .callee < c → rowFault f c d (row .callee) ≡ false → isReturn row ≡ false
-        → recordGood Bits32 f c (length m) r st ≡ true → withinBroken Bits32 f c d r st (length m) ≡ No
+    pub call-fine : isCall (row .kind) (row .expr) ≡ true → row .callee < c → rowFault prog (row .callee) ≡ false → isReturn row ≡ false
+        → recordGood prog (length m) r st ≡ true → withinBroken prog r st (length m) ≡ No
     unfolding rowsUsed ifLt ifTrue lowest
     call-fine e l p q k =
         broken-by (row .callee ∷ []) (rw (lt-ltb _ _ below, row-within t c g size (h .function) (r .next) own, e, lt-ltb _ _ l, q))
-        (rw (row-fine f c d (r .next) (row .callee) next-good p)) k
+        (rw (row-fine prog (r .next) (row .callee) next-good p)) k
 
     -- one that returns to the call at row p
     pub return-fine : (p : ℕ) → isCall (row .kind) (row .expr) ≡ false → isReturn row ≡ true → frameEnds f c r (length st) ≡ true
-        → rowsLeft Bits32 f c st (suc (r .frame)) (r .frame) ≡ p ∷ f p .func ∷ [] → rowFault f c d p ≡ false → rowFault f c d (f p .func) ≡ false
-        → recordGood Bits32 f c (length m) r st ≡ true → withinBroken Bits32 f c d r st (length m) ≡ No
+        → rowsLeft Bits32 f c st (suc (r .frame)) (r .frame) ≡ p ∷ f p .func ∷ [] → rowFault prog p ≡ false → rowFault prog (f p .func) ≡ false
+        → recordGood prog (length m) r st ≡ true → withinBroken prog r st (length m) ≡ No
     unfolding rowsUsed ifLt ifTrue lowest
     return-fine p e q k l x y z =
         broken-by (p ∷ f p .func ∷ []) (rw (lt-ltb _ _ below, row-within t c g size (h .function) (r .next) own, e, q, k, l))
-        (rw (row-fine f c d (r .next) p next-good x, row-fine f c d (r .next) (f p .func) next-good y)) z
+        (rw (row-fine prog (r .next) p next-good x, row-fine prog (r .next) (f p .func) next-good y)) z
 
 -- a statement of a plain run
-pub went-fine : (t : List ℕ) (c g d size : ℕ) (r : Machine) (st m : List ℕ) (i end : ℕ) (st′ m′ : List ℕ) → InFrame t c g size r st m → Went t c g d size r st m i end st′ m′
-    → withinBroken Bits32 (rowAt t) c d r st (length m) ≡ No
-went-fine t c g d size r st m i end st′ m′ h w =
-    plain-fine t c g d size r st m h (w .below) (w .own) (w .line) (w .good) (w .calls) (w .returns)
-    (record-fine t c g d size r st m h (w .below) (w .own) (w .block) (rw (w .tail)) (rw (w .returns)))
+pub went-fine : (t : List ℕ) (c : ℕ) (lw : List ℕ) (lc g d size : ℕ) (r : Machine) (st m : List ℕ) (i end : ℕ) (st′ m′ : List ℕ) → InFrame t c g size r st m → Went t c lw lc g d size r st m i end st′ m′
+    → withinBroken (lentProgram t c lw lc d) r st (length m) ≡ No
+went-fine t c lw lc g d size r st m i end st′ m′ h w =
+    plain-fine t c lw lc g d size r st m h (w .below) (w .own) (w .line) (w .good) (w .calls) (w .returns)
+    (record-fine t c lw lc g d size r st m h (w .below) (w .own) (w .block) (rw (w .tail)) (rw (w .returns)))

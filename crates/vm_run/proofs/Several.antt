@@ -14,6 +14,7 @@ use Rattle.base_limits.specs.declared.State.the-variants.{Running, Finished, St
 use Rattle.base_limits.specs.declared.Machine.{Machine}
 use Rattle.base_limits.specs.Record.{goingOn, movedTo}
 use Rattle.prog_tables.specs.Statement.{Row, rowAt}
+use Rattle.prog_tables.specs.Program.{lentProgram}
 use Rattle.vm_definitions.specs.Frames.{isFirst, calledFrom, headGood}
 use Rattle.vm_definitions.specs.Step.{World, After, Effect, stops, leaves, idle, guarded, effected, counting, effectOf}
 use Rattle.vm_definitions.specs.Lent.{world}
@@ -100,21 +101,21 @@ module _ (t : List ℕ) (c : ℕ) (r : Machine) (st m : List ℕ) (z : ℕ) wher
 
 -- ---- one step
 
-module _ (t : List ℕ) (c d : ℕ) where
+module _ (t : List ℕ) (c : ℕ) (lw : List ℕ) (lc d : ℕ) where
   runs-on : (s : State) → s ≡ Running → isRunning s ≡ true
   unfolding isRunning
   runs-on s e = rw e
 
-  taken-leaves : (x y : World) → withinBroken Bits32 (rowAt t) c d (x .machine) (x .stack) (length (x .memory)) ≡ No → effectOf Bits32 (rowAt t) c x ≡ leaves y
-      → takenStep t c d x ≡ after y 1
+  taken-leaves : (x y : World) → withinBroken (lentProgram t c lw lc d) (x .machine) (x .stack) (length (x .memory)) ≡ No → effectOf (lentProgram t c lw lc d) x ≡ leaves y
+      → takenStep t c lw lc d x ≡ after y 1
   unfolding takenStep guarded effected
   taken-leaves x y b e = rw (b, e)
 
-  step-leaves : (r : Machine) (st m : List ℕ) (y : World) → r .state ≡ Running → withinBroken Bits32 (rowAt t) c d r st (length m) ≡ No
-      → effectOf Bits32 (rowAt t) c (world r st m) ≡ leaves y → withinStep t c d (world r st m) ≡ after y 1
+  step-leaves : (r : Machine) (st m : List ℕ) (y : World) → r .state ≡ Running → withinBroken (lentProgram t c lw lc d) r st (length m) ≡ No
+      → effectOf (lentProgram t c lw lc d) (world r st m) ≡ leaves y → withinStep t c lw lc d (world r st m) ≡ after y 1
   unfolding withinStep
   step-leaves r st m y s b e =
-      ifTrue-yes (takenStep t c d (world r st m)) (idle (world r st m) No) (runs-on (r .state) s) ∙ taken-leaves (world r st m) y b e
+      ifTrue-yes (takenStep t c lw lc d (world r st m)) (idle (world r st m) No) (runs-on (r .state) s) ∙ taken-leaves (world r st m) y b e
 
   -- a step counts one at most
   guarded-low : (x : World) (e : Effect) (b : Broken) → guarded x e b .count ≤ 1
@@ -124,12 +125,12 @@ module _ (t : List ℕ) (c d : ℕ) where
   guarded-low x e (At i) = omega arith
   guarded-low x e Somewhere = omega arith
 
-  step-low : (x : World) → withinStep t c d x .count ≤ 1
+  step-low : (x : World) → withinStep t c lw lc d x .count ≤ 1
   unfolding withinStep takenStep idle
   step-low x =
       either-true (λ (y : After). y .count ≤ 1) (isRunning (x .machine .state)) _ _ (λ s. guarded-low x _ _) (λ s. omega arith)
 
-  run-one : (b : ℕ) (x y : World) → withinStep t c d x ≡ after y 1 → withinRun t c d (suc b) x ≡ counting 1 (withinRun t c d b y)
+  run-one : (b : ℕ) (x y : World) → withinStep t c lw lc d x ≡ after y 1 → withinRun t c lw lc d (suc b) x ≡ counting 1 (withinRun t c lw lc d b y)
   unfolding withinRun ifEq
   run-one b x y e = rw e
 
@@ -138,7 +139,7 @@ module _ (t : List ℕ) (c d : ℕ) where
   -- the steps of a run so far, and where the record stands
   record PlainRuns (g size b : ℕ) (x y : World) (k : ℕ) : Type 0 where
     bound : k ≤ b
-    runs : withinRun t c d b x ≡ counting k (withinRun t c d (b - k) y)
+    runs : withinRun t c lw lc d b x ≡ counting k (withinRun t c lw lc d (b - k) y)
     in-frame : InFrame t c g size (y .machine) (y .stack) (y .memory)
 
   head-same : (st st′ : List ℕ) (s : ℕ) → getD st′ s 0 ≡ getD st s 0 → getD st′ (s + 1) 0 ≡ getD st (s + 1) 0 → headGood Bits32 (rowAt t) c st s ≡ true
@@ -147,7 +148,7 @@ module _ (t : List ℕ) (c d : ℕ) where
   head-same st st′ s e q h = rw (e, q) h
 
   module _ (g size : ℕ) where
-    in-frame-on : (r : Machine) (st m : List ℕ) (i end : ℕ) (st′ m′ : List ℕ) → InFrame t c g size r st m → Went t c g d size r st m i end st′ m′ → InFrame t c g size (goingOn r i end) st′ m′
+    in-frame-on : (r : Machine) (st m : List ℕ) (i end : ℕ) (st′ m′ : List ℕ) → InFrame t c g size r st m → Went t c lw lc g d size r st m i end st′ m′ → InFrame t c g size (goingOn r i end) st′ m′
     unfolding goingOn
     in-frame-on r st m i end st′ m′ h w =
         record {
@@ -161,18 +162,18 @@ module _ (t : List ℕ) (c d : ℕ) where
           head = head-same st st′ (r .frame) (w .first) (w .second) (h .head);
         }
 
-    went-step : (r : Machine) (st m : List ℕ) (i end : ℕ) (st′ m′ : List ℕ) → InFrame t c g size r st m → Went t c g d size r st m i end st′ m′
-        → withinStep t c d (world r st m) ≡ after (world (goingOn r i end) st′ m′) 1
-    went-step r st m i end st′ m′ h w = step-leaves r st m (world (goingOn r i end) st′ m′) (h .state) (went-fine t c g d size r st m i end st′ m′ h w) (w .effect)
+    went-step : (r : Machine) (st m : List ℕ) (i end : ℕ) (st′ m′ : List ℕ) → InFrame t c g size r st m → Went t c lw lc g d size r st m i end st′ m′
+        → withinStep t c lw lc d (world r st m) ≡ after (world (goingOn r i end) st′ m′) 1
+    went-step r st m i end st′ m′ h w = step-leaves r st m (world (goingOn r i end) st′ m′) (h .state) (went-fine t c lw lc g d size r st m i end st′ m′ h w) (w .effect)
 
     stand : (b : ℕ) (r : Machine) (st m : List ℕ) → InFrame t c g size r st m
-        → PlainRuns g size b (world r st m) (ends t c d r (record { next = r .next; top = r .top; count = 0; stack = st; memory = m })) 0
+        → PlainRuns g size b (world r st m) (ends t c lw lc d r (record { next = r .next; top = r .top; count = 0; stack = st; memory = m })) 0
     unfolding movedTo
     stand b r st m h =
         let z : b - 0 ≡ b = omega arith in
         record {
           bound = omega arith;
-          runs = sym (count-none _ ∙ ap (λ (n : ℕ). withinRun t c d n (world r st m)) z);
+          runs = sym (count-none _ ∙ ap (λ (n : ℕ). withinRun t c lw lc d n (world r st m)) z);
           in-frame = h;
         }
 
@@ -182,9 +183,9 @@ module _ (t : List ℕ) (c d : ℕ) where
 
     -- that a plain run of so many steps is steps of a run
     abbrev Right : ℕ → Machine → List ℕ → List ℕ → Ended → Type 0
-    Right b r st m e = PlainRuns g size b (world r st m) (ends t c d r e) (e .count)
+    Right b r st m e = PlainRuns g size b (world r st m) (ends t c lw lc d r e) (e .count)
 
-    one-more : (b : ℕ) (r : Machine) (st m : List ℕ) (i end : ℕ) (st′ m′ : List ℕ) (e : Ended) → withinStep t c d (world r st m) ≡ after (world (goingOn r i end) st′ m′) 1
+    one-more : (b : ℕ) (r : Machine) (st m : List ℕ) (i end : ℕ) (st′ m′ : List ℕ) (e : Ended) → withinStep t c lw lc d (world r st m) ≡ after (world (goingOn r i end) st′ m′) 1
         → Right b (goingOn r i end) st′ m′ e → Right (suc b) r st m (adding 1 e)
     unfolding adding movedTo goingOn
     one-more b r st m i end st′ m′ e w s =
@@ -195,13 +196,13 @@ module _ (t : List ℕ) (c d : ℕ) where
               run-one b (world r st m) (world (goingOn r i end) st′ m′) w
               ∙ ap (counting 1) (s .runs)
               ∙ sym (count-add 1 (e .count) _)
-              ∙ ap (λ (n : ℕ). counting (1 + e .count) (withinRun t c d n (ends t c d (goingOn r i end) e))) (sym z);
+              ∙ ap (λ (n : ℕ). counting (1 + e .count) (withinRun t c lw lc d n (ends t c lw lc d (goingOn r i end) e))) (sym z);
           in-frame = s .in-frame;
         }
 
     -- by what became of the first statement
     from-move : (b : ℕ) (r : Machine) (st m : List ℕ) → InFrame t c g size r st m → (x : Move) (st′ m′ : List ℕ)
-        → ((r : Machine) (st m : List ℕ) → InFrame t c g size r st m → Right b r st m (ended b r st m)) → RightBy t c g d size r st m x st′ m′
+        → ((r : Machine) (st m : List ℕ) → InFrame t c g size r st m → Right b r st m (ended b r st m)) → RightBy t c lw lc g d size r st m x st′ m′
         → Right (suc b) r st m
         (onMove x (record { next = r .next; top = r .top; count = 0; stack = st′; memory = m′ }) (λ i e. adding 1 (plainRunOf t c g d size (r .frame) b st′ m′ i e)))
     unfolding onMove RightBy goingOn
@@ -212,29 +213,29 @@ module _ (t : List ℕ) (c d : ℕ) where
     plain-runs : (b : ℕ) (r : Machine) (st m : List ℕ) → InFrame t c g size r st m → Right b r st m (ended b r st m)
     unfolding plainRunOf
     plain-runs zero r st m h = stand 0 r st m h
-    plain-runs (suc b) r st m h = from-move b r st m h _ _ _ (plain-runs b) (right-step t c g d size r st m h)
+    plain-runs (suc b) r st m h = from-move b r st m h _ _ _ (plain-runs b) (right-step t c lw lc g d size r st m h)
 
   -- ---- several steps
 
   -- some steps within a budget b from the world x are the first steps of a run, or all it does
   pub record Several (b : ℕ) (x : World) (y : After) : Type 0 where
     pub bound : y .count ≤ b
-    pub runs : (y .count ≡ 0 → ⊥) → withinRun t c d b x ≡ counting (y .count) (withinRun t c d (b - y .count) (y .world))
-    pub stops : y .count ≡ 0 → withinRun t c d b x ≡ y
+    pub runs : (y .count ≡ 0 → ⊥) → withinRun t c lw lc d b x ≡ counting (y .count) (withinRun t c lw lc d (b - y .count) (y .world))
+    pub stops : y .count ≡ 0 → withinRun t c lw lc d b x ≡ y
 
-  exact : (b : ℕ) (x : World) → 0 < b → Several b x (withinStep t c d x)
+  exact : (b : ℕ) (x : World) → 0 < b → Several b x (withinStep t c lw lc d x)
   unfolding withinRun
   exact zero x l = absurd (omega (arith, l))
   exact (suc b) x l =
       record {
         bound = omega (arith, step-low x);
         runs = λ n.
-            let k : withinStep t c d x .count ≡ 1 = omega (arith, n, step-low x) in
-            let z : suc b - withinStep t c d x .count ≡ b = omega (arith, k) in
-            ifEq-no (withinStep t c d x) (counting 1 (withinRun t c d b (withinStep t c d x .world))) n
-            ∙ ap (λ (i : ℕ). counting i (withinRun t c d b (withinStep t c d x .world))) (sym k)
-            ∙ ap (λ (i : ℕ). counting (withinStep t c d x .count) (withinRun t c d i (withinStep t c d x .world))) (sym z);
-        stops = λ n. ifEq-yes (withinStep t c d x) (counting 1 (withinRun t c d b (withinStep t c d x .world))) n;
+            let k : withinStep t c lw lc d x .count ≡ 1 = omega (arith, n, step-low x) in
+            let z : suc b - withinStep t c lw lc d x .count ≡ b = omega (arith, k) in
+            ifEq-no (withinStep t c lw lc d x) (counting 1 (withinRun t c lw lc d b (withinStep t c lw lc d x .world))) n
+            ∙ ap (λ (i : ℕ). counting i (withinRun t c lw lc d b (withinStep t c lw lc d x .world))) (sym k)
+            ∙ ap (λ (i : ℕ). counting (withinStep t c lw lc d x .count) (withinRun t c lw lc d i (withinStep t c lw lc d x .world))) (sym z);
+        stops = λ n. ifEq-yes (withinStep t c lw lc d x) (counting 1 (withinRun t c lw lc d b (withinStep t c lw lc d x .world))) n;
       }
 
   module _ (g size b : ℕ) (x y : World) (k : ℕ) (s : PlainRuns g size b x y k) where
@@ -243,50 +244,50 @@ module _ (t : List ℕ) (c d : ℕ) where
     alone l = record { bound = s .bound; runs = λ n. s .runs; stops = λ n. absurd (omega (arith, l, n)) }
 
     -- and one step more
-    further : (y′ : World) → k < b → withinStep t c d y ≡ after y′ 1 → Several b x (after y′ (k + 1))
+    further : (y′ : World) → k < b → withinStep t c lw lc d y ≡ after y′ 1 → Several b x (after y′ (k + 1))
     further y′ l e =
         let z : b - k ≡ suc (b - (k + 1)) = omega (arith, l) in
         record {
           bound = omega (arith, l);
           runs = λ n.
               s .runs
-              ∙ ap (λ (i : ℕ). counting k (withinRun t c d i y)) z
+              ∙ ap (λ (i : ℕ). counting k (withinRun t c lw lc d i y)) z
               ∙ ap (counting k) (run-one (b - (k + 1)) y y′ e)
-              ∙ sym (count-add k 1 (withinRun t c d (b - (k + 1)) y′));
+              ∙ sym (count-add k 1 (withinRun t c lw lc d (b - (k + 1)) y′));
           stops = λ n. absurd (let z : k + 1 ≡ 0 = n in omega (arith, z));
         }
 
     -- a plain run of no step
     nothing : k ≡ 0 → (z : After) → Several b y z → Several b x z
     nothing e z v =
-        let same : withinRun t c d b x ≡ withinRun t c d b y =
+        let same : withinRun t c lw lc d b x ≡ withinRun t c lw lc d b y =
         s .runs
-        ∙ ap (λ (i : ℕ). counting i (withinRun t c d (b - i) y)) e
-        ∙ count-none (withinRun t c d (b - 0) y)
-        ∙ ap (λ (i : ℕ). withinRun t c d i y) (let q : b - 0 ≡ b = omega arith in q) in
+        ∙ ap (λ (i : ℕ). counting i (withinRun t c lw lc d (b - i) y)) e
+        ∙ count-none (withinRun t c lw lc d (b - 0) y)
+        ∙ ap (λ (i : ℕ). withinRun t c lw lc d i y) (let q : b - 0 ≡ b = omega arith in q) in
         record { bound = v .bound; runs = λ n. same ∙ v .runs n; stops = λ n. same ∙ v .stops n }
 
-    rests : (v : Transfer) (st′ : List ℕ) → k < b → transferring.RightBy t c g d size (y .machine) (y .stack) (y .memory) v st′ → Several b x (endBy t c d k y v st′)
+    rests : (v : Transfer) (st′ : List ℕ) → k < b → transferring.RightBy t c lw lc g d size (y .machine) (y .stack) (y .memory) v st′ → Several b x (endBy t c lw lc d k y v st′)
     unfolding transferring.RightBy endBy
     rests (To i frame used end) st′ l w = further _ l (step-leaves (y .machine) (y .stack) (y .memory) _ (s .in-frame .state) (w .fine) (w .effect))
     rests Stays st′ l w =
         rw w
-        (either (Several b x) 0 k (after y k) (withinStep t c d y) (λ p. alone p)
-        (λ p. nothing (omega (arith, p)) (withinStep t c d y) (exact b y (omega (arith, l)))))
+        (either (Several b x) 0 k (after y k) (withinStep t c lw lc d y) (λ p. alone p)
+        (λ p. nothing (omega (arith, p)) (withinStep t c lw lc d y) (exact b y (omega (arith, l)))))
 
-    plain-end : c < 4294967296 → k < b → Several b x (plainRunEnd t c d g size k y)
+    plain-end : c < 4294967296 → k < b → Several b x (plainRunEnd t c lw lc d g size k y)
     unfolding plainRunEnd
-    plain-end small l = rests _ _ l (transferring.right-transfer t c g d size (y .machine) (y .stack) (y .memory) small (s .in-frame))
+    plain-end small l = rests _ _ l (transferring.right-transfer t c lw lc g d size (y .machine) (y .stack) (y .memory) small (s .in-frame))
 
-  in-frame-by : c < 4294967296 → (g size b : ℕ) (r : Machine) (st m : List ℕ) → 0 < b → InFrame t c g size r st m → (e : Ended) → PlainRuns g size b (world r st m) (ends t c d r e) (e .count)
-      → Several b (world r st m) (stepsInFrameBy t c d g size b r e)
+  in-frame-by : c < 4294967296 → (g size b : ℕ) (r : Machine) (st m : List ℕ) → 0 < b → InFrame t c g size r st m → (e : Ended) → PlainRuns g size b (world r st m) (ends t c lw lc d r e) (e .count)
+      → Several b (world r st m) (stepsInFrameBy t c lw lc d g size b r e)
   unfolding stepsInFrameBy
   in-frame-by small g size b r st m p h e s =
-      either (Several b (world r st m)) (e .count) b _ _ (λ l. plain-end g size b (world r st m) (ends t c d r e) (e .count) s small l)
-      (λ l. alone g size b (world r st m) (ends t c d r e) (e .count) s (omega (arith, l, p)))
+      either (Several b (world r st m)) (e .count) b _ _ (λ l. plain-end g size b (world r st m) (ends t c lw lc d r e) (e .count) s small l)
+      (λ l. alone g size b (world r st m) (ends t c lw lc d r e) (e .count) s (omega (arith, l, p)))
 
   -- what is taken at once is the first steps of a run, or all it does
-  pub several : c < 4294967296 → (b : ℕ) (r : Machine) (st m : List ℕ) → 0 < b → Several b (world r st m) (someSteps t c d b (world r st m))
+  pub several : c < 4294967296 → (b : ℕ) (r : Machine) (st m : List ℕ) → 0 < b → Several b (world r st m) (someSteps t c lw lc d b (world r st m))
   unfolding someSteps stepsInFrame
   several small b r st m p =
       either-eq (Several b (world r st m)) (usableSize (rowAt t) c (length m) r st) 0 _ _ (λ e. exact b (world r st m) p)

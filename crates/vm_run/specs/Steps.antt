@@ -26,18 +26,18 @@ usableSize f c m r st = ifTrue (isRunning (r .state)) (goodFrameSize f c m r st)
 abbrev pub after : World → ℕ → After
 after x k = record { world = x; count = k; broken = No }
 
--- t the statement table, of c rows; d the data's length
-module _ (t : List ℕ) (c d : ℕ) where
+-- t the statement table, of c rows; lw the label table, of lc rows; d the data's length
+module _ (t : List ℕ) (c : ℕ) (lw : List ℕ) (lc d : ℕ) where
   -- the statement that a plain run of k steps ends at
   unfoldable pub endBy : ℕ → World → Transfer → List ℕ → After
   endBy k x (To next frame used top) st = after (world (movedTo (x .machine) next frame used top) st (x .memory)) (k + 1)
-  endBy k x Stays st = ifLt 0 k (after (world (x .machine) st (x .memory)) k) (withinStep t c d (world (x .machine) st (x .memory)))
+  endBy k x Stays st = ifLt 0 k (after (world (x .machine) st (x .memory)) k) (withinStep t c lw lc d (world (x .machine) st (x .memory)))
 
   -- a call or a return of function g, whose frame has this size; else nothing, or the exact step where k is 0
   unfoldable pub plainRunEnd : ℕ → ℕ → ℕ → World → After
   plainRunEnd g size k x =
-      endBy k x (transferOf t c g d size (x .stack) (x .machine .frame) (x .machine .used) (x .memory) (x .machine .next) (x .machine .top) .move)
-      (transferOf t c g d size (x .stack) (x .machine .frame) (x .machine .used) (x .memory) (x .machine .next) (x .machine .top) .stack)
+      endBy k x (transferOf t c lw lc g d size (x .stack) (x .machine .frame) (x .machine .used) (x .memory) (x .machine .next) (x .machine .top) .move)
+      (transferOf t c lw lc g d size (x .stack) (x .machine .frame) (x .machine .used) (x .memory) (x .machine .next) (x .machine .top) .stack)
 
   -- the world that a plain run ends in
   abbrev pub ends : Machine → Ended → World
@@ -54,5 +54,5 @@ module _ (t : List ℕ) (c d : ℕ) where
 
   unfoldable pub someSteps : ℕ → World → After
   someSteps budget x =
-      ifEq (usableSize (rowAt t) c (length (x .memory)) (x .machine) (x .stack)) 0 (withinStep t c d x)
+      ifEq (usableSize (rowAt t) c (length (x .memory)) (x .machine) (x .stack)) 0 (withinStep t c lw lc d x)
       (stepsInFrame (usableSize (rowAt t) c (length (x .memory)) (x .machine) (x .stack)) budget x)

@@ -11,10 +11,11 @@ ghost use Rattle.base_limits.specs.Limits.{memoryBytes, stackWords};
 ghost use Rattle.base_limits.specs.declared.Width.the-variants.{Bits32};
 ghost use Rattle.base_limits.specs.Record.{movedTo};
 ghost use Rattle.prog_tables.specs.Statement.{rowAt};
+ghost use Rattle.prog_tables.specs.Program.{programFrom};
 ghost use Rattle.vm_definitions.specs.Step.{stepOf, runOf};
 ghost use Rattle.vm_definitions.specs.Lent.{tablesOf, world, left};
 ghost use Rattle.prog_tables.specs.Layout.{statementRow};
-ghost use Rattle.vm_run.specs.Within.{givenBack, isRunning, takenStep, withinStep, withinRun};
+ghost use Rattle.vm_run.specs.Within.{givenBack, isRunning, countsBroken, takenStep, withinStep, withinRun};
 ghost use Rattle.vm_run.specs.Steps.{usableSize, plainRunEnd, stepsInFrame, someSteps};
 
 // Nothing happened, but perhaps a 35.
@@ -29,10 +30,19 @@ fn give_back(r: Machine, b: Broken) -> Outcome
 }
 
 // The statement that a running record stands at, or 35; the counts of the tables are good.
-fn take_step(t: &[u32], c: u32, d: u32, r: Machine, st: &mut [u32], m: &mut [u8]) -> Outcome
-    ensures { λ o. ⌜ left o (now (st .exit)) (now (m .exit)) ≡ takenStep (now (t .entry)) c d (world r (now (st .entry)) (now (m .entry))) ⌝ }
+fn take_step(
+    t: &[u32],
+    c: u32,
+    l: &[u32],
+    lc: u32,
+    d: u32,
+    r: Machine,
+    st: &mut [u32],
+    m: &mut [u8],
+) -> Outcome
+    ensures { λ o. ⌜ left o (now (st .exit)) (now (m .exit)) ≡ takenStep (now (t .entry)) c (now (l .entry)) lc d (world r (now (st .entry)) (now (m .entry))) ⌝ }
 {
-    let b = vm_guard::find_broken(t, c, d, r, st, m.len());
+    let b = vm_guard::find_broken(t, c, l, lc, d, r, st, m.len());
     match b {
         Broken::No => vm_statements::execute(t, c, r, st, m),
         Broken::At(i) => give_back(r, Broken::At(i)),
@@ -53,11 +63,20 @@ fn is_running(r: Machine) -> bool
 }
 
 // A step over tables whose counts are good.
-fn step_within(t: &[u32], c: u32, d: u32, r: Machine, st: &mut [u32], m: &mut [u8]) -> Outcome
-    ensures { λ o. ⌜ left o (now (st .exit)) (now (m .exit)) ≡ withinStep (now (t .entry)) c d (world r (now (st .entry)) (now (m .entry))) ⌝ }
+fn step_within(
+    t: &[u32],
+    c: u32,
+    l: &[u32],
+    lc: u32,
+    d: u32,
+    r: Machine,
+    st: &mut [u32],
+    m: &mut [u8],
+) -> Outcome
+    ensures { λ o. ⌜ left o (now (st .exit)) (now (m .exit)) ≡ withinStep (now (t .entry)) c (now (l .entry)) lc d (world r (now (st .entry)) (now (m .entry))) ⌝ }
 {
     if is_running(r) {
-        return take_step(t, c, d, r, st, m);
+        return take_step(t, c, l, lc, d, r, st, m);
     }
     give_back(r, Broken::No)
 }
@@ -77,6 +96,8 @@ fn usable_size(t: &[u32], c: u32, m: usize, q: Machine, st: &[u32]) -> u32
 fn end_plain(
     t: &[u32],
     c: u32,
+    l: &[u32],
+    lc: u32,
     g: u32,
     d: u32,
     size: u32,
@@ -86,9 +107,23 @@ fn end_plain(
     m: &mut [u8],
 ) -> Outcome
     requires { ⌜ (c * statementRow ≤ length (now t)) × (r .frame + size ≤ length (now st)) × (length (now st) ≤ stackWords) × (length (now m) ≤ memoryBytes) × (count < 18446744073709551615) ⌝ }
-    ensures { λ o. ⌜ left o (now (st .exit)) (now (m .exit)) ≡ plainRunEnd (now (t .entry)) c d g size count (world r (now (st .entry)) (now (m .entry))) ⌝ }
+    ensures { λ o. ⌜ left o (now (st .exit)) (now (m .exit)) ≡ plainRunEnd (now (t .entry)) c (now (l .entry)) lc d g size count (world r (now (st .entry)) (now (m .entry))) ⌝ }
 {
-    let y = vm_quick_calls::take_transfer(t, c, g, d, size, st, r.frame, r.used, m, r.next, r.top);
+    let y = vm_quick_calls::take_transfer(
+        t,
+        c,
+        l,
+        lc,
+        g,
+        d,
+        size,
+        st,
+        r.frame,
+        r.used,
+        m,
+        r.next,
+        r.top,
+    );
     match y {
         Transfer::To {
             next,
@@ -108,7 +143,7 @@ fn end_plain(
                     broken: Broken::No,
                 };
             }
-            step_within(t, c, d, r, st, m)
+            step_within(t, c, l, lc, d, r, st, m)
         }
     }
 }
@@ -117,6 +152,8 @@ fn end_plain(
 fn advance_in_frame(
     t: &[u32],
     c: u32,
+    l: &[u32],
+    lc: u32,
     d: u32,
     size: u32,
     budget: u64,
@@ -125,14 +162,14 @@ fn advance_in_frame(
     m: &mut [u8],
 ) -> Outcome
     requires { ⌜ (c * statementRow ≤ length (now t)) × (r .frame + size ≤ length (now st)) × (length (now st) ≤ stackWords) × (length (now m) ≤ memoryBytes) ⌝ }
-    ensures { λ o. ⌜ left o (now (st .exit)) (now (m .exit)) ≡ stepsInFrame (now (t .entry)) c d size budget (world r (now (st .entry)) (now (m .entry))) ⌝ }
+    ensures { λ o. ⌜ left o (now (st .exit)) (now (m .exit)) ≡ stepsInFrame (now (t .entry)) c (now (l .entry)) lc d size budget (world r (now (st .entry)) (now (m .entry))) ⌝ }
 {
     let g = prog_tables::func_at(t, r.next);
     let x = vm_quick_statements::run_plain(t, c, g, d, size, budget, st, r.frame, m, r.next, r.top);
     let count = x.count;
     let q = Machine::moved(r, x.next, r.frame, r.used, x.top);
     if count < budget {
-        return end_plain(t, c, g, d, size, q, count, st, m);
+        return end_plain(t, c, l, lc, g, d, size, q, count, st, m);
     }
     Outcome {
         machine: q,
@@ -145,6 +182,8 @@ fn advance_in_frame(
 fn advance(
     t: &[u32],
     c: u32,
+    l: &[u32],
+    lc: u32,
     d: u32,
     budget: u64,
     r: Machine,
@@ -152,19 +191,21 @@ fn advance(
     m: &mut [u8],
 ) -> Outcome
     requires { ⌜ c * statementRow ≤ length (now t) ⌝ }
-    ensures { λ o. ⌜ left o (now (st .exit)) (now (m .exit)) ≡ someSteps (now (t .entry)) c d budget (world r (now (st .entry)) (now (m .entry))) ⌝ }
+    ensures { λ o. ⌜ left o (now (st .exit)) (now (m .exit)) ≡ someSteps (now (t .entry)) c (now (l .entry)) lc d budget (world r (now (st .entry)) (now (m .entry))) ⌝ }
 {
     let size = usable_size(t, c, m.len(), r, st);
     if size == 0 {
-        return step_within(t, c, d, r, st, m);
+        return step_within(t, c, l, lc, d, r, st, m);
     }
-    advance_in_frame(t, c, d, size, budget, r, st, m)
+    advance_in_frame(t, c, l, lc, d, size, budget, r, st, m)
 }
 
 // Steps within a budget, over tables whose counts are good.
 fn run_within(
     t: &[u32],
     c: u32,
+    l: &[u32],
+    lc: u32,
     d: u32,
     budget: u64,
     r: Machine,
@@ -172,12 +213,12 @@ fn run_within(
     m: &mut [u8],
 ) -> Outcome
     requires { ⌜ c * statementRow ≤ length (now t) ⌝ }
-    ensures { λ o. ⌜ left o (now (st .exit)) (now (m .exit)) ≡ withinRun (now (t .entry)) c d budget (world r (now (st .entry)) (now (m .entry))) ⌝ }
+    ensures { λ o. ⌜ left o (now (st .exit)) (now (m .exit)) ≡ withinRun (now (t .entry)) c (now (l .entry)) lc d budget (world r (now (st .entry)) (now (m .entry))) ⌝ }
 {
     let mut q = r;
     let mut count: u64 = 0;
     while count < budget {
-        let o = advance(t, c, d, budget - count, q, st, m);
+        let o = advance(t, c, l, lc, d, budget - count, q, st, m);
         let counted = o.count;
         let broken = o.broken;
         let next = o.machine;
@@ -198,6 +239,47 @@ fn run_within(
     }
 }
 
+// 35 of a step where a count is past its table: the lowest broken statement that it reads, else no place.
+fn judge_counts(
+    t: &[u32],
+    c: u32,
+    l: &[u32],
+    lc: u32,
+    d: u32,
+    r: Machine,
+    st: &[u32],
+    m: usize,
+) -> Broken
+    ensures { λ b. ⌜ b ≡ countsBroken (now (t .entry)) c (now (l .entry)) lc d r (now (st .entry)) m ⌝ }
+{
+    if vm_counts::statements_past(t, c) {
+        return Broken::Somewhere;
+    }
+    let b = vm_guard::find_broken(t, c, l, lc, d, r, st, m);
+    match b {
+        Broken::No => Broken::Somewhere,
+        Broken::At(i) => Broken::At(i),
+        Broken::Somewhere => Broken::Somewhere,
+    }
+}
+
+// Nothing happened: a count is past its table.
+fn refuse_counts(
+    t: &[u32],
+    c: u32,
+    l: &[u32],
+    lc: u32,
+    d: u32,
+    r: Machine,
+    st: &[u32],
+    m: usize,
+) -> Outcome
+    ensures { λ o. ⌜ o ≡ givenBack r (countsBroken (now (t .entry)) c (now (l .entry)) lc d r (now (st .entry)) m) ⌝ }
+{
+    let b = judge_counts(t, c, l, lc, d, r, st, m);
+    give_back(r, b)
+}
+
 // One step of the record over the lent tables, stack and memory.
 pub fn step(
     statements: &[u32],
@@ -210,13 +292,31 @@ pub fn step(
     stack: &mut [u32],
     memory: &mut [u8],
 ) -> Outcome
-    ensures { λ o. ⌜ left o (now (stack .exit)) (now (memory .exit)) ≡ stepOf Bits32 (tablesOf (now (statements .entry)) count (now (labels .entry)) «label_count» (now (names .entry)) «data_length») (world machine (now (stack .entry)) (now (memory .entry))) ⌝ }
+    ensures { λ o. ⌜ left o (now (stack .exit)) (now (memory .exit)) ≡ stepOf (programFrom Bits32 (tablesOf (now (statements .entry)) count (now (labels .entry)) «label_count» (now (names .entry)) «data_length»)) (world machine (now (stack .entry)) (now (memory .entry))) ⌝ }
 {
     if is_running(machine) {
         if vm_counts::count_fault(statements, count, labels, label_count, names) {
-            return give_back(machine, Broken::Somewhere);
+            return refuse_counts(
+                statements,
+                count,
+                labels,
+                label_count,
+                data_length,
+                machine,
+                stack,
+                memory.len(),
+            );
         }
-        return take_step(statements, count, data_length, machine, stack, memory);
+        return take_step(
+            statements,
+            count,
+            labels,
+            label_count,
+            data_length,
+            machine,
+            stack,
+            memory,
+        );
     }
     give_back(machine, Broken::No)
 }
@@ -234,18 +334,29 @@ pub fn run(
     stack: &mut [u32],
     memory: &mut [u8],
 ) -> Outcome
-    ensures { λ o. ⌜ left o (now (stack .exit)) (now (memory .exit)) ≡ runOf Bits32 (tablesOf (now (statements .entry)) count (now (labels .entry)) «label_count» (now (names .entry)) «data_length») budget (world machine (now (stack .entry)) (now (memory .entry))) ⌝ }
+    ensures { λ o. ⌜ left o (now (stack .exit)) (now (memory .exit)) ≡ runOf (programFrom Bits32 (tablesOf (now (statements .entry)) count (now (labels .entry)) «label_count» (now (names .entry)) «data_length»)) budget (world machine (now (stack .entry)) (now (memory .entry))) ⌝ }
 {
     if budget == 0 {
         return give_back(machine, Broken::No);
     }
     if is_running(machine) {
         if vm_counts::count_fault(statements, count, labels, label_count, names) {
-            return give_back(machine, Broken::Somewhere);
+            return refuse_counts(
+                statements,
+                count,
+                labels,
+                label_count,
+                data_length,
+                machine,
+                stack,
+                memory.len(),
+            );
         }
         return run_within(
             statements,
             count,
+            labels,
+            label_count,
             data_length,
             budget,
             machine,

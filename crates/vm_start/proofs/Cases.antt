@@ -14,16 +14,17 @@ use lib.Seq.{take-all, take-nil}
 use borrow.Author.Tests.{eq-eqb, ne-eqb, lt-ltb, le-ltb, le-leb, lt-leb, ltb-true, ltb-false, eqb-true}
 use Rattle.base_prelude.specs.Choice.{pick, ifLt, ifEq, ifTrue}
 use Rattle.base_prelude.specs.Lists.{sameList}
-use Rattle.base_prelude.proofs.Choice.{true-false, ifLt-yes, ifLt-no}
+use Rattle.base_prelude.proofs.Choice.{true-false, ifLt-yes, ifLt-no, ifTrue-no}
 use Rattle.base_limits.specs.declared.Machine.{Machine}
 use Rattle.base_limits.specs.declared.Width.{Width}
 use Rattle.base_limits.specs.declared.Width.the-variants.{Bits32}
 use Rattle.base_limits.specs.Record.{freshOf, mark}
-use Rattle.prog_tables.specs.Tests.{both, oneOf, someBelow, firstFrom}
+use Rattle.prog_tables.specs.Tests.{both, oneOf, some, someBelow, firstFrom}
 use Rattle.prog_tables.specs.Statement.{Row, rowAt}
-use Rattle.prog_tables.specs.Label.{Tables, labelAt, labelsOf, isData, isFunctionLabel}
-use Rattle.prog_tables.specs.Faults.{rowFault, labelFault, countFault}
-use Rattle.vm_counts.proofs.Cases.{count-any}
+use Rattle.prog_tables.specs.Label.{labelAt, isData, isFunctionLabel}
+use Rattle.prog_tables.specs.Program.{Program, programFrom, lentProgram}
+use Rattle.prog_tables.specs.Faults.{rowFault, labelFault}
+use Rattle.vm_definitions.proofs.Seen.{lowest-seen}
 use Rattle.vm_definitions.specs.Access.{storeFrom}
 use Rattle.vm_definitions.specs.Frames.{frameWords}
 use Rattle.vm_definitions.specs.Broken.{lower, lowest, orElse, numbersBelow, startBroken}
@@ -35,8 +36,8 @@ use Rattle.vm_definitions.specs.declared.Broken.the-variants.{No, At, Somewhere
 use Rattle.vm_definitions.specs.declared.Started.{Started}
 use Rattle.vm_definitions.specs.declared.Started.the-variants.{Begun, Refused, Unsound}
 use Rattle.vm_definitions.specs.declared.Opening.{Opening}
-use Rattle.vm_start.specs.Opening.{Opened, opened, openingOf, labelTables, noFunction, aimFault, rowsBroken, refusedWith, begunAt, fittedOf, enteredOf}
-use Rattle.prog_tables.proofs.Each.{some-at}
+use Rattle.vm_start.specs.Opening.{Opened, opened, openingOf, labelsAlone, noFunction, aimFault, restFault, rowsBroken, refusedWith, begunAt, fittedOf, enteredOf}
+use Rattle.prog_tables.proofs.Each.{some-at, one-no, one-false}
 
 -- ---- the lowest broken row, counting up
 
@@ -108,12 +109,12 @@ module _ (f : ℕ → Row) (c d k n : ℕ) (u : Bool) (e : u ≡ isData k) where
 
 pub ruleset aim-ways = (aim-data, aim-function, aim-place, aim-unlisted)
 
-module _ (f : ℕ → Row) (c d : ℕ) (l names : List ℕ) (i s : ℕ) (e : s ≡ getD l (i * 4 + 3) 0) where
-  pub label-long : 64 < s → true ≡ labelFault f c d (labelAt l names i)
+module _ (t : List ℕ) (c : ℕ) (l : List ℕ) (lc : ℕ) (names : List ℕ) (d i s : ℕ) (e : s ≡ getD l (i * 4 + 3) 0) where
+  pub label-long : 64 < s → true ≡ labelFault (programFrom Bits32 (tablesOf t c l lc names d)) (labelAt l names i)
   unfolding labelFault labelAt
   label-long h = rw (← e, lt-ltb _ _ h)
 
-  pub label-aim : (k n : ℕ) (b : Bool) → s ≤ 64 → k ≡ getD l (i * 4) 0 → n ≡ getD l (i * 4 + 1) 0 → b ≡ aimFault f c d k n → b ≡ labelFault f c d (labelAt l names i)
+  pub label-aim : (k n : ℕ) (b : Bool) → s ≤ 64 → k ≡ getD l (i * 4) 0 → n ≡ getD l (i * 4 + 1) 0 → b ≡ aimFault (rowAt t) c d k n → b ≡ labelFault (programFrom Bits32 (tablesOf t c l lc names d)) (labelAt l names i)
   unfolding labelFault labelAt aimFault
   label-aim k n b h q r g = rw (← e, le-ltb _ _ h, ← q, ← r) g
 
@@ -144,44 +145,60 @@ pub ruleset trying = (trying-start, trying-more, trying-found, trying-done)
 
 -- ---- 35
 
-module _ (t : List ℕ) (c : ℕ) (l : List ℕ) (k : ℕ) (names : List ℕ) (d : ℕ) where
-  module _ (b : Broken) (e : b ≡ lowest (rowFault (rowAt t) c d) (numbersBelow c)) where
-    pub rows-at : (i : ℕ) → b ≡ At i → At i ≡ rowsBroken (tablesOf t c l k names d)
+module _ (t : List ℕ) (c : ℕ) (l : List ℕ) (k : ℕ) (names : List ℕ) (d n : ℕ) where
+  module _ (v : Bool) (e : v ≡ oneOf (ltb (length l) (k * 4)) (ltb (length names) (k * 64))) where
+    pub rest-past : v ≡ true → true ≡ restFault (programFrom Bits32 (tablesOf t c l k names d)) n
+    unfolding restFault some
+    rest-past h = rw (← e, h)
+
+    pub rest-short : v ≡ false → n < d → true ≡ restFault (programFrom Bits32 (tablesOf t c l k names d)) n
+    unfolding restFault some
+    rest-short h g = rw (← e, h, lt-ltb _ _ g)
+
+    pub rest-labels : (b : Bool) → v ≡ false → d ≤ n → b ≡ someBelow (λ i. labelFault (programFrom Bits32 (tablesOf t c l k names d)) (labelAt l names i)) k → b ≡ restFault (programFrom Bits32 (tablesOf t c l k names d)) n
+    unfolding restFault some
+    rest-labels b h g q =
+        q
+        ∙ sym
+        (ap (λ (a : Bool). oneOf a (oneOf (ltb n d) (oneOf (someBelow (λ i. labelFault (programFrom Bits32 (tablesOf t c l k names d)) (labelAt l names i)) k) false))) (sym e ∙ h)
+        ∙ ap (λ (a : Bool). oneOf a (oneOf (someBelow (λ i. labelFault (programFrom Bits32 (tablesOf t c l k names d)) (labelAt l names i)) k) false)) (le-ltb n d g)
+        ∙ one-false (someBelow (λ i. labelFault (programFrom Bits32 (tablesOf t c l k names d)) (labelAt l names i)) k))
+
+  module _ (b : Broken) (o : b ≡ lowest (rowFault (lentProgram t c l k d)) (numbersBelow c)) where
+    e : b ≡ lowest (rowFault (programFrom Bits32 (tablesOf t c l k names d))) (numbersBelow c)
+    e = o ∙ sym (lowest-seen t c l k names d (numbersBelow c))
+
+    pub rows-at : (i : ℕ) → b ≡ At i → At i ≡ rowsBroken (programFrom Bits32 (tablesOf t c l k names d)) n
     unfolding rowsBroken orElse
     rows-at i q = rw (← e, q)
 
-    pub rows-somewhere : b ≡ Somewhere → Somewhere ≡ rowsBroken (tablesOf t c l k names d)
+    pub rows-somewhere : b ≡ Somewhere → Somewhere ≡ rowsBroken (programFrom Bits32 (tablesOf t c l k names d)) n
     unfolding rowsBroken orElse
     rows-somewhere q = rw (← e, q)
 
-    module _ (v : Bool) (q : b ≡ No) (r : v ≡ someBelow (λ i. labelFault (rowAt t) c d (labelAt l names i)) k) where
-      pub rows-label : v ≡ true → Somewhere ≡ rowsBroken (tablesOf t c l k names d)
+    module _ (v : Bool) (q : b ≡ No) (r : v ≡ restFault (programFrom Bits32 (tablesOf t c l k names d)) n) where
+      pub rows-rest : v ≡ true → Somewhere ≡ rowsBroken (programFrom Bits32 (tablesOf t c l k names d)) n
       unfolding rowsBroken orElse ifTrue
-      rows-label h = rw (← e, q, ← r, h)
+      rows-rest h = rw (← e, q, ← r, h)
 
-      pub rows-good : v ≡ false → No ≡ rowsBroken (tablesOf t c l k names d)
+      pub rows-good : v ≡ false → No ≡ rowsBroken (programFrom Bits32 (tablesOf t c l k names d)) n
       unfolding rowsBroken orElse ifTrue
       rows-good h = rw (← e, q, ← r, h)
 
-  module _ (n : ℕ) (v : Bool) (e : v ≡ countFault (tablesOf t c l k names 0)) where
-    is : v ≡ countFault (tablesOf t c l k names d)
-    is = e ∙ count-any t c l k names d
-
-    pub judge-count : v ≡ true → Somewhere ≡ startBroken (tablesOf t c l k names d) n
+  module _ (v : Bool) (e : v ≡ ltb (length t) (c * 27)) where
+    pub judge-count : v ≡ true → Somewhere ≡ startBroken (programFrom Bits32 (tablesOf t c l k names d)) n
     unfolding startBroken ifTrue
-    judge-count h = rw (← is, h)
+    judge-count h = rw (← e, h)
 
-    pub judge-short : v ≡ false → n < d → Somewhere ≡ startBroken (tablesOf t c l k names d) n
-    unfolding startBroken ifTrue
-    judge-short h g = rw (← is, h, lt-ltb _ _ g)
+    pub judge-rest : (b : Broken) → v ≡ false → b ≡ rowsBroken (programFrom Bits32 (tablesOf t c l k names d)) n → b ≡ startBroken (programFrom Bits32 (tablesOf t c l k names d)) n
+    unfolding startBroken rowsBroken restFault
+    judge-rest b h q = q ∙ sym (ifTrue-no Somewhere (rowsBroken (programFrom Bits32 (tablesOf t c l k names d)) n) (sym e ∙ h))
 
-    pub judge-good : (b : Broken) → v ≡ false → d ≤ n → b ≡ rowsBroken (tablesOf t c l k names d) → b ≡ startBroken (tablesOf t c l k names d) n
-    unfolding startBroken ifTrue rowsBroken
-    judge-good b h g q = rw (← is, h, le-ltb _ _ g) q
+pub ruleset rest-ways = (rest-past, rest-short, rest-labels)
 
-pub ruleset row-ways = (rows-at, rows-somewhere, rows-label, rows-good)
+pub ruleset row-ways = (rows-at, rows-somewhere, rows-rest, rows-good)
 
-pub ruleset judge-ways = (judge-count, judge-short, judge-good)
+pub ruleset judge-ways = (judge-count, judge-rest)
 
 -- ---- the label of that name
 
@@ -207,11 +224,11 @@ named-part names name at n from to b e q r = r ∙ ap (λ (x : List ℕ). sameLi
 
 module _ (l : List ℕ) (names name : List ℕ) (i k : ℕ) (e : k ≡ getD l (i * 4) 0) where
   pub exported-named : (s : ℕ) (b : Bool) → k ≡ 4 → s ≡ getD l (i * 4 + 3) 0 → b ≡ sameList (take s (drop (i * 64) names)) name
-      → b ≡ exportsAs (labelTables l 0 names) name i
+      → b ≡ exportsAs (labelsAlone l 0 names) name i
   unfolding exportsAs labelAt
   exported-named s b h q r = rw (← e, eq-eqb _ _ h, ← q) r
 
-  pub exported-other : (k ≡ 4 → ⊥) → false ≡ exportsAs (labelTables l 0 names) name i
+  pub exported-other : (k ≡ 4 → ⊥) → false ≡ exportsAs (labelsAlone l 0 names) name i
   unfolding exportsAs labelAt
   exported-other h = rw (← e, ne-eqb _ _ h)
 
@@ -219,30 +236,30 @@ pub ruleset exported-ways = (exported-named, exported-other)
 
 pub record Finding (l names name : List ℕ) (k i : ℕ) : Type 0 where
   pub within : i ≤ k
-  pub rest : firstFrom (exportsAs (labelTables l 0 names) name) (k - i) i ≡ firstFrom (exportsAs (labelTables l 0 names) name) k 0
+  pub rest : firstFrom (exportsAs (labelsAlone l 0 names) name) (k - i) i ≡ firstFrom (exportsAs (labelsAlone l 0 names) name) k 0
 
 pub finding-start : (l names name : List ℕ) (k : ℕ) → Finding l names name k 0
 finding-start l names name k =
     let z : k - 0 ≡ k = omega arith in
-    record { within = omega arith; rest = ap (λ (n : ℕ). firstFrom (exportsAs (labelTables l 0 names) name) n 0) z }
+    record { within = omega arith; rest = ap (λ (n : ℕ). firstFrom (exportsAs (labelsAlone l 0 names) name) n 0) z }
 
 module _ (l names name : List ℕ) (k i : ℕ) (h : Finding l names name k i) where
-  whole : firstFrom (exportsAs (labelTables l 0 names) name) k 0 ≡ exportOf (labelTables l k names) name
+  whole : firstFrom (exportsAs (labelsAlone l 0 names) name) k 0 ≡ exportOf (labelsAlone l k names) name
   unfolding exportOf exportsAs
   whole = refl
 
-  pub finding-done : k ≤ i → i ≡ exportOf (labelTables l k names) name
+  pub finding-done : k ≤ i → i ≡ exportOf (labelsAlone l k names) name
   unfolding firstFrom
   finding-done g = let z : k - i ≡ 0 = omega arith in (rw z at (h .rest)) ∙ whole
 
-  module _ (b : Bool) (g : i < k) (e : b ≡ exportsAs (labelTables l 0 names) name i) where
+  module _ (b : Bool) (g : i < k) (e : b ≡ exportsAs (labelsAlone l 0 names) name i) where
     pub finding-more : b ≡ false → Finding l names name k (i + 1)
     unfolding firstFrom
     finding-more q =
         let z : k - i ≡ suc (k - (i + 1)) = omega arith in
         record { within = omega arith; rest = rw (add-one i) (rw (z, ← e, q, add-one i) at (h .rest)) }
 
-    pub finding-found : b ≡ true → i ≡ exportOf (labelTables l k names) name
+    pub finding-found : b ≡ true → i ≡ exportOf (labelsAlone l k names) name
     unfolding firstFrom
     finding-found q = let z : k - i ≡ suc (k - (i + 1)) = omega arith in (rw (z, ← e, q) at (h .rest)) ∙ whole
 
@@ -304,18 +321,13 @@ somewhere e = absurd (let z : _≡_ {A = ℕ} 0 1 = cc in omega arith)
 placed : {P : Type 0} (i : ℕ) → At i ≡ No → P
 placed i e = absurd (let z : _≡_ {A = ℕ} 0 1 = cc in omega arith)
 
-sound-counts : (a b : Bool) (x : Broken) → ifTrue a Somewhere (orElse x (ifTrue b Somewhere No)) ≡ No → a ≡ false
+sound-rest : (a b : Bool) (x : Broken) → ifTrue a Somewhere (orElse x (ifTrue b Somewhere No)) ≡ No → b ≡ false
 unfolding ifTrue orElse
-sound-counts true b x e = somewhere e
-sound-counts false b x e = refl
-
-sound-labels : (a b : Bool) (x : Broken) → ifTrue a Somewhere (orElse x (ifTrue b Somewhere No)) ≡ No → b ≡ false
-unfolding ifTrue orElse
-sound-labels true b x e = somewhere e
-sound-labels false true No e = somewhere e
-sound-labels false false No e = refl
-sound-labels false b (At i) e = placed i e
-sound-labels false b Somewhere e = somewhere e
+sound-rest true b x e = somewhere e
+sound-rest false true No e = somewhere e
+sound-rest false false No e = refl
+sound-rest false b (At i) e = placed i e
+sound-rest false b Somewhere e = somewhere e
 
 neither-right : (a b : Bool) → oneOf a b ≡ false → b ≡ false
 neither-right true b e = true-false e
@@ -347,30 +359,43 @@ first-found p (suc left) i h = split (p i) refl (first-found p left (suc i)) h
     split false e on h = on (omega arith)
 
 -- a sound label of an exported function is at a row
-aimed : (f : ℕ → Row) (c d : ℕ) (l names name : List ℕ) (k i : ℕ) → labelFault f c d (labelAt l names i) ≡ false
-    → exportsAs (labelTables l k names) name i ≡ true → labelAt l names i .number < c
+aimed : (prog : Program) (l names name : List ℕ) (k i : ℕ) → labelFault prog (labelAt l names i) ≡ false
+    → exportsAs (labelsAlone l k names) name i ≡ true → labelAt l names i .number < prog .count
 unfolding labelFault exportsAs ifTrue isData isFunctionLabel ifEq
-aimed f c d l names name k i e h =
+aimed prog l names name k i e h =
     let q : labelAt l names i .kind ≡ 4 = eqb-true _ _ (both-left (eqb (labelAt l names i .kind) 4) (sameList (labelAt l names i .name) name) h) in
     ltb-true _ _
-    (both-left (ltb (labelAt l names i .number) c) (eqb (f (labelAt l names i .number) .kind) 1)
+    (both-left (ltb (labelAt l names i .number) (prog .count)) (eqb (prog .rows (labelAt l names i .number) .kind) 1)
     (not-false _ (rw q at (neither-right (ltb 64 (labelAt l names i .size)) _ e))))
 
-module _ (t : List ℕ) (c : ℕ) (l : List ℕ) (k : ℕ) (names : List ℕ) (d : ℕ) (n : ℕ) (s : startBroken (tablesOf t c l k names d) n ≡ No) where
-  pub sound-data : d ≤ n
-  unfolding startBroken
-  sound-data = ltb-false n d (neither-right (countFault (tablesOf t c l k names d)) (ltb n d) (sound-counts _ _ _ s))
+module _ (t : List ℕ) (c : ℕ) (l : List ℕ) (k : ℕ) (names : List ℕ) (d : ℕ) (n : ℕ) (s : startBroken (programFrom Bits32 (tablesOf t c l k names d)) n ≡ No) where
+  past : Bool
+  past = oneOf (ltb (length l) (k * 4)) (ltb (length names) (k * 64))
 
-  pub sound-function : (name : List ℕ) (e g : ℕ) → e ≡ exportOf (labelTables l k names) name → e < k → g ≡ getD l (e * 4 + 1) 0 → g < c
-  unfolding startBroken exportOf labelAt
+  labels : Bool
+  labels = someBelow (λ i. labelFault (programFrom Bits32 (tablesOf t c l k names d)) (labelAt l names i)) k
+
+  rest : oneOf past (oneOf (ltb n d) (oneOf labels false)) ≡ false
+  unfolding startBroken some past labels
+  rest = sound-rest _ _ _ s
+
+  pub sound-data : d ≤ n
+  sound-data = ltb-false n d (one-no (ltb n d) _ (neither-right past _ rest))
+
+  labels-sound : someBelow (λ i. labelFault (programFrom Bits32 (tablesOf t c l k names d)) (labelAt l names i)) k ≡ false
+  unfolding labels
+  labels-sound = one-no labels _ (neither-right (ltb n d) _ (neither-right past _ rest))
+
+  pub sound-function : (name : List ℕ) (e g : ℕ) → e ≡ exportOf (labelsAlone l k names) name → e < k → g ≡ getD l (e * 4 + 1) 0 → g < c
+  unfolding exportOf labelAt
   sound-function name e g q h r =
       rw r
-      (aimed (rowAt t) c d l names name k e
-      (none-at (λ i. labelFault (rowAt t) c d (labelAt l names i)) k e (sound-labels _ _ _ s) h)
-      (ap (exportsAs (labelTables l k names) name) q
-      ∙ first-found (exportsAs (labelTables l k names) name) k 0 (subst (λ (j : ℕ). j < 0 + k) q (omega (arith, h)))))
+      (aimed (programFrom Bits32 (tablesOf t c l k names d)) l names name k e
+      (none-at (λ i. labelFault (programFrom Bits32 (tablesOf t c l k names d)) (labelAt l names i)) k e labels-sound h)
+      (ap (exportsAs (labelsAlone l k names) name) q
+      ∙ first-found (exportsAs (labelsAlone l k names) name) k 0 (subst (λ (j : ℕ). j < 0 + k) q (omega (arith, h)))))
 
-  pub sound-few : (name : List ℕ) (e g : ℕ) → e ≡ exportOf (labelTables l k names) name → e < k → g ≡ getD l (e * 4 + 1) 0 → c < 4294967296 → g < 4294967295
+  pub sound-few : (name : List ℕ) (e g : ℕ) → e ≡ exportOf (labelsAlone l k names) name → e < k → g ≡ getD l (e * 4 + 1) 0 → c < 4294967296 → g < 4294967295
   sound-few name e g q h r o = omega (arith, sound-function name e g q h r)
 
 -- ---- the answer
@@ -389,27 +414,27 @@ push-true g true x y = refl
 push-true g false x y = refl
 
 module _ (t : List ℕ) (c : ℕ) (l : List ℕ) (k : ℕ) (names : List ℕ) (d : ℕ) (bytes name args st m : List ℕ) (r : Machine) where
-  abbrev T : Tables
-  T = tablesOf t c l k names d
+  abbrev T : Program
+  T = programFrom Bits32 (tablesOf t c l k names d)
 
   abbrev X : World
   X = world r st m
 
   -- the world beside an answer
   abbrev beside : Started → Opened
-  beside a = record { answer = a; world = begunBy Bits32 T bytes name args X a }
+  beside a = record { answer = a; world = begunBy T bytes name args X a }
 
-  export-is : exportOf (labelTables l k names) name ≡ exportOf T name
+  export-is : exportOf (labelsAlone l k names) name ≡ exportOf T name
   unfolding exportOf exportsAs
   export-is = refl
 
-  answered : startBroken T (length bytes) ≡ No → beside (startAnswer Bits32 T bytes name args X) ≡ openingOf Bits32 T bytes name args X
+  answered : startBroken T (length bytes) ≡ No → beside (startAnswer T bytes name args X) ≡ openingOf T bytes name args X
   unfolding startOf startLeaves startBy
-  answered s = ap (λ (b : Broken). beside (startBy Bits32 T bytes name args X b)) (sym s)
+  answered s = ap (λ (b : Broken). beside (startBy T bytes name args X b)) (sym s)
 
   -- the function row of the label
   abbrev G : ℕ
-  G = labelsOf T (exportOf T name) .number
+  G = T .labels (exportOf T name) .number
 
   abbrev short : Bool
   short = oneOf (ltb (length m) d) (ltb 65536 (length m))
@@ -426,12 +451,12 @@ module _ (t : List ℕ) (c : ℕ) (l : List ℕ) (k : ℕ) (names : List ℕ) (d
       (push-true beside short (Refused 22) (ifTrue small (Refused 23) Begun)
       ∙ ap (λ (z : Opened). ifTrue short (refusedWith 22 X) z) (push-true beside small (Refused 23) Begun))
 
-  module _ (s : startBroken T (length bytes) ≡ No) (e : ℕ) (q : e ≡ exportOf (labelTables l k names) name) where
-    pub begin-none : k ≤ e → opened (record { machine = r; answer = Refused 20 }) st m ≡ openingOf Bits32 T bytes name args X
+  module _ (s : startBroken T (length bytes) ≡ No) (e : ℕ) (q : e ≡ exportOf (labelsAlone l k names) name) where
+    pub begin-none : k ≤ e → opened (record { machine = r; answer = Refused 20 }) st m ≡ openingOf T bytes name args X
     unfolding begunBy startAnswer
     begin-none h = ap beside (sym (ifLt-no _ _ (subst (λ (j : ℕ). k ≤ j) (q ∙ export-is) h))) ∙ answered s
 
-    pub begin-found : (g : ℕ) (o : Opened) → e < k → g ≡ getD l (e * 4 + 1) 0 → o ≡ enteredOf Bits32 (rowAt t) g d bytes args X → o ≡ openingOf Bits32 T bytes name args X
+    pub begin-found : (g : ℕ) (o : Opened) → e < k → g ≡ getD l (e * 4 + 1) 0 → o ≡ enteredOf Bits32 (rowAt t) g d bytes args X → o ≡ openingOf T bytes name args X
     unfolding startAnswer labelAt
     begin-found g o h p z =
         let y : g ≡ G = p ∙ ap (λ (j : ℕ). getD l (j * 4 + 1) 0) (q ∙ export-is) in
@@ -440,15 +465,15 @@ module _ (t : List ℕ) (c : ℕ) (l : List ℕ) (k : ℕ) (names : List ℕ) (d
         ∙ answered s
 
   module _ (b : Broken) (e : b ≡ startBroken T (length bytes)) where
-    pub start-at : (i : ℕ) → b ≡ At i → opened (record { machine = r; answer = Unsound (At i) }) st m ≡ openingOf Bits32 T bytes name args X
+    pub start-at : (i : ℕ) → b ≡ At i → opened (record { machine = r; answer = Unsound (At i) }) st m ≡ openingOf T bytes name args X
     unfolding startOf startLeaves startBy begunBy
     start-at i h = rw (← e, h)
 
-    pub start-somewhere : b ≡ Somewhere → opened (record { machine = r; answer = Unsound Somewhere }) st m ≡ openingOf Bits32 T bytes name args X
+    pub start-somewhere : b ≡ Somewhere → opened (record { machine = r; answer = Unsound Somewhere }) st m ≡ openingOf T bytes name args X
     unfolding startOf startLeaves startBy begunBy
     start-somewhere h = rw (← e, h)
 
-pub start-sound : (t : Tables) (n : ℕ) (b : Broken) → b ≡ startBroken t n → b ≡ No → startBroken t n ≡ No
+pub start-sound : (t : Program) (n : ℕ) (b : Broken) → b ≡ startBroken t n → b ≡ No → startBroken t n ≡ No
 start-sound t n b e h = sym e ∙ h
 
 pub ruleset begin-ways = (begin-none, begin-found)

@@ -2,7 +2,7 @@
 -- Assumes nothing.
 use Prim.Native.Nat.{ℕ, suc}
 use mathlib.Core.Bool.{Bool, true, not}
-use mathlib.Core.List.{List, []}
+use mathlib.Core.List.{List, [], _∷_}
 use lib.Dec.{ltb, leb, eqb}
 use lib.ListN.{length, take}
 use Rattle.base_prelude.specs.Choice.{ifEq, ifTrue}
@@ -10,11 +10,13 @@ use Rattle.base_limits.specs.Limits.{stackWords}
 use Rattle.base_limits.specs.Width.{memoryLimit}
 use Rattle.base_limits.specs.declared.Width.{Width}
 use Rattle.base_limits.specs.Record.{freshOf, mark}
+use Rattle.base_limits.specs.declared.Width.the-variants.{Bits32}
 use Rattle.lang_kinds.specs.Kinds as kind
 use Rattle.prog_tables.specs.Layout.{placeLabel}
-use Rattle.prog_tables.specs.Tests.{both, oneOf, someBelow}
+use Rattle.prog_tables.specs.Tests.{both, oneOf, some, someBelow}
 use Rattle.prog_tables.specs.Statement.{Row}
-use Rattle.prog_tables.specs.Label.{Tables, rows, labelsOf, isData, isFunctionLabel}
+use Rattle.prog_tables.specs.Label.{isData, isFunctionLabel}
+use Rattle.prog_tables.specs.Program.{Program, programFrom}
 use Rattle.prog_tables.specs.Faults.{rowFault, labelFault}
 use Rattle.vm_definitions.specs.Access.{storeFrom}
 use Rattle.vm_definitions.specs.Frames.{frameWords}
@@ -37,12 +39,12 @@ abbrev pub opened : Opening → List ℕ → List ℕ → Opened
 opened o st m = record { answer = o .answer; world = world (o .machine) st m }
 
 -- what a start is
-abbrev pub openingOf : Width → Tables → List ℕ → List ℕ → List ℕ → World → Opened
-openingOf w t bytes name args x = record { answer = startOf w t bytes name args x; world = startLeaves w t bytes name args x }
+abbrev pub openingOf : Program → List ℕ → List ℕ → List ℕ → World → Opened
+openingOf p bytes name args x = record { answer = startOf p bytes name args x; world = startLeaves p bytes name args x }
 
--- the label tables alone
-abbrev pub labelTables : List ℕ → ℕ → List ℕ → Tables
-labelTables l k names = tablesOf [] 0 l k names 0
+-- the labels alone
+abbrev pub labelsAlone : List ℕ → ℕ → List ℕ → Program
+labelsAlone l k names = programFrom Bits32 (tablesOf [] 0 l k names 0)
 
 -- no function of c rows at n
 abbrev pub noFunction : (ℕ → Row) → ℕ → ℕ → Bool
@@ -53,11 +55,13 @@ unfoldable pub aimFault : (ℕ → Row) → ℕ → ℕ → ℕ → ℕ → Bool
 aimFault f c d k n =
     ifTrue (isData k) (ltb d n) (ifTrue (isFunctionLabel k) (noFunction f c n) (ifEq k placeLabel (leb c n) true))
 
--- 35 of the rows, then of the labels
-unfoldable pub rowsBroken : Tables → Broken
-rowsBroken t =
-    orElse (lowest (rowFault (rows t) (t .count) (t .dataLength)) (numbersBelow (t .count)))
-    (ifTrue (someBelow (λ i. labelFault (rows t) (t .count) (t .dataLength) (labelsOf t i)) (t .labelCount)) Somewhere No)
+-- what is broken beside the rows, n bytes of data being lent: the count of labels, the data's length, a label
+unfoldable pub restFault : Program → ℕ → Bool
+restFault p n = some (p .labelsPast ∷ ltb n (p .dataLength) ∷ someBelow (λ i. labelFault p (p .labels i)) (p .labelCount) ∷ [])
+
+-- 35 of the rows, then of the rest
+unfoldable pub rowsBroken : Program → ℕ → Broken
+rowsBroken p n = orElse (lowest (rowFault p) (numbersBelow (p .count))) (ifTrue (restFault p n) Somewhere No)
 
 -- ---- the parts behind the label: function row g, its frame of `size` words, d bytes of data
 

@@ -16,20 +16,21 @@ ghost use Rattle.base_limits.specs.declared.Width.the-variants.{Bits32};
 ghost use Rattle.prog_tables.specs.Tests.{someBelow};
 ghost use Rattle.prog_tables.specs.Statement.{rowAt};
 ghost use Rattle.prog_tables.specs.Label.{labelAt, isData, isFunctionLabel};
+ghost use Rattle.prog_tables.specs.Program.{programFrom, lentProgram};
 ghost use Rattle.prog_tables.specs.Faults.{labelFault, rowFault};
 ghost use Rattle.vm_definitions.specs.Broken.{startBroken, numbersBelow, lowest};
 ghost use Rattle.vm_definitions.specs.Start.{exportsAs, exportOf};
 ghost use Rattle.vm_definitions.specs.Lent.{tablesOf, world};
 ghost use Rattle.vm_definitions.specs.declared.Broken.the-variants.{No};
-ghost use Rattle.vm_start.specs.Opening.{opened, openingOf, labelTables, noFunction, aimFault, rowsBroken, begunAt, fittedOf, enteredOf};
+ghost use Rattle.vm_start.specs.Opening.{opened, openingOf, labelsAlone, noFunction, aimFault, restFault, rowsBroken, begunAt, fittedOf, enteredOf};
 
 // The lowest broken row.
-fn broken_row(t: &[u32], c: u32, d: u32) -> Broken
-    ensures { λ r. ⌜ r ≡ lowest (rowFault (rowAt (now (t .entry))) c d) (numbersBelow c) ⌝ }
+fn broken_row(t: &[u32], c: u32, l: &[u32], k: u32, d: u32) -> Broken
+    ensures { λ r. ⌜ r ≡ lowest (rowFault (lentProgram (now (t .entry)) c (now (l .entry)) k d)) (numbersBelow c) ⌝ }
 {
     let mut i: u32 = 0;
     while i < c {
-        if prog_faults::row_fault(t, c, d, i) {
+        if prog_faults::row_fault(t, c, l, k, d, i) {
             return Broken::At(i);
         }
         i += 1;
@@ -84,8 +85,8 @@ fn aim_fault(t: &[u32], c: u32, d: u32, k: u32, n: u32) -> bool
 }
 
 // Whether a label row is broken.
-fn label_fault(t: &[u32], c: u32, d: u32, l: &[u32], names: &[u8], i: u32) -> bool
-    ensures { λ r. ⌜ r ≡ labelFault (rowAt (now (t .entry))) c d (labelAt (now (l .entry)) (now (names .entry)) i) ⌝ }
+fn label_fault(t: &[u32], c: u32, l: &[u32], k: u32, names: &[u8], d: u32, i: u32) -> bool
+    ensures { λ r. ⌜ r ≡ labelFault (programFrom Bits32 (tablesOf (now (t .entry)) c (now (l .entry)) k (now (names .entry)) d)) (labelAt (now (l .entry)) (now (names .entry)) i) ⌝ }
 {
     let at = i as usize * Table::LABEL_ROW;
     let size = prog_tables::word_at(l, at + LabelRow::SIZE);
@@ -102,12 +103,12 @@ fn label_fault(t: &[u32], c: u32, d: u32, l: &[u32], names: &[u8], i: u32) -> bo
 }
 
 // Whether some label row is broken.
-fn labels_fault(t: &[u32], c: u32, d: u32, l: &[u32], k: u32, names: &[u8]) -> bool
-    ensures { λ r. ⌜ r ≡ someBelow (λ i. labelFault (rowAt (now (t .entry))) c d (labelAt (now (l .entry)) (now (names .entry)) i)) k ⌝ }
+fn labels_fault(t: &[u32], c: u32, l: &[u32], k: u32, names: &[u8], d: u32) -> bool
+    ensures { λ r. ⌜ r ≡ someBelow (λ i. labelFault (programFrom Bits32 (tablesOf (now (t .entry)) c (now (l .entry)) k (now (names .entry)) d)) (labelAt (now (l .entry)) (now (names .entry)) i)) k ⌝ }
 {
     let mut i: u32 = 0;
     while i < k {
-        if label_fault(t, c, d, l, names, i) {
+        if label_fault(t, c, l, k, names, d, i) {
             return true;
         }
         i += 1;
@@ -115,14 +116,27 @@ fn labels_fault(t: &[u32], c: u32, d: u32, l: &[u32], k: u32, names: &[u8]) -> b
     false
 }
 
-// Refusal 35 of the rows, then of the labels.
-fn judge_rows(t: &[u32], c: u32, l: &[u32], k: u32, names: &[u8], d: u32) -> Broken
-    ensures { λ r. ⌜ r ≡ rowsBroken (tablesOf (now (t .entry)) c (now (l .entry)) k (now (names .entry)) d) ⌝ }
+// Whether something beside the rows is broken, n bytes of data being lent.
+fn rest_fault(t: &[u32], c: u32, l: &[u32], k: u32, names: &[u8], d: u32, n: usize) -> bool
+    ensures { λ r. ⌜ r ≡ restFault (programFrom Bits32 (tablesOf (now (t .entry)) c (now (l .entry)) k (now (names .entry)) d)) n ⌝ }
 {
-    let b = broken_row(t, c, d);
+    if vm_counts::labels_past(l, k, names) {
+        return true;
+    }
+    if n < d as usize {
+        return true;
+    }
+    labels_fault(t, c, l, k, names, d)
+}
+
+// Refusal 35 of the rows, then of the rest.
+fn judge_rows(t: &[u32], c: u32, l: &[u32], k: u32, names: &[u8], d: u32, n: usize) -> Broken
+    ensures { λ r. ⌜ r ≡ rowsBroken (programFrom Bits32 (tablesOf (now (t .entry)) c (now (l .entry)) k (now (names .entry)) d)) n ⌝ }
+{
+    let b = broken_row(t, c, l, k, d);
     match b {
         Broken::No => {
-            if labels_fault(t, c, d, l, k, names) {
+            if rest_fault(t, c, l, k, names, d, n) {
                 return Broken::Somewhere;
             }
             Broken::No
@@ -132,17 +146,14 @@ fn judge_rows(t: &[u32], c: u32, l: &[u32], k: u32, names: &[u8], d: u32) -> Bro
     }
 }
 
-// Refusal 35 of a start, n bytes of data being lent.
+// Refusal 35 of a start, n bytes of data being lent. Only a count of statements past its table hides a broken one.
 fn judge(t: &[u32], c: u32, l: &[u32], k: u32, names: &[u8], d: u32, n: usize) -> Broken
-    ensures { λ r. ⌜ r ≡ startBroken (tablesOf (now (t .entry)) c (now (l .entry)) k (now (names .entry)) d) n ⌝ }
+    ensures { λ r. ⌜ r ≡ startBroken (programFrom Bits32 (tablesOf (now (t .entry)) c (now (l .entry)) k (now (names .entry)) d)) n ⌝ }
 {
-    if vm_counts::count_fault(t, c, l, k, names) {
+    if vm_counts::statements_past(t, c) {
         return Broken::Somewhere;
     }
-    if n < d as usize {
-        return Broken::Somewhere;
-    }
-    judge_rows(t, c, l, k, names, d)
+    judge_rows(t, c, l, k, names, d, n)
 }
 
 // The lesser of two numbers.
@@ -164,7 +175,7 @@ fn is_named(names: &[u8], at: usize, n: usize, name: &[u8]) -> bool
 
 // Whether a label is an exported function of that name.
 fn is_exported(l: &[u32], names: &[u8], name: &[u8], i: u32) -> bool
-    ensures { λ r. ⌜ r ≡ exportsAs (labelTables (now (l .entry)) 0 (now (names .entry))) (now (name .entry)) i ⌝ }
+    ensures { λ r. ⌜ r ≡ exportsAs (labelsAlone (now (l .entry)) 0 (now (names .entry))) (now (name .entry)) i ⌝ }
 {
     let at = i as usize * Table::LABEL_ROW;
     let k = prog_tables::word_at(l, at);
@@ -177,7 +188,7 @@ fn is_exported(l: &[u32], names: &[u8], name: &[u8], i: u32) -> bool
 
 // The first exported function of that name, the count of labels without one.
 fn find_export(l: &[u32], k: u32, names: &[u8], name: &[u8]) -> u32
-    ensures { λ r. ⌜ r ≡ exportOf (labelTables (now (l .entry)) k (now (names .entry))) (now (name .entry)) ⌝ }
+    ensures { λ r. ⌜ r ≡ exportOf (labelsAlone (now (l .entry)) k (now (names .entry))) (now (name .entry)) ⌝ }
 {
     let mut i: u32 = 0;
     while i < k {
@@ -299,8 +310,8 @@ fn begin(
     st: &mut [u32],
     m: &mut [u8],
 ) -> Opening
-    requires { ⌜ startBroken (tablesOf (now t) c (now l) k (now names) d) (length (now bytes)) ≡ No ⌝ }
-    ensures { λ r. ⌜ opened r (now (st .exit)) (now (m .exit)) ≡ openingOf Bits32 (tablesOf (now (t .entry)) c (now (l .entry)) k (now (names .entry)) d) (now (bytes .entry)) (now (name .entry)) (now (args .entry)) (world machine (now (st .entry)) (now (m .entry))) ⌝ }
+    requires { ⌜ startBroken (programFrom Bits32 (tablesOf (now t) c (now l) k (now names) d)) (length (now bytes)) ≡ No ⌝ }
+    ensures { λ r. ⌜ opened r (now (st .exit)) (now (m .exit)) ≡ openingOf (programFrom Bits32 (tablesOf (now (t .entry)) c (now (l .entry)) k (now (names .entry)) d)) (now (bytes .entry)) (now (name .entry)) (now (args .entry)) (world machine (now (st .entry)) (now (m .entry))) ⌝ }
 {
     let e = find_export(l, k, names, name);
     if e < k {
@@ -328,7 +339,7 @@ pub fn start(
     stack: &mut [u32],
     memory: &mut [u8],
 ) -> Opening
-    ensures { λ r. ⌜ opened r (now (stack .exit)) (now (memory .exit)) ≡ openingOf Bits32 (tablesOf (now (statements .entry)) count (now (labels .entry)) «label_count» (now (names .entry)) «data_length») (now (bytes .entry)) (now (name .entry)) (now (arguments .entry)) (world machine (now (stack .entry)) (now (memory .entry))) ⌝ }
+    ensures { λ r. ⌜ opened r (now (stack .exit)) (now (memory .exit)) ≡ openingOf (programFrom Bits32 (tablesOf (now (statements .entry)) count (now (labels .entry)) «label_count» (now (names .entry)) «data_length»)) (now (bytes .entry)) (now (name .entry)) (now (arguments .entry)) (world machine (now (stack .entry)) (now (memory .entry))) ⌝ }
 {
     let b = judge(
         statements,

@@ -16,6 +16,7 @@ use Rattle.base_limits.specs.Record.{goingOn, movedTo, stopped}
 use Rattle.base_word.specs.Bytes.{wordBytes}
 use Rattle.prog_tables.specs.Tests.{both}
 use Rattle.prog_tables.specs.Statement.{Row, hasExpression, isTest, isCall, usedBy, operandAt, slots, rowFrom, rowAt}
+use Rattle.prog_tables.specs.Program.{rowsAlone}
 use Rattle.prog_tables.specs.declared.Operand.{Operand}
 use Rattle.prog_tables.specs.declared.Operand.the-variants.{Unlisted}
 use Rattle.vm_definitions.specs.Access.{byteAddress, wordAddress, byteGood, wordGood, storeFrom}
@@ -157,7 +158,7 @@ module _ (t : List ℕ) (c : ℕ) (r : Machine) (st m : List ℕ) where
       test-both y o l d = rw (are, ← p, ← q, h, ← s, ← u, l, ← e, d)
 
   -- `let` and `set` of a local
-  module _ (x : Worked) (e : x ≡ workedOf Bits32 (rowAt t) c (world r st m)) where
+  module _ (x : Worked) (e : x ≡ workedOf (rowsAlone t c) (world r st m)) where
     pub assign-value : (v top a : ℕ) (st′ : List ℕ) (o : Outcome) → x ≡ Value v top → a ≡ row .a → st′ ≡ set st (r .frame + a) v
         → o ≡ oneStep (goingOn r (r .next + 1) top) → left o st′ m ≡ after assigning t c r st m
     unfolding assigned effected keeps storeFrom
@@ -196,15 +197,15 @@ module _ (t : List ℕ) (c : ℕ) (r : Machine) (st m : List ℕ) where
     at-bad o h q = rw (← e, ← d, ← i, h, q)
 
   -- what `set-byte` and `set-word` come to
-  byte-bad : (o : Outcome) → argumentsOf Bits32 (rowAt t) c (world r st m) ≡ bad → o ≡ halted r 32 → left o st m ≡ after settingByte t c r st m
+  byte-bad : (o : Outcome) → argumentsOf (rowsAlone t c) (world r st m) ≡ bad → o ≡ halted r 32 → left o st m ≡ after settingByte t c r st m
   unfolding setByteBy effected
   byte-bad o e d = rw (e, d)
 
-  word-bad : (o : Outcome) → argumentsOf Bits32 (rowAt t) c (world r st m) ≡ bad → o ≡ halted r 32 → left o st m ≡ after settingWord t c r st m
+  word-bad : (o : Outcome) → argumentsOf (rowsAlone t c) (world r st m) ≡ bad → o ≡ halted r 32 → left o st m ≡ after settingWord t c r st m
   unfolding setWordBy effected
   word-bad o e d = rw (e, d)
 
-  module _ (x y z a : ℕ) (b : Bool) (o : Outcome) (e : argumentsOf Bits32 (rowAt t) c (world r st m) ≡ machine.words (x ∷ y ∷ z ∷ [])) where
+  module _ (x y z a : ℕ) (b : Bool) (o : Outcome) (e : argumentsOf (rowsAlone t c) (world r st m) ≡ machine.words (x ∷ y ∷ z ∷ [])) where
     byte-put : (m′ : List ℕ) → a ≡ byteAddress Bits32 x y → b ≡ byteGood (length m) a → b ≡ true → m′ ≡ storeFrom m a (z % 256 ∷ [])
         → o ≡ oneStep (goingOn r (r .next + 1) (r .top)) → left o st m′ ≡ after settingByte t c r st m
     unfolding setByteBy effected stores ifTrue
@@ -225,15 +226,15 @@ module _ (t : List ℕ) (c : ℕ) (r : Machine) (st m : List ℕ) where
 
   -- a row of either kind
   module _ (x : Three) (e : threeWords x ≡ readAll Bits32 st (r .frame) m (take 3 (slots t (r .next * 27)))) where
-    three-read : usedBy (row .kind) (row .expr) (row .count) ≡ 3 → argumentsOf Bits32 (rowAt t) c (world r st m) ≡ threeWords x
+    three-read : usedBy (row .kind) (row .expr) (row .count) ≡ 3 → argumentsOf (rowsAlone t c) (world r st m) ≡ threeWords x
     unfolding argumentsOf
     three-read u = ap (readAll Bits32 st (r .frame) m) (operands-are t (r .next) 3 u) ∙ sym e
 
-    unread : x ≡ Unread → usedBy (row .kind) (row .expr) (row .count) ≡ 3 → argumentsOf Bits32 (rowAt t) c (world r st m) ≡ bad
+    unread : x ≡ Unread → usedBy (row .kind) (row .expr) (row .count) ≡ 3 → argumentsOf (rowsAlone t c) (world r st m) ≡ bad
     unfolding threeWords
     unread d u = three-read u ∙ ap threeWords d
 
-    all-read : (b o v : ℕ) → x ≡ All b o v → usedBy (row .kind) (row .expr) (row .count) ≡ 3 → argumentsOf Bits32 (rowAt t) c (world r st m) ≡ machine.words (b ∷ o ∷ v ∷ [])
+    all-read : (b o v : ℕ) → x ≡ All b o v → usedBy (row .kind) (row .expr) (row .count) ≡ 3 → argumentsOf (rowsAlone t c) (world r st m) ≡ machine.words (b ∷ o ∷ v ∷ [])
     unfolding threeWords
     all-read b o v d u = three-read u ∙ ap threeWords d
 

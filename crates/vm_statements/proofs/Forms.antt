@@ -16,6 +16,7 @@ use Rattle.base_limits.specs.declared.Machine.{Machine}
 use Rattle.prog_tables.specs.Layout.{callExpression, noExpression}
 use Rattle.prog_tables.specs.Tests.{both, oneOf}
 use Rattle.prog_tables.specs.Statement.{Row, hasExpression, isTest, isCall, expressionUses, usedBy, rowAt}
+use Rattle.prog_tables.specs.Program.{Program}
 use Rattle.prog_tables.specs.Faults.{expressionListed}
 use Rattle.vm_definitions.specs.Frames.{isReturn, isCalling, leavesGood}
 use Rattle.vm_definitions.specs.Step.{World, Effect, rowOf, blockOf, endBlockOf, testOf, setAtOf, goesTo, callOf, returnOf, returned, workedOf, effectOf}
@@ -48,85 +49,88 @@ no-expression k a b d e =
 
 -- ---- what a statement does
 
-module _ (w : Width) (f : ℕ → Row) (c : ℕ) (x : World) where
+module _ (prog : Program) (x : World) where
+  abbrev f : ℕ → Row
+  f = prog .rows
+
   abbrev kind : ℕ
   kind = f (x .machine .next) .kind
 
   abbrev expr : ℕ
   expr = f (x .machine .next) .expr
 
-  pub of-end : kind ≡ 2 → effectOf w f c x ≡ handing 0 w f c x
+  pub of-end : kind ≡ 2 → effectOf prog x ≡ handing 0 prog x
   unfolding effectOf isCalling isReturn hasExpression returnOf returned ifTrue ifEq ifLt
   of-end e = rw e
 
-  pub of-block : kind ≡ 3 → effectOf w f c x ≡ blockOf w f c x
+  pub of-block : kind ≡ 3 → effectOf prog x ≡ blockOf prog x
   unfolding effectOf isCalling isReturn isTest hasExpression ifTrue ifEq ifLt
   of-block e = rw e
 
-  pub of-end-block : kind ≡ 4 → effectOf w f c x ≡ endBlockOf w f c x
+  pub of-end-block : kind ≡ 4 → effectOf prog x ≡ endBlockOf prog x
   unfolding effectOf isCalling isReturn isTest hasExpression ifTrue ifEq ifLt
   of-end-block e = rw e
 
-  pub of-let : kind ≡ 5 → effectOf w f c x ≡ settingLocal w f c x
+  pub of-let : kind ≡ 5 → effectOf prog x ≡ settingLocal prog x
   unfolding effectOf isCalling isReturn isTest hasExpression callOf ifTrue ifEq ifLt
   of-let e = rw e
 
-  pub of-set : kind ≡ 6 → effectOf w f c x ≡ settingLocal w f c x
+  pub of-set : kind ≡ 6 → effectOf prog x ≡ settingLocal prog x
   unfolding effectOf isCalling isReturn isTest hasExpression callOf ifTrue ifEq ifLt
   of-set e = rw e
 
-  pub of-at-call : kind ≡ 7 → expr ≡ 2 → effectOf w f c x ≡ atCalling w f c x
+  pub of-at-call : kind ≡ 7 → expr ≡ 2 → effectOf prog x ≡ atCalling prog x
   unfolding effectOf isCalling hasExpression callOf ifTrue ifEq ifLt
   of-at-call e d = rw (e, d)
 
-  pub of-at : kind ≡ 7 → (expr ≡ 2 → ⊥) → effectOf w f c x ≡ setAtOf w f c x
+  pub of-at : kind ≡ 7 → (expr ≡ 2 → ⊥) → effectOf prog x ≡ setAtOf prog x
   unfolding effectOf isCalling isReturn isTest hasExpression ifTrue ifEq ifLt
   of-at e d = rw (e, ne-eqb _ _ d)
 
-  pub of-set-byte : kind ≡ 8 → effectOf w f c x ≡ settingByte w f c x
+  pub of-set-byte : kind ≡ 8 → effectOf prog x ≡ settingByte prog x
   unfolding effectOf isCalling isReturn isTest hasExpression ifTrue ifEq ifLt
   of-set-byte e = rw e
 
-  pub of-set-word : kind ≡ 9 → effectOf w f c x ≡ settingWord w f c x
+  pub of-set-word : kind ≡ 9 → effectOf prog x ≡ settingWord prog x
   unfolding effectOf isCalling isReturn isTest hasExpression ifTrue ifEq ifLt
   of-set-word e = rw e
 
-  pub of-call : kind ≡ 11 → effectOf w f c x ≡ calling w f c x
+  pub of-call : kind ≡ 11 → effectOf prog x ≡ calling prog x
   unfolding effectOf isCalling callOf ifTrue ifEq
   of-call e = rw e
 
-  pub of-tail-call : kind ≡ 12 → effectOf w f c x ≡ tailCalling w f c x
+  pub of-tail-call : kind ≡ 12 → effectOf prog x ≡ tailCalling prog x
   unfolding effectOf isCalling isReturn isTest hasExpression ifTrue ifEq ifLt
   of-tail-call e = rw e
 
-  pub of-return-call : kind ≡ 13 → expr ≡ 2 → effectOf w f c x ≡ calling w f c x
+  pub of-return-call : kind ≡ 13 → expr ≡ 2 → effectOf prog x ≡ calling prog x
   unfolding effectOf isCalling hasExpression callOf ifTrue ifEq ifLt
   of-return-call e d = rw (e, d)
 
-  pub of-return-bare : kind ≡ 13 → expr ≡ 0 → effectOf w f c x ≡ handing 0 w f c x
+  pub of-return-bare : kind ≡ 13 → expr ≡ 0 → effectOf prog x ≡ handing 0 prog x
   unfolding effectOf isCalling isReturn hasExpression returnOf returned ifTrue ifEq ifLt
   of-return-bare e d = rw (e, d)
 
-  pub of-return : kind ≡ 13 → (expr ≡ 0 → ⊥) → (expr ≡ 2 → ⊥) → effectOf w f c x ≡ returned w f c x (workedOf w f c x)
+  pub of-return : kind ≡ 13 → (expr ≡ 0 → ⊥) → (expr ≡ 2 → ⊥) → effectOf prog x ≡ returned prog x (workedOf prog x)
   unfolding effectOf isCalling isReturn hasExpression returnOf ifTrue ifEq ifLt
   of-return e d q = rw (e, ne-eqb _ _ d, ne-eqb _ _ q)
 
-  pub of-test : isTest kind ≡ true → effectOf w f c x ≡ testOf w f c x
+  pub of-test : isTest kind ≡ true → effectOf prog x ≡ testOf prog x
   unfolding effectOf isCalling isReturn ifTrue
   of-test e =
       let h = test-least kind e in
       rw (ne-eqb kind 11 (λ q. omega (arith, h, q)), none-high kind h, ne-eqb kind 2 (λ q. omega (arith, h, q)), ne-eqb kind 13 (λ q. omega (arith, h, q)), e)
 
-  pub of-end-if : kind ≡ 22 → effectOf w f c x ≡ goesTo w f c x (suc (x .machine .next))
+  pub of-end-if : kind ≡ 22 → effectOf prog x ≡ goesTo prog x (suc (x .machine .next))
   unfolding effectOf isCalling isReturn isTest hasExpression ifTrue ifEq ifLt
   of-end-if e = rw e
 
   abbrev jumps : Effect
-  jumps = goesTo w f c x (f (x .machine .next) .a)
+  jumps = goesTo prog x (f (x .machine .next) .a)
 
   last-kinds : isTest kind ≡ false → (kind ≡ 2 → ⊥) → (kind ≡ 3 → ⊥) → (kind ≡ 4 → ⊥) → (kind ≡ 5 → ⊥) → (kind ≡ 6 → ⊥) → (kind ≡ 7 → ⊥) → (kind ≡ 8 → ⊥)
       → (kind ≡ 9 → ⊥) → (kind ≡ 11 → ⊥) → (kind ≡ 12 → ⊥) → (kind ≡ 13 → ⊥) → (kind ≡ 22 → ⊥)
-      → effectOf w f c x ≡ ifEq kind 10 jumps (ifEq kind 20 jumps (ifEq kind 21 jumps jumps))
+      → effectOf prog x ≡ ifEq kind 10 jumps (ifEq kind 20 jumps (ifEq kind 21 jumps jumps))
   unfolding effectOf isCalling isReturn ifTrue ifEq
   last-kinds t a2 a3 a4 a5 a6 a7 a8 a9 a11 a12 a13 a22 =
       rw (
@@ -147,7 +151,7 @@ module _ (w : Width) (f : ℕ → Row) (c : ℕ) (x : World) where
       )
 
   pub of-jump : isTest kind ≡ false → (kind ≡ 2 → ⊥) → (kind ≡ 3 → ⊥) → (kind ≡ 4 → ⊥) → (kind ≡ 5 → ⊥) → (kind ≡ 6 → ⊥) → (kind ≡ 7 → ⊥) → (kind ≡ 8 → ⊥)
-      → (kind ≡ 9 → ⊥) → (kind ≡ 11 → ⊥) → (kind ≡ 12 → ⊥) → (kind ≡ 13 → ⊥) → (kind ≡ 22 → ⊥) → effectOf w f c x ≡ jumps
+      → (kind ≡ 9 → ⊥) → (kind ≡ 11 → ⊥) → (kind ≡ 12 → ⊥) → (kind ≡ 13 → ⊥) → (kind ≡ 22 → ⊥) → effectOf prog x ≡ jumps
   of-jump t a2 a3 a4 a5 a6 a7 a8 a9 a11 a12 a13 a22 =
       last-kinds t a2 a3 a4 a5 a6 a7 a8 a9 a11 a12 a13 a22
       ∙ either-eq (λ (z : Effect). z ≡ jumps) kind 10 jumps _ (λ q. refl)

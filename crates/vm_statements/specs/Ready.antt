@@ -26,12 +26,12 @@ pub record Ready (f : ℕ → Row) (c : ℕ) (r : Machine) (st : List ℕ) (m : 
 
 -- `let` and `set` of a local: a call, or an expression
 abbrev pub settingLocal : Meaning
-settingLocal w f c x = ifTrue (isCalling (rowOf w f c x)) (calling w f c x) (assigning w f c x)
+settingLocal p x = ifTrue (isCalling (rowOf p x)) (calling p x) (assigning p x)
 
 -- `set @` without a call, its address being good
 abbrev pub assigningAt : Meaning
-assigningAt w f c x = assignedAt w f c x (workedOf w f c x)
+assigningAt p x = assignedAt p x (workedOf p x)
 
 -- `return` with an expression
 abbrev pub returning : Meaning
-returning w f c x = returned w f c x (workedOf w f c x)
+returning p x = returned p x (workedOf p x)

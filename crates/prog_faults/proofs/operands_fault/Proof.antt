@@ -12,11 +12,11 @@ use Rattle.prog_faults.proofs.size_at.Reads as size-at-reads
 use Rattle.prog_faults.proofs.slot_fault.Reads as slot-fault-reads
 
 abbrev Inv-loop : tie.InvT-loop
-Inv-loop t c d n m size i₀ i =
+Inv-loop t c l lc d n m size i₀ i =
     Passing t size d n m i
 
 abbrev μ-loop : tie.MeasureT-loop
-μ-loop t c d n m size i₀ i =
+μ-loop t c l lc d n m size i₀ i =
     m - i
 
 operands-at-requires : tie.Need-operands-at-requires Inv-loop μ-loop

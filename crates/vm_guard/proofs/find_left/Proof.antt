@@ -1,6 +1,6 @@
 use borrow.Author.Needs.{needs}
 use Rattle.vm_guard.proofs.Cases.{Finding, finding}
-use Rattle.prog_tables.specs.Statement.{rowAt}
+use Rattle.prog_tables.specs.Program.{lentProgram}
 use native.Mathlib.Omega.{arith}
 use mathlib.Core.Path.{_≡_, refl, sym, _∙_, ap, subst}
 use Rattle.vm_guard.proofs.find_left.Statement.{statement}
@@ -15,11 +15,11 @@ use Rattle.vm_guard.proofs.mark_call.Reads as mark-call-reads
 use Rattle.vm_guard.proofs.place_at.Reads as place-at-reads
 
 abbrev Inv-loop : tie.InvT-loop
-Inv-loop t c d next st s b₀ at₀ left₀ b at left =
-    Finding (rowAt t) c d next st s b at left
+Inv-loop t c l lc d next st s b₀ at₀ left₀ b at left =
+    Finding (lentProgram t c l lc d) next st s b at left
 
 abbrev μ-loop : tie.MeasureT-loop
-μ-loop t c d next st s b₀ at₀ left₀ b at left =
+μ-loop t c l lc d next st s b₀ at₀ left₀ b at left =
     left
 
 add-left : tie.Need-add-left Inv-loop μ-loop

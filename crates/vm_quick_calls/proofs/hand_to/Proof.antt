@@ -30,7 +30,7 @@ same-length c = search needs
 
 returns : tie.Need-returns
 returns c =
-    to-high _ _ _ _ _ _ _ _ _ _ _ (c .before .before .before .word-at .ensures) (c .before .word-at2 .ensures) (c .if1 .taken)
+    to-high _ _ _ _ _ _ _ _ _ _ _ _ _ (c .before .before .before .word-at .ensures) (c .before .word-at2 .ensures) (c .if1 .taken)
 
 cast-if2 : tie.Need-cast-if2
 cast-if2 c = search needs
@@ -56,14 +56,14 @@ same-length-3 c = search needs
 
 returns-3 : tie.Need-returns-3
 returns-3 c =
-    to-bad _ _ _ _ _ _ _ _ _ _ _ (c .before .before .before .before .before .before .word-at .ensures) (c .before .before .before .before .word-at2 .ensures) _ (c .before .before .before .if1 .left) (c .before .before .if2 .taken) (c .before .is-call-good .ensures) (c .if3 .left)
+    to-bad _ _ _ _ _ _ _ _ _ _ _ _ _ (c .before .before .before .before .before .before .word-at .ensures) (c .before .before .before .before .word-at2 .ensures) _ (c .before .before .before .if1 .left) (c .before .before .if2 .taken) (c .before .is-call-good .ensures) (c .if3 .left)
 
 same-length-4 : tie.Need-same-length-4
 same-length-4 c = search needs
 
 returns-4 : tie.Need-returns-4
 returns-4 c =
-    to-apart _ _ _ _ _ _ _ _ _ _ _ (c .before .before .before .before .word-at .ensures) (c .before .before .word-at2 .ensures) (c .before .if1 .left) (c .if2 .left)
+    to-apart _ _ _ _ _ _ _ _ _ _ _ _ _ (c .before .before .before .before .word-at .ensures) (c .before .before .word-at2 .ensures) (c .before .if1 .left) (c .if2 .left)
 
 pub hand-to-spec : {M : Type 1} → statement M
 hand-to-spec =

@@ -32,7 +32,7 @@ same-length c = search needs
 
 returns : tie.Need-returns
 returns c =
-    tail-high _ _ _ _ _ _ _ _ _ (c .before .word-at3 .ensures) (c .if1 .taken)
+    tail-high _ _ _ _ _ _ _ _ _ _ _ (c .before .word-at3 .ensures) (c .if1 .taken)
 
 call-at-requires : tie.Need-call-at-requires
 call-at-requires c κs = search needs

@@ -31,7 +31,7 @@ same-length-2 c = search needs
 
 returns : tie.Need-returns
 returns c =
-    search in-frame
+    search (in-frame, c .before .before .before .before .before .before .before .before .before .before .before .before .before .before .before .before .func-at .ensures)
 
 same-length-3 : tie.Need-same-length-3
 same-length-3 c = search needs

@@ -11,11 +11,11 @@ use Rattle.vm_run.proofs.run_within.Lts as lts
 use Rattle.vm_run.proofs.advance.Reads as advance-reads
 
 abbrev Inv-loop : tie.InvT-loop
-Inv-loop t c d budget st₀ m₀ q₀ count₀ st m q count =
-    RunSoFar t c d budget (world q₀ st₀ m₀) q st m count
+Inv-loop t c l lc d budget st₀ m₀ q₀ count₀ st m q count =
+    RunSoFar t c l lc d budget (world q₀ st₀ m₀) q st m count
 
 abbrev μ-loop : tie.MeasureT-loop
-μ-loop t c d budget st₀ m₀ q₀ count₀ st m q count =
+μ-loop t c l lc d budget st₀ m₀ q₀ count₀ st m q count =
     budget - count
 
 loop-holds : tie.Need-loop-holds Inv-loop μ-loop
@@ -40,7 +40,7 @@ returns c =
 
 add-count : tie.Need-add-count Inv-loop μ-loop
 add-count c =
-    omega (arith, running-low _ _ _ _ _ _ _ _ _ (c .before .before .before .before .before .before .before .before .before .before .loop .inv) _ _ _ (c .before .before .before .before .before .before .before .before .before .loop-test .taken) (c .before .before .before .before .before .before .advance .ensures))
+    omega (arith, running-low _ _ _ _ _ _ _ _ _ _ _ (c .before .before .before .before .before .before .before .before .before .before .loop .inv) _ _ _ (c .before .before .before .before .before .before .before .before .before .loop-test .taken) (c .before .before .before .before .before .before .advance .ensures))
 
 loop-less : tie.Need-loop-less Inv-loop μ-loop
 loop-less c = search needs

@@ -18,7 +18,7 @@ enum-told c = search needs
 
 execute-requires : tie.Need-execute-requires
 execute-requires c κs =
-    take-ready _ _ _ _ _ _ _ (c .before .before .before .before .find-broken .ensures) (c .before .before .enum-told .given .1)
+    take-ready _ _ _ _ _ _ _ _ _ (c .before .before .before .before .find-broken .ensures) (c .before .before .enum-told .given .1)
 
 enum-known-b : tie.Need-enum-known-b
 enum-known-b c = search needs

@@ -1,6 +1,6 @@
 use borrow.Author.Needs.{needs}
 use Prim.Native.Nat.{_-_}
-use Rattle.prog_tables.specs.Statement.{rowAt}
+use Rattle.prog_tables.specs.Program.{lentProgram}
 use Rattle.prog_tables.specs.Faults.{rowFault}
 use Rattle.vm_start.proofs.Cases.{Scanning, scanning}
 use native.Mathlib.Omega.{arith}
@@ -12,11 +12,11 @@ use Rattle.vm_start.proofs.broken_row.Lts as lts
 use Rattle.prog_faults.proofs.row_fault.Reads as row-fault-reads
 
 abbrev Inv-loop : tie.InvT-loop
-Inv-loop t c d i₀ i =
-    Scanning (rowFault (rowAt t) c d) c i
+Inv-loop t c l k d i₀ i =
+    Scanning (rowFault (lentProgram t c l k d)) c i
 
 abbrev μ-loop : tie.MeasureT-loop
-μ-loop t c d i₀ i =
+μ-loop t c l k d i₀ i =
     c - i
 
 loop-holds : tie.Need-loop-holds Inv-loop μ-loop

@@ -1,6 +1,8 @@
 use borrow.Author.Needs.{needs}
 use Prim.Native.Nat.{_-_}
-use Rattle.prog_tables.specs.Statement.{rowAt}
+use Rattle.base_limits.specs.declared.Width.the-variants.{Bits32}
+use Rattle.prog_tables.specs.Program.{programFrom}
+use Rattle.vm_definitions.specs.Lent.{tablesOf}
 use Rattle.prog_tables.specs.Label.{labelAt}
 use Rattle.prog_tables.specs.Faults.{labelFault}
 use Rattle.vm_start.proofs.Cases.{Trying, trying}
@@ -13,11 +15,11 @@ use Rattle.vm_start.proofs.labels_fault.Lts as lts
 use Rattle.vm_start.proofs.label_fault.Reads as label-fault-reads
 
 abbrev Inv-loop : tie.InvT-loop
-Inv-loop t c d l k names i₀ i =
-    Trying (λ j. labelFault (rowAt t) c d (labelAt l names j)) k i
+Inv-loop t c l k names d i₀ i =
+    Trying (λ j. labelFault (programFrom Bits32 (tablesOf t c l k names d)) (labelAt l names j)) k i
 
 abbrev μ-loop : tie.MeasureT-loop
-μ-loop t c d l k names i₀ i =
+μ-loop t c l k names d i₀ i =
     k - i
 
 loop-holds : tie.Need-loop-holds Inv-loop μ-loop
