@@ -11,7 +11,8 @@ ghost use mathlib.Core.Bool.{true, false};
 ghost use Rattle.base_prelude.specs.Choice.{ifEq, ifTrue};
 ghost use Rattle.base_limits.specs.Width.{bitsOf};
 ghost use lib.ListN.{length};
-ghost use Rattle.parse_shapes.specs.Shapes.{isName, isInteger, isString, operandsFrom, callFrom, isOperator, operatorFrom, operandAt, symbolFrom, expressionFrom, operandCount, isListed, countFits, laterFits, statementFits, otherFits, formFits, isKnown, byteFits, alignFits, rangeFits, shapeFits};
+ghost use Rattle.parse_shapes.specs.Shapes.{isName, isInteger, isString, operandsFrom, callFrom, isOperator, operatorFrom, operandAt, symbolFrom, expressionFrom, operandCount, formFits, isListed, countFits, isKnown, byteFits, alignFits, rangeFits, shapeFits};
+ghost use Rattle.parse_shapes.specs.Forms.{laterFits, statementFits, otherFits};
 
 // A plain symbol.
 pub fn is_name(t: &[u32], i: u32) -> bool
@@ -229,7 +230,7 @@ fn later_fits(t: &[u32], u: Span, k: u32) -> bool
     if k == Kind::ELSE_IF {
         return else_if_fits(t, u);
     }
-    true
+    k < Kind::PAST_ROWS
 }
 
 fn statement_fits(t: &[u32], u: Span, k: u32) -> bool
@@ -283,7 +284,7 @@ fn other_fits(t: &[u32], u: Span, k: u32) -> bool
     if k == Kind::STRING {
         return is_string(t, u.word + 1);
     }
-    true
+    k < Kind::LEFT_OUT
 }
 
 fn form_fits(t: &[u32], u: Span, k: u32) -> bool

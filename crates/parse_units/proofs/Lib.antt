@@ -1,3 +1,4 @@
+pub mod Labelled
 pub mod Cases
 pub mod Bounds
 pub mod UnitSteps

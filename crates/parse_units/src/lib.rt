@@ -15,15 +15,14 @@ ghost use Rattle.lang_kinds.specs.Nesting.{isFrame, leaves};
 ghost use Rattle.base_prelude.specs.Fault.{none};
 ghost use Rattle.parse_units.specs.OutlineRow.{outlineRowOf};
 ghost use Rattle.parse_units.specs.Outline.{rowAt, putRow, rowIn, behind};
-ghost use Rattle.parse_units.specs.Places.{groundIn, dataWord, statementWord, mayLabel, labelRule, placeRule, roomRule, localsRule, depthRule, lineFaults, limitFaults, unitFault};
+ghost use Rattle.parse_units.specs.Places.{groundIn, dataWords, functionWords, statementWords, mayLabel, labelRule, placeRule, roomRule, localsRule, depthRule, lineFaults, limitFaults, unitFault};
 ghost use Rattle.base_prelude.specs.Fault.{leastOf};
 ghost use Rattle.lang_kinds.specs.Nesting.{rowsOf};
 ghost use Rattle.parse_lines.specs.Tokens.{tokenWord};
 ghost use Rattle.parse_lines.specs.Lines.{lineKind};
 ghost use Rattle.parse_shapes.specs.Shapes.{operandCount};
-ghost use Rattle.base_prelude.specs.Lists.{zeros};
+ghost use Rattle.base_prelude.specs.Lists.{zeros, isAmong};
 ghost use Rattle.lang_kinds.specs.Kinds as kind;
-ghost use Rattle.lang_words.specs.Numbers as word;
 ghost use Rattle.parse_units.specs.Parse.{world, putState, putKind, growTwo, growBy, localsBehind, depthBehind, sectionBehind, stateBehind, joinState, advance, result, stepped, unitStep, parseFrom, parseOf, begin};
 ghost use Rattle.parse_units.specs.Fits.{StepFits, UnitStepFits};
 
@@ -224,7 +223,7 @@ fn ground_in(s: State, o: Row) -> u32
 }
 
 fn data_word(w: u32) -> bool
-    ensures { λ r. ⌜ r ≡ dataWord w ⌝ }
+    ensures { λ r. ⌜ r ≡ isAmong w dataWords ⌝ }
 {
     if w < Word::ALIGN {
         return false;
@@ -236,7 +235,7 @@ fn data_word(w: u32) -> bool
 }
 
 fn statement_word(w: u32) -> bool
-    ensures { λ r. ⌜ r ≡ statementWord w ⌝ }
+    ensures { λ r. ⌜ r ≡ isAmong w statementWords ⌝ }
 {
     if w < Word::FUNCTION {
         return false;
@@ -251,7 +250,7 @@ fn statement_word(w: u32) -> bool
 }
 
 fn function_word(w: u32) -> bool
-    ensures { λ r. ⌜ r ≡ ifEq w word.function true false ⌝ }
+    ensures { λ r. ⌜ r ≡ isAmong w functionWords ⌝ }
 {
     if w == Word::FUNCTION {
         return true;
@@ -272,7 +271,10 @@ fn may_label(g: u32, kind: u32, w: u32) -> bool
         if g < Ground::IN_FUNCTION {
             return data_word(w);
         }
-        return statement_word(w);
+        if g < Ground::PAST_GROUNDS {
+            return statement_word(w);
+        }
+        return false;
     }
     false
 }
