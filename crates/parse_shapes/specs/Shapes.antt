@@ -197,8 +197,11 @@ unfoldable pub byteFits : Width → ℕ → Bool
 byteFits w v = ifLt v 256 true (ifLt v (2 ^ bitsOf w - 128) false true)
 
 -- "`align` takes 1 to 4,096"
+abbrev pub pastAlign : ℕ
+pastAlign = 4097
+
 unfoldable pub alignFits : ℕ → Bool
-alignFits v = ifLt v 1 false (ifLt v 4097 true false)
+alignFits v = ifLt v 1 false (ifLt v pastAlign true false)
 
 -- "Out of range here is refusal 7."
 unfoldable pub rangeFits : Width → List ℕ → Span → ℕ → Bool

@@ -187,7 +187,7 @@ count-put : (k token next operands : ℕ) (x : World) → putKind k token next o
 unfolding putKind putState
 count-put k token next operands x = refl
 
-pub put-few : (k token next operands : ℕ) (s x : State) (rows rows′ : List ℕ) → s .count ≤ 1023 → world x rows′ ≡ putKind k token next operands (world s rows) → x .count ≤ 1024
+pub put-few : (k token next operands : ℕ) (s x : State) (rows rows′ : List ℕ) → s .count + 1 ≤ 1024 → world x rows′ ≡ putKind k token next operands (world s rows) → x .count ≤ 1024
 put-few k token next operands s x rows rows′ h e =
     omega (arith, ap (λ (y : World). y .state .count) e ∙ count-put k token next operands (world s rows))
 

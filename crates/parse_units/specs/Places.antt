@@ -87,15 +87,15 @@ labelRule t n u g =
 unfoldable pub placeRule : List ℕ → ℕ → Span → ℕ → ℕ → ℕ
 placeRule t n u k g = ifTrue (standsOn g k) none (keyAt t n (u .word) 8)
 
--- 14: 1,024 statements; row 0 is the edge, so the first free row is at most 1,025
+-- 14: "statements 1,024"; row 0 is the edge, so the first free row is at most one more
 unfoldable pub roomRule : List ℕ → ℕ → Span → ℕ → ℕ → ℕ
-roomRule t n u k count = ifLt (1025 - count) (rowsOf k) (keyAt t n (u .word) 14) none
+roomRule t n u k count = ifLt (limits.statements + 1 - count) (rowsOf k) (keyAt t n (u .word) 14) none
 
--- 14: 64 locals in scope
+-- 14: "locals in scope 64"
 unfoldable pub localsRule : List ℕ → ℕ → Span → ℕ → ℕ → ℕ
 localsRule t n u k locals = ifEq k kind.letLocal (ifLt locals limits.locals none (keyAt t n (u .word) 14)) none
 
--- 14: blocks 16 deep
+-- 14: "blocks nested 16 deep"
 unfoldable pub depthRule : List ℕ → ℕ → Span → ℕ → ℕ → ℕ
 depthRule t n u k depth = ifEq k kind.block (ifLt depth limits.blockDepth none (keyAt t n (u .word) 14)) none
 

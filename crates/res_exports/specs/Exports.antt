@@ -11,6 +11,7 @@ use Rattle.base_prelude.specs.Choice.{ifLt, ifEq, ifTrue}
 use Rattle.base_prelude.specs.Fault.{none}
 use Rattle.base_prelude.specs.Lists.{zeros}
 use Rattle.base_prelude.specs.Walk.{Step, go, stop, walk}
+use Rattle.base_limits.specs.Limits as limits
 use Rattle.lang_kinds.specs.Kinds as kind
 use Rattle.parse_lines.specs.Tokens.{keyAt}
 use Rattle.parse_lines.specs.Units.{unitAt}
@@ -132,4 +133,4 @@ exportsFrom same t n y l uses x = walk (exportStep same t n y l uses) (exported 
 
 -- the exports of the tokens t of a source of n bytes with l label rows y; `uses` has the first token that means each label
 unfoldable pub exportsOf : (ℕ → ℕ → Bool) → List ℕ → ℕ → List ℕ → ℕ → List ℕ → Exported
-exportsOf same t n y l uses = exportsFrom same t n y l uses (world (exports 0 none) (zeros 256))
+exportsOf same t n y l uses = exportsFrom same t n y l uses (world (exports 0 none) (zeros limits.labels))
