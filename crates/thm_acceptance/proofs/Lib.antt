@@ -1,3 +1,5 @@
+pub mod Opens
+pub mod Paged
 pub mod Least
 pub mod Accepts
 pub mod Opened

@@ -1,2 +1,4 @@
+pub mod Lines
+pub mod LineRules
 pub mod Faults
 pub mod Accepts
