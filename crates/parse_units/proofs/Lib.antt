@@ -2,3 +2,4 @@ pub mod Labelled
 pub mod Cases
 pub mod Bounds
 pub mod UnitSteps
+pub mod Examples

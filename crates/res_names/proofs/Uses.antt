@@ -65,6 +65,11 @@ first-nil p = refl
 
 -- ---- one mark
 
+-- token 5 means label 1; token 7, which means it too, is not its first use
+first-mark : markUse 7 1 (markUse 5 1 (0 ∷ 0 ∷ [])) ≡ 0 ∷ 5 ∷ []
+unfolding markUse ifLt ifEq
+first-mark = refl
+
 mark-here : (i j : ℕ) (u : List ℕ) → j < length u → getD (markUse i j u) j 0 ≡ orElse (getD u j 0) i
 unfolding markUse
 mark-here i j u h =
@@ -162,11 +167,11 @@ module _ (same : ℕ → ℕ → Bool) (t : List ℕ) (n : ℕ) (k y : List ℕ)
       elim (ℕ-discrete (kindAt t i) 3) [
         | yes e ↦ rw (ifEq-yes (i ∷ []) (ifEq (kindAt t i) 5 (i ∷ []) []) e) (subst (λ (z : Naming). Marks (i ∷ []) (x .uses) (z .uses)) (sym (ifEq-yes _ _ e)) (judged-marks i _ x))
         | no d ↦ elim (ℕ-discrete (kindAt t i) 5) [
-            | yes e ↦ rw (ifEq-no (i ∷ []) (ifEq (kindAt t i) 5 (i ∷ []) []) d, ifEq-yes (i ∷ []) [] e)
-                (subst (λ (z : Naming). Marks (i ∷ []) (x .uses) (z .uses)) (sym (ifEq-no _ _ d ∙ ifEq-yes _ _ e)) (judged-marks i _ x))
-            | no f ↦ rw (ifEq-no (i ∷ []) (ifEq (kindAt t i) 5 (i ∷ []) []) d, ifEq-no (i ∷ []) [] f)
-                (subst (λ (z : Naming). Marks [] (x .uses) (z .uses)) (sym (ifEq-no _ _ d ∙ ifEq-no _ _ f)) (no-marks (x .uses)))
-          ]
+          | yes e ↦ rw (ifEq-no (i ∷ []) (ifEq (kindAt t i) 5 (i ∷ []) []) d, ifEq-yes (i ∷ []) [] e)
+              (subst (λ (z : Naming). Marks (i ∷ []) (x .uses) (z .uses)) (sym (ifEq-no _ _ d ∙ ifEq-yes _ _ e)) (judged-marks i _ x))
+          | no f ↦ rw (ifEq-no (i ∷ []) (ifEq (kindAt t i) 5 (i ∷ []) []) d, ifEq-no (i ∷ []) [] f)
+              (subst (λ (z : Naming). Marks [] (x .uses) (z .uses)) (sym (ifEq-no _ _ d ∙ ifEq-no _ _ f)) (no-marks (x .uses)))
+        ]
       ]
 
   operands-marks : (left i : ℕ) (x : Naming) → Marks (operandNames left t i) (x .uses) (operandsPart left same t n k y l r i x .uses)

@@ -202,7 +202,7 @@ module _ (rows : List ℕ) (c top : ℕ) (h : c * 8 + 8 ≤ length rows) (l : to
           let u : made .up ≡ r .up = made-up ∙ ifTrue-yes _ _ e ∙ ap (λ (x : Row). x .up) q in
           let i : outer os ≡ cs = ap outer p ∙ tail-is o cs in (
             subst (λ (z : ℕ). Chain after z (ifTrue (leaves k) (outer os) os)) (sym u)
-            (subst (Chain after (r .up)) (sym (ifTrue-yes (outer os) os e ∙ i)) (chain-put rows c made h (r .up) cs (omega (arith, g .up)) y)),
+                (subst (Chain after (r .up)) (sym (ifTrue-yes (outer os) os e ∙ i)) (chain-put rows c made h (r .up) cs (omega (arith, g .up)) y)),
             omega (arith, u, g .up),
           )
 
@@ -239,8 +239,8 @@ module _ (rows : List ℕ) (c top : ℕ) (h : c * 8 + 8 ≤ length rows) (l : to
       enter e a =
           let i : ifTrue (enters (made .kind)) c (made .up) ≡ c = ifTrue-yes c (made .up) (ap enters made-kind ∙ e) in (
             subst (λ (z : ℕ). Chain after z (list os)) (sym i)
-            (subst (Chain after c) (sym (ifTrue-yes (opened (groundOf k) (ifEq k 1 n 0) ∷ closedBy k os) (ifEq k 5 (withLocal os) (closedBy k os)) e))
-            (within c (opened (groundOf k) (ifEq k 1 n 0)) (closedBy k os) made (put-same rows c made h) (opening os d b e (a .1)) (a .0))),
+                (subst (Chain after c) (sym (ifTrue-yes (opened (groundOf k) (ifEq k 1 n 0) ∷ closedBy k os) (ifEq k 5 (withLocal os) (closedBy k os)) e))
+                (within c (opened (groundOf k) (ifEq k 1 n 0)) (closedBy k os) made (put-same rows c made h) (opening os d b e (a .1)) (a .0))),
             omega (arith, i),
           )
 
@@ -256,7 +256,7 @@ module _ (rows : List ℕ) (c top : ℕ) (h : c * 8 + 8 ≤ length rows) (l : to
       pass e a =
           let i : ifTrue (enters (made .kind)) c (made .up) ≡ made .up = ifTrue-no c (made .up) (ap enters made-kind ∙ e) in (
             subst (λ (z : ℕ). Chain after z (list os)) (sym i)
-            (subst (Chain after (made .up)) (sym (ifTrue-no (opened (groundOf k) (ifEq k 1 n 0) ∷ closedBy k os) (ifEq k 5 (withLocal os) (closedBy k os)) e)) (passed (a .0))),
+                (subst (Chain after (made .up)) (sym (ifTrue-no (opened (groundOf k) (ifEq k 1 n 0) ∷ closedBy k os) (ifEq k 5 (withLocal os) (closedBy k os)) e)) (passed (a .0))),
             omega (arith, i, a .1),
           )
 

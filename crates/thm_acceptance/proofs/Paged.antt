@@ -621,10 +621,10 @@ module _ (t : List ℕ) (u : Span) (k : ℕ) (os : List Opened) (y : World) (a :
       elim (ℕ-discrete (rowsOf k) 0) [
         | yes e ↦ rw (kinds-0 t u k e, grow-0 t u k y e) (rw (all-none (operandCount u) os) (a .held), omega arith)
         | no d ↦ elim (ℕ-discrete (rowsOf k) 1) [
-            | yes e ↦ rw (kinds-1 t u k e, grow-1 t u k y e) (one e)
-            | no f ↦ let e : k ≡ 21 = two-rows k d f in
-                let r : rowsOf k ≡ 2 = ap rowsOf e ∙ rows-21 in rw (kinds-2 t u k r, grow-2 t u k y r) (two e r)
-          ]
+          | yes e ↦ rw (kinds-1 t u k e, grow-1 t u k y e) (one e)
+          | no f ↦ let e : k ≡ 21 = two-rows k d f in
+              let r : rowsOf k ≡ 2 = ap rowsOf e ∙ rows-21 in rw (kinds-2 t u k r, grow-2 t u k y r) (two e r)
+        ]
       ]
     where
       one : rowsOf k ≡ 1 → Grown (k ∷ []) (putKind k (u .word) (u .next) (operandCount u) y)
@@ -661,12 +661,12 @@ module _ (t : List ℕ) (u : Span) (k : ℕ) (os : List Opened) (y : World) (a :
         | yes e ↦ let q = no-rows k e in
             rw (kinds-0 t u k e, all-none (operandCount u) os, same-locals (q .0) (q .1) (q .2), same-depth (q .0) (q .3) (q .2)) (a .counted)
         | no d ↦ elim (ℕ-discrete (rowsOf k) 1) [
-            | yes e ↦ let l = one-row k e in
-                rw (kinds-1 t u k e, all-one (operandCount u) k os)
-                (next-counted (operandCount u) atop (y .state .locals) (y .state .depth) k (l .0) (kind-low (l .1)) os (a .fit (l .0) (kind-low (l .1))) (a .counted))
-            | no f ↦ let e : k ≡ 21 = two-rows k d f in
-                rw (kinds-2 t u k (ap rowsOf e ∙ rows-21), all-two (operandCount u) k (second t u k) os) (other e)
-          ]
+          | yes e ↦ let l = one-row k e in
+              rw (kinds-1 t u k e, all-one (operandCount u) k os)
+              (next-counted (operandCount u) atop (y .state .locals) (y .state .depth) k (l .0) (kind-low (l .1)) os (a .fit (l .0) (kind-low (l .1))) (a .counted))
+          | no f ↦ let e : k ≡ 21 = two-rows k d f in
+              rw (kinds-2 t u k (ap rowsOf e ∙ rows-21), all-two (operandCount u) k (second t u k) os) (other e)
+        ]
       ]
     where
       other : k ≡ 21 → Counted (openedBy (second t u k) (operandCount u) (openedBy k (operandCount u) os)) (localsBehind k (operandCount u) atop (y .state .locals)) (depthBehind k (y .state .depth))
@@ -802,11 +802,11 @@ module _ (w : Width) (t : List ℕ) (n : ℕ) where
       (elim (ℕ-discrete (lineKind t (unitAt t (y .state .at) .word)) 0) [
         | yes e ↦ (f, subst (EachFrom Fine (x w t n before y a ∷ before)) (sym (ifEq-yes [] (linesFrom left t (unitAt t (y .state .at) .next)) e)) tt)
         | no e ↦ (
-            f,
-            subst (EachFrom Fine (x w t n before y a ∷ before)) (sym (ifEq-no [] (linesFrom left t (unitAt t (y .state .at) .next)) e))
-            (subst (λ (i : ℕ). EachFrom Fine (x w t n before y a ∷ before) (linesFrom left t i)) (next-at t n y)
-            (clean-each left (x w t n before y a ∷ before) (nextWorld t n y) (agree-next w t n before y a f e) (subst Clean (ifEq-no [] (faultsFrom left w t n (nextWorld t n y)) e) (d .1)))),
-          )
+          f,
+          subst (EachFrom Fine (x w t n before y a ∷ before)) (sym (ifEq-no [] (linesFrom left t (unitAt t (y .state .at) .next)) e))
+              (subst (λ (i : ℕ). EachFrom Fine (x w t n before y a ∷ before) (linesFrom left t i)) (next-at t n y)
+              (clean-each left (x w t n before y a ∷ before) (nextWorld t n y) (agree-next w t n before y a f e) (subst Clean (ifEq-no [] (faultsFrom left w t n (nextWorld t n y)) e) (d .1)))),
+        )
       ])
 
   each-clean : (left : ℕ) (before : List Line) (y : World) → Agree t before y → EachFrom Fine before (linesFrom left t (y .state .at)) → Clean (faultsFrom left w t n y)
@@ -819,12 +819,12 @@ module _ (w : Width) (t : List ℕ) (n : ℕ) where
       (elim (ℕ-discrete (lineKind t (unitAt t (y .state .at) .word)) 0) [
         | yes e ↦ (fine-clean w t n before y a f, subst Clean (sym (ifEq-yes [] (faultsFrom left w t n (nextWorld t n y)) e)) tt)
         | no e ↦ (
-            fine-clean w t n before y a f,
-            subst Clean (sym (ifEq-no [] (faultsFrom left w t n (nextWorld t n y)) e))
-            (each-clean left (x w t n before y a ∷ before) (nextWorld t n y) (agree-next w t n before y a f e)
-            (subst (λ (i : ℕ). EachFrom Fine (x w t n before y a ∷ before) (linesFrom left t i)) (sym (next-at t n y))
-            (subst (EachFrom Fine (x w t n before y a ∷ before)) (ifEq-no [] (linesFrom left t (unitAt t (y .state .at) .next)) e) (d .1)))),
-          )
+          fine-clean w t n before y a f,
+          subst Clean (sym (ifEq-no [] (faultsFrom left w t n (nextWorld t n y)) e))
+              (each-clean left (x w t n before y a ∷ before) (nextWorld t n y) (agree-next w t n before y a f e)
+              (subst (λ (i : ℕ). EachFrom Fine (x w t n before y a ∷ before) (linesFrom left t i)) (sym (next-at t n y))
+              (subst (EachFrom Fine (x w t n before y a ∷ before)) (ifEq-no [] (linesFrom left t (unitAt t (y .state .at) .next)) e) (d .1)))),
+        )
       ])
 
   begin-agree : Agree t [] (world begin (zeros 8200))
