@@ -18,7 +18,7 @@ use Rattle.parse_units.specs.Parse.{World, world, putState, putKind, localsBehi
 use Rattle.parse_units.specs.declared.Row.{Row}
 use Rattle.parse_units.specs.declared.State.{State}
 use Rattle.thm_line_rows.proofs.Puts.{put-before, put-same, length-put}
-use Rattle.thm_acceptance.specs.Lines.{Opened, opened, outer, withLocal, closedBy, openedBy, localsIn, blocksIn}
+use Rattle.thm_acceptance.specs.Lines.{Level, level, outer, withLocal, closedBy, openedBy, localsIn, blocksIn}
 
 -- ---- facts of kinds, computed
 
@@ -94,7 +94,7 @@ at-5 = (refl, refl)
 -- ---- what is open
 
 -- a row m of the outline that is o, open within os
-pub record Link (r : Row) (m : ℕ) (o : Opened) (os : List Opened) : Type 0 where
+pub record Link (r : Row) (m : ℕ) (o : Level) (os : List Level) : Type 0 where
   pub ground : groundOf (r .kind) ≡ o .ground
   pub high : 4 ≤ o .ground
   pub before : o .ground ≡ 5 → r .before ≡ localsIn os
@@ -103,48 +103,48 @@ pub record Link (r : Row) (m : ℕ) (o : Opened) (os : List Opened) : Type 0 whe
   pub some : 1 ≤ m
   pub up : r .up < m
 
-pub data Chain (rows : List ℕ) : ℕ → List Opened → Type 0 where
+pub data Chain (rows : List ℕ) : ℕ → List Level → Type 0 where
   closed : Chain rows 0 []
-  within : (m : ℕ) (o : Opened) (os : List Opened) (r : Row) → rowAt rows m ≡ r → Link r m o os → Chain rows (r .up) os → Chain rows m (o ∷ os)
+  within : (m : ℕ) (o : Level) (os : List Level) (r : Row) → rowAt rows m ≡ r → Link r m o os → Chain rows (r .up) os → Chain rows m (o ∷ os)
 
 -- a row put behind them changes nothing
-chain-put : (rows : List ℕ) (c : ℕ) (r : Row) → c * 8 + 8 ≤ length rows → (m : ℕ) (os : List Opened) → m < c → Chain rows m os → Chain (putRow rows c r) m os
+chain-put : (rows : List ℕ) (c : ℕ) (r : Row) → c * 8 + 8 ≤ length rows → (m : ℕ) (os : List Level) → m < c → Chain rows m os → Chain (putRow rows c r) m os
 chain-put rows c r h m os l closed = closed
 chain-put rows c r h m os l (within a o bs q e k ch) =
     within a o bs q (put-before rows c r h a l ∙ e) k (chain-put rows c r h (q .up) bs (omega (arith, k .up)) ch)
 
 -- ---- what the ground of a line says: nothing is open, or something
 
-pub data Somewhere (rows : List ℕ) (m : ℕ) : List Opened → Type 0 where
+pub data Somewhere (rows : List ℕ) (m : ℕ) : List Level → Type 0 where
   nowhere : m ≡ 0 → Somewhere rows m []
-  somewhere : (o : Opened) (os : List Opened) (r : Row) → rowAt rows m ≡ r → Link r m o os → Chain rows (r .up) os → Somewhere rows m (o ∷ os)
+  somewhere : (o : Level) (os : List Level) (r : Row) → rowAt rows m ≡ r → Link r m o os → Chain rows (r .up) os → Somewhere rows m (o ∷ os)
 
-pub where-is : (rows : List ℕ) (m : ℕ) (os : List Opened) → Chain rows m os → Somewhere rows m os
+pub where-is : (rows : List ℕ) (m : ℕ) (os : List Level) → Chain rows m os → Somewhere rows m os
 where-is rows m os closed = nowhere refl
 where-is rows m os (within a o bs q e k ch) = somewhere o bs q e k ch
 
-tail-is : (o : Opened) (os : List Opened) → outer (o ∷ os) ≡ os
+tail-is : (o : Level) (os : List Level) → outer (o ∷ os) ≡ os
 unfolding outer
 tail-is o os = refl
 
 -- ---- one row more
 
 -- the innermost is a function or a block
-abbrev pub Frame : List Opened → Type 0
+abbrev pub Frame : List Level → Type 0
 Frame [] = ⊥
 Frame (o ∷ os) = o .ground < 6
 
 -- the parser's count is that of what is open; with nothing open it counts nothing
-abbrev pub LocalsAre : List Opened → ℕ → Type 0
+abbrev pub LocalsAre : List Level → ℕ → Type 0
 LocalsAre [] v = Unit {0}
 LocalsAre (o ∷ os) v = v ≡ localsIn (o ∷ os)
 
 -- one local more
-chain-local : (rows : List ℕ) (m : ℕ) (os : List Opened) → Frame os → Chain rows m os → Chain rows m (withLocal os)
+chain-local : (rows : List ℕ) (m : ℕ) (os : List Level) → Frame os → Chain rows m os → Chain rows m (withLocal os)
 unfolding withLocal
 chain-local rows m os f closed = absurd f
 chain-local rows m os f (within a o bs q e k ch) =
-    within a (opened (o .ground) (suc (o .locals))) bs q e (record {
+    within a (level (o .ground) (suc (o .locals))) bs q e (record {
       ground = k .ground;
       high = k .high;
       before = k .before;
@@ -154,12 +154,12 @@ chain-local rows m os f (within a o bs q e k ch) =
       up = k .up;
     }) ch
 
-closed-stay : (k : ℕ) (os : List Opened) → leaves k ≡ false → closedBy k os ≡ os
+closed-stay : (k : ℕ) (os : List Level) → leaves k ≡ false → closedBy k os ≡ os
 unfolding closedBy
 closed-stay k os e = ifTrue-no (outer os) os e
 
 -- what a statement of kind k needs of what is open
-pub record Needs (k : ℕ) (os : List Opened) : Type 0 where
+pub record Needs (k : ℕ) (os : List Level) : Type 0 where
   pub low : k < 36
   -- what closes something has something to close
   pub leaving : leaves k ≡ true → os ≡ [] → ⊥
@@ -185,7 +185,7 @@ module _ (rows : List ℕ) (c top : ℕ) (h : c * 8 + 8 ≤ length rows) (l : to
   made-up = refl
 
   -- around the row: what is open behind what it closes
-  around : (os : List Opened) → Needs k os → Chain rows top os → Chain after (made .up) (closedBy k os) × (made .up < c)
+  around : (os : List Level) → Needs k os → Chain rows top os → Chain after (made .up) (closedBy k os) × (made .up < c)
   unfolding closedBy
   around os d ch = by (leaves k) refl (where-is rows top os ch)
     where
@@ -196,7 +196,7 @@ module _ (rows : List ℕ) (c top : ℕ) (h : c * 8 + 8 ≤ length rows) (l : to
             omega (arith, u),
           )
 
-      leave : (bs : List Opened) → os ≡ bs → leaves k ≡ true → Somewhere rows top bs → Chain after (made .up) (ifTrue (leaves k) (outer os) os) × (made .up < c)
+      leave : (bs : List Level) → os ≡ bs → leaves k ≡ true → Somewhere rows top bs → Chain after (made .up) (ifTrue (leaves k) (outer os) os) × (made .up < c)
       leave bs p e (nowhere z) = absurd (d .leaving e p)
       leave bs p e (somewhere o cs r q g y) =
           let u : made .up ≡ r .up = made-up ∙ ifTrue-yes _ _ e ∙ ap (λ (x : Row). x .up) q in
@@ -211,7 +211,7 @@ module _ (rows : List ℕ) (c top : ℕ) (h : c * 8 + 8 ≤ length rows) (l : to
       by false e y = stay e
 
   -- the row itself, where it opens something
-  opening : (os : List Opened) → Needs k os → (k ≡ 3 → before ≡ localsIn os) → enters k ≡ true → made .up < c → Link made c (opened (groundOf k) (ifEq k 1 n 0)) (closedBy k os)
+  opening : (os : List Level) → Needs k os → (k ≡ 3 → before ≡ localsIn os) → enters k ≡ true → made .up < c → Link made c (level (groundOf k) (ifEq k 1 n 0)) (closedBy k os)
   unfolding closedBy
   opening os d b e u =
       record {
@@ -226,11 +226,11 @@ module _ (rows : List ℕ) (c top : ℕ) (h : c * 8 + 8 ≤ length rows) (l : to
         up = u;
       }
 
-  abbrev list : List Opened → List Opened
-  list os = ifTrue (enters k) (opened (groundOf k) (ifEq k 1 n 0) ∷ closedBy k os) (ifEq k 5 (withLocal os) (closedBy k os))
+  abbrev list : List Level → List Level
+  list os = ifTrue (enters k) (level (groundOf k) (ifEq k 1 n 0) ∷ closedBy k os) (ifEq k 5 (withLocal os) (closedBy k os))
 
   -- behind the row
-  pub chain-more : (os : List Opened) → Needs k os → (k ≡ 5 → Frame os) → (k ≡ 3 → before ≡ localsIn os) → Chain rows top os
+  pub chain-more : (os : List Level) → Needs k os → (k ≡ 5 → Frame os) → (k ≡ 3 → before ≡ localsIn os) → Chain rows top os
       → Chain after (behind c made) (openedBy k n os) × (behind c made < c + 1)
   unfolding openedBy behind
   chain-more os d f b ch = by (enters k) refl (around os d ch)
@@ -239,8 +239,8 @@ module _ (rows : List ℕ) (c top : ℕ) (h : c * 8 + 8 ≤ length rows) (l : to
       enter e a =
           let i : ifTrue (enters (made .kind)) c (made .up) ≡ c = ifTrue-yes c (made .up) (ap enters made-kind ∙ e) in (
             subst (λ (z : ℕ). Chain after z (list os)) (sym i)
-                (subst (Chain after c) (sym (ifTrue-yes (opened (groundOf k) (ifEq k 1 n 0) ∷ closedBy k os) (ifEq k 5 (withLocal os) (closedBy k os)) e))
-                (within c (opened (groundOf k) (ifEq k 1 n 0)) (closedBy k os) made (put-same rows c made h) (opening os d b e (a .1)) (a .0))),
+                (subst (Chain after c) (sym (ifTrue-yes (level (groundOf k) (ifEq k 1 n 0) ∷ closedBy k os) (ifEq k 5 (withLocal os) (closedBy k os)) e))
+                (within c (level (groundOf k) (ifEq k 1 n 0)) (closedBy k os) made (put-same rows c made h) (opening os d b e (a .1)) (a .0))),
             omega (arith, i),
           )
 
@@ -256,7 +256,7 @@ module _ (rows : List ℕ) (c top : ℕ) (h : c * 8 + 8 ≤ length rows) (l : to
       pass e a =
           let i : ifTrue (enters (made .kind)) c (made .up) ≡ made .up = ifTrue-no c (made .up) (ap enters made-kind ∙ e) in (
             subst (λ (z : ℕ). Chain after z (list os)) (sym i)
-                (subst (Chain after (made .up)) (sym (ifTrue-no (opened (groundOf k) (ifEq k 1 n 0) ∷ closedBy k os) (ifEq k 5 (withLocal os) (closedBy k os)) e)) (passed (a .0))),
+                (subst (Chain after (made .up)) (sym (ifTrue-no (level (groundOf k) (ifEq k 1 n 0) ∷ closedBy k os) (ifEq k 5 (withLocal os) (closedBy k os)) e)) (passed (a .0))),
             omega (arith, i, a .1),
           )
 
@@ -266,16 +266,16 @@ module _ (rows : List ℕ) (c top : ℕ) (h : c * 8 + 8 ≤ length rows) (l : to
 
 -- ---- locals and blocks
 
-pub record Counted (os : List Opened) (v d : ℕ) : Type 0 where
+pub record Counted (os : List Level) (v d : ℕ) : Type 0 where
   pub locals : LocalsAre os v
   pub depth : d ≡ blocksIn os
 
-abbrev pub Head : (Opened → List Opened → Type 0) → List Opened → Type 0
+abbrev pub Head : (Level → List Level → Type 0) → List Level → Type 0
 Head P [] = ⊥
 Head P (o ∷ os) = P o os
 
 -- what the ground of a statement of kind k says of what is open; b is the locals before the innermost
-pub record Fit (k b : ℕ) (os : List Opened) : Type 0 where
+pub record Fit (k b : ℕ) (os : List Level) : Type 0 where
   pub alone : k ≡ 1 → os ≡ []
   pub frame : k ≡ 5 → Frame os
   pub some : (k ≡ 1 → ⊥) → Head (λ o bs. Unit {0}) os
@@ -283,75 +283,75 @@ pub record Fit (k b : ℕ) (os : List Opened) : Type 0 where
   pub block : k ≡ 4 → Head (λ o bs. (o .ground ≡ 5) × (b ≡ localsIn bs)) os
   pub arm : 20 ≤ k → Head (λ o bs. (6 ≤ o .ground) × (o .locals ≡ 0)) os
 
-blocks-skip : (o : Opened) (os : List Opened) → (o .ground ≡ 5 → ⊥) → blocksIn (o ∷ os) ≡ blocksIn os
+blocks-skip : (o : Level) (os : List Level) → (o .ground ≡ 5 → ⊥) → blocksIn (o ∷ os) ≡ blocksIn os
 unfolding blocksIn
 blocks-skip o os d = ifEq-no _ _ d
 
-blocks-more : (o : Opened) (os : List Opened) → o .ground ≡ 5 → blocksIn (o ∷ os) ≡ suc (blocksIn os)
+blocks-more : (o : Level) (os : List Level) → o .ground ≡ 5 → blocksIn (o ∷ os) ≡ suc (blocksIn os)
 unfolding blocksIn
 blocks-more o os d = ifEq-yes _ _ d
 
-locals-cons : (o : Opened) (os : List Opened) → localsIn (o ∷ os) ≡ o .locals + localsIn os
+locals-cons : (o : Level) (os : List Level) → localsIn (o ∷ os) ≡ o .locals + localsIn os
 unfolding localsIn
 locals-cons o os = refl
 
 module _ (n b locals depth : ℕ) where
   -- a test, a block
-  arm-more : (g : ℕ) (os : List Opened) → (g ≡ 5 → ⊥) → Head (λ o bs. Unit {0}) os → Counted os locals depth → Counted (opened g 0 ∷ os) locals depth
+  arm-more : (g : ℕ) (os : List Level) → (g ≡ 5 → ⊥) → Head (λ o bs. Unit {0}) os → Counted os locals depth → Counted (level g 0 ∷ os) locals depth
   arm-more g [] d s c = absurd s
   arm-more g (o ∷ os) d s c =
       record {
-        locals = omega (arith, c .locals, locals-cons (opened g 0) (o ∷ os));
-        depth = c .depth ∙ sym (blocks-skip (opened g 0) (o ∷ os) d);
+        locals = omega (arith, c .locals, locals-cons (level g 0) (o ∷ os));
+        depth = c .depth ∙ sym (blocks-skip (level g 0) (o ∷ os) d);
       }
 
-  block-more : (os : List Opened) → Head (λ o bs. Unit {0}) os → Counted os locals depth → Counted (opened 5 0 ∷ os) locals (depth + 1)
+  block-more : (os : List Level) → Head (λ o bs. Unit {0}) os → Counted os locals depth → Counted (level 5 0 ∷ os) locals (depth + 1)
   block-more [] s c = absurd s
   block-more (o ∷ os) s c =
       record {
-        locals = omega (arith, c .locals, locals-cons (opened 5 0) (o ∷ os));
-        depth = omega (arith, c .depth, blocks-more (opened 5 0) (o ∷ os) refl);
+        locals = omega (arith, c .locals, locals-cons (level 5 0) (o ∷ os));
+        depth = omega (arith, c .depth, blocks-more (level 5 0) (o ∷ os) refl);
       }
 
-  function-more : (os : List Opened) → os ≡ [] → Counted (opened 4 n ∷ os) n 0
+  function-more : (os : List Level) → os ≡ [] → Counted (level 4 n ∷ os) n 0
   unfolding localsIn blocksIn ifEq
-  function-more os e = subst (λ (x : List Opened). Counted (opened 4 n ∷ x) n 0) (sym e) (record { locals = omega arith; depth = refl })
+  function-more os e = subst (λ (x : List Level). Counted (level 4 n ∷ x) n 0) (sym e) (record { locals = omega arith; depth = refl })
 
-  local-more : (os : List Opened) → Frame os → Counted os locals depth → Counted (withLocal os) (locals + 1) depth
+  local-more : (os : List Level) → Frame os → Counted os locals depth → Counted (withLocal os) (locals + 1) depth
   unfolding withLocal
   local-more [] f c = absurd f
   local-more (o ∷ os) f c =
       record {
-        locals = omega (arith, c .locals, locals-cons o os, locals-cons (opened (o .ground) (suc (o .locals))) os);
+        locals = omega (arith, c .locals, locals-cons o os, locals-cons (level (o .ground) (suc (o .locals))) os);
         depth = c .depth ∙ same os;
       }
     where
-      same : (os : List Opened) → blocksIn (o ∷ os) ≡ blocksIn (opened (o .ground) (suc (o .locals)) ∷ os)
+      same : (os : List Level) → blocksIn (o ∷ os) ≡ blocksIn (level (o .ground) (suc (o .locals)) ∷ os)
       same os =
           elim (ℕ-discrete (o .ground) 5) [
-            | yes e ↦ blocks-more o os e ∙ sym (blocks-more (opened (o .ground) (suc (o .locals))) os e)
-            | no e ↦ blocks-skip o os e ∙ sym (blocks-skip (opened (o .ground) (suc (o .locals))) os e)
+            | yes e ↦ blocks-more o os e ∙ sym (blocks-more (level (o .ground) (suc (o .locals))) os e)
+            | no e ↦ blocks-skip o os e ∙ sym (blocks-skip (level (o .ground) (suc (o .locals))) os e)
           ]
 
-  locals-of : (os : List Opened) → (v : ℕ) → v ≡ localsIn os → LocalsAre os v
+  locals-of : (os : List Level) → (v : ℕ) → v ≡ localsIn os → LocalsAre os v
   locals-of [] v e = tt
   locals-of (o ∷ os) v e = e
 
-  block-less : (os : List Opened) → Head (λ o bs. (o .ground ≡ 5) × (b ≡ localsIn bs)) os → Counted os locals depth → Counted (outer os) b (depth - 1)
+  block-less : (os : List Level) → Head (λ o bs. (o .ground ≡ 5) × (b ≡ localsIn bs)) os → Counted os locals depth → Counted (outer os) b (depth - 1)
   unfolding outer
   block-less [] f c = absurd f
   block-less (o ∷ os) f c = record { locals = locals-of os b (f .1); depth = omega (arith, c .depth, blocks-more o os (f .0)) }
 
-  function-less : (os : List Opened) → Head (λ o bs. (o .ground ≡ 4) × (bs ≡ [])) os → Counted os locals depth → Counted (outer os) locals depth
+  function-less : (os : List Level) → Head (λ o bs. (o .ground ≡ 4) × (bs ≡ [])) os → Counted os locals depth → Counted (outer os) locals depth
   unfolding outer
   function-less [] f c = absurd f
   function-less (o ∷ os) f c =
       record {
-        locals = subst (λ (x : List Opened). LocalsAre x locals) (sym (f .1)) tt;
+        locals = subst (λ (x : List Level). LocalsAre x locals) (sym (f .1)) tt;
         depth = c .depth ∙ blocks-skip o os (λ e. let z : ⊥ = omega (arith, f .0) in z);
       }
 
-  arm-less : (os : List Opened) → Head (λ o bs. (6 ≤ o .ground) × (o .locals ≡ 0)) os → Counted os locals depth → Counted (outer os) locals depth
+  arm-less : (os : List Level) → Head (λ o bs. (6 ≤ o .ground) × (o .locals ≡ 0)) os → Counted os locals depth → Counted (outer os) locals depth
   unfolding outer
   arm-less [] f c = absurd f
   arm-less (o ∷ os) f c =
@@ -361,17 +361,17 @@ module _ (n b locals depth : ℕ) where
       }
 
   -- an arm in place of an arm
-  arm-other : (g : ℕ) (os : List Opened) → (g ≡ 5 → ⊥) → Head (λ o bs. (6 ≤ o .ground) × (o .locals ≡ 0)) os → Counted os locals depth → Counted (opened g 0 ∷ outer os) locals depth
+  arm-other : (g : ℕ) (os : List Level) → (g ≡ 5 → ⊥) → Head (λ o bs. (6 ≤ o .ground) × (o .locals ≡ 0)) os → Counted os locals depth → Counted (level g 0 ∷ outer os) locals depth
   unfolding outer
   arm-other g [] d f c = absurd f
   arm-other g (o ∷ os) d f c =
       record {
-        locals = omega (arith, c .locals, locals-cons o os, locals-cons (opened g 0) os, f .1);
-        depth = c .depth ∙ blocks-skip o os (λ e. let z : ⊥ = omega (arith, f .0) in z) ∙ sym (blocks-skip (opened g 0) os d);
+        locals = omega (arith, c .locals, locals-cons o os, locals-cons (level g 0) os, f .1);
+        depth = c .depth ∙ blocks-skip o os (λ e. let z : ⊥ = omega (arith, f .0) in z) ∙ sym (blocks-skip (level g 0) os d);
       }
 
   abbrev Next : ℕ → Type 0
-  Next k = (os : List Opened) → Fit k b os → Counted os locals depth → Counted (openedBy k n os) (localsBehind k n b locals) (depthBehind k depth)
+  Next k = (os : List Level) → Fit k b os → Counted os locals depth → Counted (openedBy k n os) (localsBehind k n b locals) (depthBehind k depth)
 
   -- kind by kind, computed; 0 and 21 make no row of their own
   nexts : Each (λ (k : ℕ). (k ≡ 0 → ⊥) → Next k) 23
@@ -382,7 +382,7 @@ module _ (n b locals depth : ℕ) where
   next-counted k l h = each-at (λ (k : ℕ). (k ≡ 0 → ⊥) → Next k) 23 k nexts h (λ e. let z : ⊥ = omega arith in z)
 
   abbrev Second : ℕ → Type 0
-  Second k = 14 ≤ k → (os : List Opened) → Fit 21 b os → Counted os locals depth
+  Second k = 14 ≤ k → (os : List Level) → Fit 21 b os → Counted os locals depth
       → Counted (openedBy k n (openedBy 21 n os)) (localsBehind 21 n b locals) (depthBehind 21 depth)
 
   seconds : Each Second 20
@@ -390,6 +390,6 @@ module _ (n b locals depth : ℕ) where
   seconds = ((((((((((((((((((((tt, λ l. let z : ⊥ = omega arith in absurd z), λ l. let z : ⊥ = omega arith in absurd z), λ l. let z : ⊥ = omega arith in absurd z), λ l. let z : ⊥ = omega arith in absurd z), λ l. let z : ⊥ = omega arith in absurd z), λ l. let z : ⊥ = omega arith in absurd z), λ l. let z : ⊥ = omega arith in absurd z), λ l. let z : ⊥ = omega arith in absurd z), λ l. let z : ⊥ = omega arith in absurd z), λ l. let z : ⊥ = omega arith in absurd z), λ l. let z : ⊥ = omega arith in absurd z), λ l. let z : ⊥ = omega arith in absurd z), λ l. let z : ⊥ = omega arith in absurd z), λ l. let z : ⊥ = omega arith in absurd z), λ l os f c. arm-other 6 os (λ e. let z : ⊥ = omega arith in z) (f .arm (omega arith)) c), λ l os f c. arm-other 6 os (λ e. let z : ⊥ = omega arith in z) (f .arm (omega arith)) c), λ l os f c. arm-other 6 os (λ e. let z : ⊥ = omega arith in z) (f .arm (omega arith)) c), λ l os f c. arm-other 6 os (λ e. let z : ⊥ = omega arith in z) (f .arm (omega arith)) c), λ l os f c. arm-other 6 os (λ e. let z : ⊥ = omega arith in z) (f .arm (omega arith)) c), λ l os f c. arm-other 6 os (λ e. let z : ⊥ = omega arith in z) (f .arm (omega arith)) c)
 
   -- an `else if..` line: its jump closes the arm, its test opens one
-  pub else-if-counted : (k : ℕ) (os : List Opened) → 14 ≤ k → k < 20 → Fit 21 b os → Counted os locals depth
+  pub else-if-counted : (k : ℕ) (os : List Level) → 14 ≤ k → k < 20 → Fit 21 b os → Counted os locals depth
       → Counted (openedBy k n (openedBy 21 n os)) (localsBehind 21 n b locals) (depthBehind 21 depth)
   else-if-counted k os l h f c = each-at Second 20 k seconds h l os f c

@@ -40,8 +40,8 @@ use Rattle.parse_verdict.proofs.Decided as decided
 use Rattle.thm_line_rows.proofs.Puts.{length-put}
 use Rattle.thm_line_rows.proofs.Words.{Says, line-says, test-kind}
 use Rattle.thm_label_rows.proofs.Unit.{line-low}
-use Rattle.thm_acceptance.specs.Lines.{Line, lineFrom, linesFrom, linesOf, EachFrom, EachLine, statementsIn, statementsBefore, labelsAmong, labelsIn, labelsBefore, Opened, opened, openedBy, openedByAll, openBefore, localsIn, blocksIn, sectionBefore, groundAmong, groundBefore}
-use Rattle.thm_acceptance.specs.LineRules.{Silent, Shaped, Worded, Placed, Labelled as MayLabel, LabelsNamed, NotLeftOut, FewStatements, FewLabels, FewLocals, FewBlocks, FewArguments}
+use Rattle.thm_acceptance.specs.Lines.{Line, lineFrom, linesFrom, linesOf, EachFrom, EachLine, statementKinds, statementsBefore, labelsAmong, labelCount, labelsBefore, Level, level, openedBy, openedByAll, openBefore, localsIn, blocksIn, sectionBefore, groundAmong, groundBefore}
+use Rattle.thm_acceptance.specs.LineRules.{Silent, Shaped, Worded, Placed, MayBeLabelled, LabelsNamed, NotLeftOut, FewStatements, FewLabels, FewLocals, FewBlocks, FewArguments}
 use Rattle.thm_acceptance.proofs.Opens.{leaves-high, Link, Chain, closed, within, Somewhere, nowhere, somewhere, where-is, Frame, LocalsAre, Needs, chain-more, Counted, Head, Fit, next-counted, else-if-counted}
 
 -- ---- a rule that finds nothing
@@ -317,7 +317,7 @@ pub record LineFine (w : Width) (t : List ℕ) (n : ℕ) (before : List Line) (x
   pub shaped : Shaped w t n before x
   pub worded : Worded w t n before x
   pub placed : Placed w t n before x
-  pub labelled : MayLabel w t n before x
+  pub labelled : MayBeLabelled w t n before x
   pub named : LabelsNamed w t n before x
   pub kept : NotLeftOut w t n before x
   pub statements : FewStatements w t n before x
@@ -347,7 +347,7 @@ section-low (x ∷ before) =
     either-eq (λ (g : ℕ). g ≤ 3) (x .kind) 32 _ _ (λ _. omega arith) (λ _.
     either-eq (λ (g : ℕ). g ≤ 3) (x .kind) 33 _ _ (λ _. omega arith) (λ _. r))))
 
-ground-some : (rows : List ℕ) (m section : ℕ) (os : List Opened) → Somewhere rows m os → ifEq m 0 section (groundOf (rowAt rows m .kind)) ≡ groundAmong section os
+ground-some : (rows : List ℕ) (m section : ℕ) (os : List Level) → Somewhere rows m os → ifEq m 0 section (groundOf (rowAt rows m .kind)) ≡ groundAmong section os
 unfolding groundAmong
 ground-some rows m section os (nowhere z) = ifEq-yes _ _ z
 ground-some rows m section os (somewhere o bs r e k ch) =
@@ -361,7 +361,7 @@ module _ (t : List ℕ) (before : List Line) (y : World) (a : Agree t before y) 
       ∙ ground-some (y .table) (y .state .top) (sectionBefore before) (openBefore t before) (where-is (y .table) (y .state .top) (openBefore t before) (a .chain))
 
 -- what is open where a kind stands
-ground-empty : (section : ℕ) (os : List Opened) → os ≡ [] → groundAmong section os ≡ section
+ground-empty : (section : ℕ) (os : List Level) → os ≡ [] → groundAmong section os ≡ section
 unfolding groundAmong
 ground-empty section os e = ap (groundAmong section) e
 
@@ -422,12 +422,12 @@ high-at : (k j : ℕ) → k ≡ j → standsIn k .hi ≡ standsIn j .hi
 high-at k j e = ap (λ (i : ℕ). standsIn i .hi) e
 
 module _ (rows : List ℕ) (m section k : ℕ) (low : section ≤ 3) where
-  alone-is : (os : List Opened) → Somewhere rows m os → groundAmong section os < 2 → os ≡ []
+  alone-is : (os : List Level) → Somewhere rows m os → groundAmong section os < 2 → os ≡ []
   unfolding groundAmong
   alone-is os (nowhere z) l = refl
   alone-is os (somewhere o bs r e x ch) l = let z : ⊥ = omega (arith, x .high) in absurd z
 
-  stands-needs : (os : List Opened) → Somewhere rows m os → k < 36 → standsOn (groundAmong section os) k ≡ true → Needs k os
+  stands-needs : (os : List Level) → Somewhere rows m os → k < 36 → standsOn (groundAmong section os) k ≡ true → Needs k os
   stands-needs os s h e =
       let r = stands-range (groundAmong section os) k e in
       record {
@@ -437,7 +437,7 @@ module _ (rows : List ℕ) (m section k : ℕ) (low : section ≤ 3) where
       }
 
   module _ (l : 1 ≤ k) (h : k < 23) where
-    fit-is : (os : List Opened) → Somewhere rows m os → standsIn k .lo ≤ groundAmong section os → groundAmong section os < standsIn k .hi → Fit k (rowAt rows m .before) os
+    fit-is : (os : List Level) → Somewhere rows m os → standsIn k .lo ≤ groundAmong section os → groundAmong section os < standsIn k .hi → Fit k (rowAt rows m .before) os
     unfolding groundAmong
     fit-is os (nowhere z) a b =
         record {
@@ -467,12 +467,12 @@ module _ (rows : List ℕ) (m section k : ℕ) (low : section ≤ 3) where
 -- ---- rows put
 
 -- one row more: a world that holds what is open
-record Held (os : List Opened) (y : World) : Type 0 where
+record Held (os : List Level) (y : World) : Type 0 where
   pub long : length (y .table) ≡ 8200
   pub low : y .state .top < y .state .count
   pub chain : Chain (y .table) (y .state .top) os
 
-held-put : (k token next operands n : ℕ) (y : World) (os : List Opened) → y .state .count ≤ 1024 → Needs k os → (k ≡ 5 → Frame os) → (k ≡ 3 → y .state .locals ≡ localsIn os) → Held os y
+held-put : (k token next operands n : ℕ) (y : World) (os : List Level) → y .state .count ≤ 1024 → Needs k os → (k ≡ 5 → Frame os) → (k ≡ 3 → y .state .locals ≡ localsIn os) → Held os y
     → Held (openedBy k n os) (putKind k token next operands y) × (putKind k token next operands y .state .count ≡ y .state .count + 1)
 unfolding putKind putState
 held-put k token next operands n y os c d f b h =
@@ -498,7 +498,7 @@ test-stays k l h = not-true (leaves k) (imply (leb 14 k) (not (leaves k)) (under
     not-true true e = true-false (sym e)
     not-true false e = refl
 
-test-needs : (k : ℕ) (os : List Opened) → 14 ≤ k → k < 20 → Needs k os
+test-needs : (k : ℕ) (os : List Level) → 14 ≤ k → k < 20 → Needs k os
 test-needs k os l h =
     record {
       low = omega arith;
@@ -538,19 +538,19 @@ one-row k =
 
 -- ---- behind a line
 
-some-locals : (os : List Opened) (v : ℕ) → (os ≡ [] → ⊥) → LocalsAre os v → v ≡ localsIn os
+some-locals : (os : List Level) (v : ℕ) → (os ≡ [] → ⊥) → LocalsAre os v → v ≡ localsIn os
 some-locals [] v d c = absurd (d refl)
 some-locals (o ∷ os) v d c = c
 
-all-one : (n k : ℕ) (os : List Opened) → openedByAll n (k ∷ []) os ≡ openedBy k n os
+all-one : (n k : ℕ) (os : List Level) → openedByAll n (k ∷ []) os ≡ openedBy k n os
 unfolding openedByAll
 all-one n k os = refl
 
-all-two : (n k j : ℕ) (os : List Opened) → openedByAll n (k ∷ j ∷ []) os ≡ openedBy j n (openedBy k n os)
+all-two : (n k j : ℕ) (os : List Level) → openedByAll n (k ∷ j ∷ []) os ≡ openedBy j n (openedBy k n os)
 unfolding openedByAll
 all-two n k j os = refl
 
-all-none : (n : ℕ) (os : List Opened) → openedByAll n [] os ≡ os
+all-none : (n : ℕ) (os : List Level) → openedByAll n [] os ≡ os
 unfolding openedByAll
 all-none n os = refl
 
@@ -573,20 +573,20 @@ module _ (t : List ℕ) (u : Span) (k : ℕ) where
   unfolding growBy growTwo
   grow-2 y e = ifEq-no _ _ (λ z. let q : ⊥ = omega arith in q) ∙ ifEq-no _ _ (λ z. let q : ⊥ = omega arith in q)
 
-  kinds-0 : rowsOf k ≡ 0 → statementsIn t here ≡ []
-  unfolding statementsIn
+  kinds-0 : rowsOf k ≡ 0 → statementKinds t here ≡ []
+  unfolding statementKinds
   kinds-0 e = ifEq-yes _ _ e
 
-  kinds-1 : rowsOf k ≡ 1 → statementsIn t here ≡ k ∷ []
-  unfolding statementsIn
+  kinds-1 : rowsOf k ≡ 1 → statementKinds t here ≡ k ∷ []
+  unfolding statementKinds
   kinds-1 e = ifEq-no _ _ (λ z. let q : ⊥ = omega arith in q) ∙ ifEq-yes _ _ e
 
-  kinds-2 : rowsOf k ≡ 2 → statementsIn t here ≡ k ∷ second ∷ []
-  unfolding statementsIn
+  kinds-2 : rowsOf k ≡ 2 → statementKinds t here ≡ k ∷ second ∷ []
+  unfolding statementKinds
   kinds-2 e = ifEq-no _ _ (λ z. let q : ⊥ = omega arith in q) ∙ ifEq-no _ _ (λ z. let q : ⊥ = omega arith in q)
 
 -- what the state says of a line that breaks no rule
-record Here (t : List ℕ) (u : Span) (k : ℕ) (os : List Opened) (y : World) : Type 0 where
+record Here (t : List ℕ) (u : Span) (k : ℕ) (os : List Level) (y : World) : Type 0 where
   pub room : y .state .count + rowsOf k ≤ 1025
   pub kind : k ≡ lineKind t (u .word)
   pub some : k ≡ 0 → ⊥
@@ -595,7 +595,7 @@ record Here (t : List ℕ) (u : Span) (k : ℕ) (os : List Opened) (y : World) :
   pub counted : Counted os (y .state .locals) (y .state .depth)
   pub held : Held os y
 
-module _ (t : List ℕ) (u : Span) (k : ℕ) (os : List Opened) (y : World) (a : Here t u k os y) where
+module _ (t : List ℕ) (u : Span) (k : ℕ) (os : List Level) (y : World) (a : Here t u k os y) where
   kind-low : k < 25 → k < 23
   kind-low h = subst (λ (i : ℕ). i < 23) (sym (a .kind)) (line-says t (u .word) (subst (λ (i : ℕ). i < 25) (a .kind) h) (λ z. a .some (a .kind ∙ z)) .low)
 
@@ -608,7 +608,7 @@ module _ (t : List ℕ) (u : Span) (k : ℕ) (os : List Opened) (y : World) (a :
   frame-locals : k ≡ 3 → y .state .locals ≡ localsIn os
   frame-locals e = by os (a .fit (omega arith) (omega arith) .some (λ z. let q : ⊥ = omega arith in q)) (a .counted .locals)
     where
-      by : (bs : List Opened) → Head (λ o cs. Unit {0}) bs → LocalsAre bs (y .state .locals) → y .state .locals ≡ localsIn bs
+      by : (bs : List Level) → Head (λ o cs. Unit {0}) bs → LocalsAre bs (y .state .locals) → y .state .locals ≡ localsIn bs
       by [] f c = absurd f
       by (o ∷ cs) f c = c
 
@@ -616,7 +616,7 @@ module _ (t : List ℕ) (u : Span) (k : ℕ) (os : List Opened) (y : World) (a :
   abbrev Grown : List ℕ → World → Type 0
   Grown ks z = Held (openedByAll (operandCount u) ks os) z × (z .state .count ≡ y .state .count + rowsOf k)
 
-  grown : Grown (statementsIn t (here t u k)) (growBy (rowsOf k) t u k y)
+  grown : Grown (statementKinds t (here t u k)) (growBy (rowsOf k) t u k y)
   grown =
       elim (ℕ-discrete (rowsOf k) 0) [
         | yes e ↦ rw (kinds-0 t u k e, grow-0 t u k y e) (rw (all-none (operandCount u) os) (a .held), omega arith)
@@ -655,7 +655,7 @@ module _ (t : List ℕ) (u : Span) (k : ℕ) (os : List Opened) (y : World) (a :
   unfolding depthBehind
   same-depth a b c = ifEq-no _ _ a ∙ ifEq-no _ _ b ∙ ifEq-no _ _ c
 
-  after : After (statementsIn t (here t u k))
+  after : After (statementKinds t (here t u k))
   after =
       elim (ℕ-discrete (rowsOf k) 0) [
         | yes e ↦ let q = no-rows k e in
@@ -699,8 +699,8 @@ module _ (w : Width) (t : List ℕ) (n : ℕ) (before : List Line) (y : World) (
   locals-are : k ≡ 5 → standsOn (groundBefore t before) k ≡ true → y .state .locals ≡ localsIn (openBefore t before)
   locals-are e p = some-locals (openBefore t before) (y .state .locals) (os-some (omega arith) (omega arith) p) (a .counted .locals)
 
-  labels-in : labelsIn t x ≡ labelsAmong (u .word - u .first) t (u .first)
-  unfolding labelsIn
+  labels-in : labelCount t x ≡ labelsAmong (u .word - u .first) t (u .first)
+  unfolding labelCount
   labels-in = refl
 
   -- the parser finds nothing: no rule is broken
@@ -775,7 +775,7 @@ module _ (w : Width) (t : List ℕ) (n : ℕ) (before : List Line) (y : World) (
         few = omega (arith, f .labels);
       }
 
-lines-more : (left : ℕ) (t : List ℕ) (at : ℕ) → linesFrom (suc left) t at
+pub lines-more : (left : ℕ) (t : List ℕ) (at : ℕ) → linesFrom (suc left) t at
     ≡ record { unit = unitAt t at; kind = lineKind t (unitAt t at .word) } ∷ ifEq (lineKind t (unitAt t at .word)) 0 [] (linesFrom left t (unitAt t at .next))
 unfolding linesFrom lineFrom
 lines-more left t at = refl

@@ -15,7 +15,7 @@ use Rattle.lang_kinds.specs.Standing.{standsOn}
 use Rattle.parse_lines.specs.Tokens.{kindAt, wordAt}
 use Rattle.parse_rules.specs.Rules.{shapeRule, tokensRule, listRule, reservedLabel}
 use Rattle.parse_units.specs.Places.{mayLabel}
-use Rattle.thm_acceptance.specs.Lines.{Line, statementsBefore, labelsBefore, labelsIn, openBefore, localsIn, blocksIn, groundBefore}
+use Rattle.thm_acceptance.specs.Lines.{Line, statementsBefore, labelsBefore, labelCount, openBefore, localsIn, blocksIn, groundBefore}
 
 -- a rule finds nothing
 abbrev pub Silent : ℕ → Type 0
@@ -36,8 +36,8 @@ module _ (w : Width) (t : List ℕ) (n : ℕ) where
 
   -- 8: "A label names a data definition, group or `align` in data, a function in functions, or a statement inside a function ..;
   -- else, or at the source's end, refusal 8 at it"
-  abbrev pub Labelled : List Line → Line → Type 0
-  Labelled before x =
+  abbrev pub MayBeLabelled : List Line → Line → Type 0
+  MayBeLabelled before x =
       kindAt t (x .unit .first) ≡ token.label
       → mayLabel (groundBefore t before) (kindAt t (x .unit .word)) (wordAt t (x .unit .word)) ≡ true
 
@@ -55,7 +55,7 @@ module _ (w : Width) (t : List ℕ) (n : ℕ) where
 
   -- 14: "labels 256"
   abbrev pub FewLabels : List Line → Line → Type 0
-  FewLabels before x = labelsBefore t before + labelsIn t x ≤ limits.labels
+  FewLabels before x = labelsBefore t before + labelCount t x ≤ limits.labels
 
   -- 14: "locals in scope 64, parameters and shadowed ones included"
   abbrev pub FewLocals : List Line → Line → Type 0

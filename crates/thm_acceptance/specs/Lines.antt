@@ -45,8 +45,8 @@ EachLine t P = EachFrom P [] (linesOf t)
 -- ---- statements and labels
 
 -- "Statements are `function` to `end function`. An `else if..` line is two statements": their kinds
-unfoldable pub statementsIn : List ℕ → Line → List ℕ
-statementsIn t x =
+unfoldable pub statementKinds : List ℕ → Line → List ℕ
+statementKinds t x =
     ifEq (rowsOf (x .kind)) 0 []
     (ifEq (rowsOf (x .kind)) 1 (x .kind ∷ [])
     (x .kind ∷ kindOfWord (wordAt t (x .unit .word + 1)) ∷ []))
@@ -60,60 +60,60 @@ unfoldable pub labelsAmong : ℕ → List ℕ → ℕ → ℕ
 labelsAmong zero t i = 0
 labelsAmong (suc left) t i = ifEq (kindAt t i) token.label (suc (labelsAmong left t (i + 1))) (labelsAmong left t (i + 1))
 
-unfoldable pub labelsIn : List ℕ → Line → ℕ
-labelsIn t x = labelsAmong (x .unit .word - x .unit .first) t (x .unit .first)
+unfoldable pub labelCount : List ℕ → Line → ℕ
+labelCount t x = labelsAmong (x .unit .word - x .unit .first) t (x .unit .first)
 
 unfoldable pub labelsBefore : List ℕ → List Line → ℕ
 labelsBefore t [] = 0
-labelsBefore t (x ∷ before) = labelsBefore t before + labelsIn t x
+labelsBefore t (x ∷ before) = labelsBefore t before + labelCount t x
 
 -- ---- what is open
 
 -- a function, a block, or an `if` behind a test or a bare `else`: its ground, and the locals that are its own
-pub record Opened : Type 0 where
+pub record Level : Type 0 where
   pub ground : ℕ
   pub locals : ℕ
 
-abbrev pub opened : ℕ → ℕ → Opened
-opened g n = record { ground = g; locals = n }
+abbrev pub level : ℕ → ℕ → Level
+level g n = record { ground = g; locals = n }
 
 -- without the innermost
-unfoldable pub outer : List Opened → List Opened
+unfoldable pub outer : List Level → List Level
 outer [] = []
 outer (o ∷ os) = os
 
 -- one local more in the innermost
-unfoldable pub withLocal : List Opened → List Opened
+unfoldable pub withLocal : List Level → List Level
 withLocal [] = []
-withLocal (o ∷ os) = opened (o .ground) (suc (o .locals)) ∷ os
+withLocal (o ∷ os) = level (o .ground) (suc (o .locals)) ∷ os
 
 -- behind a statement of kind k of a line with n operand tokens: an `end` closes the innermost, `else` too; what is opened has a
 -- function's parameters as locals, or none
-unfoldable pub closedBy : ℕ → List Opened → List Opened
+unfoldable pub closedBy : ℕ → List Level → List Level
 closedBy k os = ifTrue (leaves k) (outer os) os
 
-unfoldable pub openedBy : ℕ → ℕ → List Opened → List Opened
+unfoldable pub openedBy : ℕ → ℕ → List Level → List Level
 openedBy k n os =
-    ifTrue (enters k) (opened (groundOf k) (ifEq k kind.function n 0) ∷ closedBy k os)
+    ifTrue (enters k) (level (groundOf k) (ifEq k kind.function n 0) ∷ closedBy k os)
     (ifEq k kind.letLocal (withLocal os)
     (closedBy k os))
 
-unfoldable pub openedByAll : ℕ → List ℕ → List Opened → List Opened
+unfoldable pub openedByAll : ℕ → List ℕ → List Level → List Level
 openedByAll n [] os = os
 openedByAll n (k ∷ ks) os = openedByAll n ks (openedBy k n os)
 
 -- innermost first
-unfoldable pub openBefore : List ℕ → List Line → List Opened
+unfoldable pub openBefore : List ℕ → List Line → List Level
 openBefore t [] = []
-openBefore t (x ∷ before) = openedByAll (operandCount (x .unit)) (statementsIn t x) (openBefore t before)
+openBefore t (x ∷ before) = openedByAll (operandCount (x .unit)) (statementKinds t x) (openBefore t before)
 
 -- "locals in scope .., parameters and shadowed ones included"
-unfoldable pub localsIn : List Opened → ℕ
+unfoldable pub localsIn : List Level → ℕ
 localsIn [] = 0
 localsIn (o ∷ os) = o .locals + localsIn os
 
 -- "blocks nested"
-unfoldable pub blocksIn : List Opened → ℕ
+unfoldable pub blocksIn : List Level → ℕ
 blocksIn [] = 0
 blocksIn (o ∷ os) = ifEq (o .ground) ground.inBlock (suc (blocksIn os)) (blocksIn os)
 
@@ -130,7 +130,7 @@ sectionBefore (x ∷ before) =
     (sectionBefore before))))
 
 -- what is open innermost, or the section
-unfoldable pub groundAmong : ℕ → List Opened → ℕ
+unfoldable pub groundAmong : ℕ → List Level → ℕ
 groundAmong section [] = section
 groundAmong section (o ∷ os) = o .ground
 
