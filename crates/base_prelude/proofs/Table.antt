@@ -1,12 +1,17 @@
 -- A rule of a table, proved at all of its entries by one test that is computed over the whole table.
 -- Assumes nothing.
-use mathlib.Core.Path.{_≡_, _∙_, subst, sym}
+use mathlib.Core.Path.{_≡_, refl, _∙_, subst, sym, ap}
 use mathlib.Core.Bool.{Bool, true, false}
 use mathlib.Core.List.{List, [], _∷_}
-use Prim.Native.Nat.{ℕ, zero, suc, _+_, _<_}
+use Prim.Native.Nat.{ℕ, zero, suc, _+_, _<_, _≤_}
 use native.Mathlib.Nat.{add-zero, zero-add, add-suc, suc-add, le-of-suc-le-suc, not-suc-le-zero}
-use lib.Dec.{T}
+use native.Mathlib.Decide.{ℕ-discrete}
+use native.Mathlib.Omega.{arith}
+use lib.Dec.{T, ltb}
 use lib.ListN.{length, getD}
+use borrow.Author.Tests.{ltb-true, ne-eqb}
+use Rattle.base_prelude.specs.Choice.{pick}
+use Rattle.base_prelude.specs.Lists.{isAmong}
 
 abbrev pub and : Bool → Bool → Bool
 and true b = b
@@ -35,3 +40,58 @@ module _ {A : Type 0} (d : A) where
   -- the test at place k of the table
   pub at : (f : ℕ → A → Bool) (xs : List A) → T (every f 0 xs) → (k : ℕ) → k < length xs → T (f k (getD xs k d))
   at f xs t k h = subst (λ (m : ℕ). T (f m (getD xs k d))) (zero-add k) (from f xs 0 t k h)
+
+-- ---- the numbers below a bound
+
+-- what holds of each of them
+abbrev pub Each : (ℕ → Type 0) → ℕ → Type 0
+Each P zero = Unit {0}
+Each P (suc n) = Each P n × P n
+
+pub each-at : (P : ℕ → Type 0) (n k : ℕ) → Each P n → k < n → P k
+each-at P zero k h l = let z : ⊥ = omega arith in absurd z
+each-at P (suc n) k h l = elim (ℕ-discrete k n) [ yes e ↦ subst P (sym e) (h .1) | no e ↦ each-at P n k (h .0) (omega arith) ]
+
+-- a test of each of them
+abbrev pub under : (ℕ → Bool) → ℕ → Bool
+under p zero = true
+under p (suc n) = and (under p n) (p n)
+
+pub under-at : (p : ℕ → Bool) (n k : ℕ) → T (under p n) → k < n → T (p k)
+under-at p zero k h l = let z : ⊥ = omega arith in absurd z
+under-at p (suc n) k h l =
+    elim (ℕ-discrete k n) [
+      | yes e ↦ subst (λ (m : ℕ). T (p m)) (sym e) (and-right (under p n) (p n) h)
+      | no e ↦ under-at p n k (and-left (under p n) (p n) h) (omega arith)
+    ]
+
+-- two tests agree
+abbrev pub agree : Bool → Bool → Bool
+agree true b = b
+agree false true = false
+agree false false = true
+
+pub agree-is : (a b : Bool) → T (agree a b) → a ≡ b
+agree-is true true t = refl
+agree-is true false t = absurd t
+agree-is false true t = absurd t
+agree-is false false t = refl
+
+-- ---- lists of numbers below a bound
+
+abbrev pub low : ℕ → List ℕ → Bool
+low m [] = true
+low m (x ∷ xs) = and (ltb x m) (low m xs)
+
+-- a number from the bound on stands in none of them
+pub among-past : (m k : ℕ) (xs : List ℕ) → T (low m xs) → m ≤ k → isAmong k xs ≡ false
+unfolding isAmong
+among-past m k [] t h = refl
+among-past m k (x ∷ xs) t h =
+    let l : x < m = ltb-true x m (true-is (ltb x m) (and-left (ltb x m) (low m xs) t)) in
+    ap (λ (b : Bool). pick b true (isAmong k xs)) (ne-eqb k x (λ e. let z : ⊥ = omega arith in z))
+    ∙ among-past m k xs (and-right (ltb x m) (low m xs) t) h
+  where
+    true-is : (b : Bool) → T b → b ≡ true
+    true-is true t = refl
+    true-is false t = absurd t

@@ -1,4 +1,4 @@
--- Lists of numbers: whether two are the same, where one stands first in a list of them, and a table cleared from a place on.
+-- Lists of numbers: whether two are the same, whether a number stands in one, and a table cleared from a place on.
 -- Assumes nothing.
 use Prim.Native.Nat.{ℕ, _+_, _-_}
 use mathlib.Core.Bool.{Bool, true, false}
@@ -13,6 +13,11 @@ sameList [] [] = true
 sameList [] (y ∷ ys) = false
 sameList (x ∷ xs) [] = false
 sameList (x ∷ xs) (y ∷ ys) = pick (eqb x y) (sameList xs ys) false
+
+-- the number is one of the list
+unfoldable pub isAmong : ℕ → List ℕ → Bool
+isAmong k [] = false
+isAmong k (x ∷ xs) = pick (eqb k x) true (isAmong k xs)
 
 abbrev pub zeros : ℕ → List ℕ
 zeros n = replicate n 0

@@ -5,6 +5,8 @@ use check_judge::Counts;
 use parse_outline::Outline;
 use prog_tables::Table;
 ghost use mathlib.Core.Path.{_≡_};
+ghost use Rattle.prog_tables.specs.Layout.{labelRow, statementRow};
+ghost use Rattle.base_limits.specs.Limits as limits;
 ghost use Prim.Native.Nat.{_*_, _≤_};
 ghost use lib.ListN.{length};
 ghost use Rattle.base_prelude.specs.Lists.{zeros};
@@ -62,7 +64,7 @@ fn fill_names(
     labels: &mut [u32],
     names: &mut [u8],
 )
-    requires { ⌜ (l * 4 ≤ length (now labels)) × (l * 64 ≤ length (now names)) ⌝ }
+    requires { ⌜ (l * labelRow ≤ length (now labels)) × (l * limits.nameBytes ≤ length (now names)) ⌝ }
     ensures { λ _. ⌜ (now (labels .exit) ≡ labelTable w (now (t .entry)) (now (y .entry)) (now (flags .entry)) l (zeros (length (now (labels .entry))))) × (now (names .exit) ≡ nameTable (now (s .entry)) (now (t .entry)) (now (y .entry)) l (zeros (length (now (names .entry))))) ⌝ }
 {
     clear_words(labels);
@@ -71,7 +73,7 @@ fn fill_names(
 }
 
 fn fill_rows(t: &[u32], k: &[u32], y: &[u32], l: u32, z: &[u32], c: u32, statements: &mut [u32])
-    requires { ⌜ (c ≤ 1024) × (c * 27 ≤ length (now statements)) ⌝ }
+    requires { ⌜ (c ≤ limits.statements) × (c * statementRow ≤ length (now statements)) ⌝ }
     ensures { λ _. ⌜ now (statements .exit) ≡ statementTable (sameNumber (now (t .entry))) (now (t .entry)) (now (k .entry)) (now (y .entry)) l (wordsOf (rowAt (now (k .entry))) c) (now (z .entry)) c (zeros (length (now (statements .entry)))) ⌝ }
 {
     let mut words = [0u32; Machine::STATEMENTS];
@@ -81,7 +83,7 @@ fn fill_rows(t: &[u32], k: &[u32], y: &[u32], l: u32, z: &[u32], c: u32, stateme
 }
 
 fn fill_tokens(t: &[u32; Machine::TOKEN_WORDS], k: &[u32], c: u32, n: u32, tokens: &mut [u32])
-    requires { ⌜ (n ≤ 4096) × (n * 8 ≤ length (now tokens)) ⌝ }
+    requires { ⌜ (n ≤ limits.tokens) × (n * limits.tokenRow ≤ length (now tokens)) ⌝ }
     ensures { λ _. ⌜ now (tokens .exit) ≡ tokenTable (now (t .entry)) (now (k .entry)) c n (zeros (length (now (tokens .entry)))) ⌝ }
 {
     clear_words(tokens);

@@ -7,6 +7,7 @@ use parse_outline::Parsed;
 use prog_tables::Table;
 use res_data::Measured;
 ghost use mathlib.Core.Path.{_≡_};
+ghost use Rattle.base_limits.specs.Limits as limits;
 ghost use Prim.Native.Nat.{_≤_};
 ghost use lib.ListN.{length};
 ghost use Rattle.res_exports.specs.Exports.{exported};
@@ -51,7 +52,7 @@ fn names_fault(
 }
 
 fn make_skeleton(x: &[u32; Outline::WORDS], c: u32, k: &mut [u32; Table::STATEMENT_WORDS])
-    requires { ⌜ c ≤ 1024 ⌝ }
+    requires { ⌜ c ≤ limits.statements ⌝ }
     ensures { λ _. ⌜ now (k .exit) ≡ skeletonOf (now (x .entry)) c ⌝ }
 {
     res_skeleton::make_skeleton(x, c, k);
@@ -67,7 +68,7 @@ fn judge_tokens(
     y: &mut [u32; Outline::LABEL_WORDS],
     flags: &mut [u32; Machine::LABELS],
 ) -> Judgement
-    requires { ⌜ length (now t) ≡ 32768 ⌝ }
+    requires { ⌜ length (now t) ≡ limits.tokenWords ⌝ }
     ensures { λ r. ⌜ judged r (now (t .entry)) (now (k .exit)) (now (y .exit)) (now (flags .exit)) ≡ lineGroup w (sameNumber (now (t .entry))) m n (now (t .entry)) ⌝ }
 {
     let mut x = [0u32; Outline::WORDS];

@@ -3,3 +3,4 @@ pub mod Grounds
 pub mod Tokens
 pub mod TokenRow
 pub mod Nesting
+pub mod Standing

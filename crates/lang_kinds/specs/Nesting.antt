@@ -16,8 +16,12 @@ span first last = record { lo = first; hi = suc last }
 abbrev pub only : ℕ → Range
 only g = span g g
 
--- The grounds on which a kind may stand: of a statement, then of any line. `let` stands in "no `if` inside that frame";
--- groups "hold the other four".
+-- no ground
+abbrev pub nowhere : Range
+nowhere = record { lo = ground.beforeSections; hi = ground.beforeSections }
+
+-- The grounds on which a kind may stand, as the code tests them: of a statement, then of any line. They are what the table of
+-- specs/Standing says (proofs/Standing, `ranges-say`).
 unfoldable pub statementIn : ℕ → Range
 statementIn k =
     ifEq k kind.function (only ground.functionsSection)
@@ -27,7 +31,14 @@ statementIn k =
     (ifLt k kind.else (span ground.inFunction ground.inElseArm)
     (ifLt k kind.endIf (only ground.inTestArm)
     (ifEq k kind.endIf (span ground.inTestArm ground.inElseArm)
-    (span ground.inFunction ground.inElseArm)))))))
+    nowhere))))))
+
+-- lines that other rules refuse wherever they stand; a number that is no kind stands nowhere
+unfoldable pub refusedIn : ℕ → Range
+refusedIn k =
+    ifEq k kind.leftOut (span ground.beforeSections ground.inElseArm)
+    (ifEq k kind.unknown (span ground.beforeSections ground.inElseArm)
+    nowhere)
 
 unfoldable pub standsIn : ℕ → Range
 standsIn k =
@@ -39,7 +50,7 @@ standsIn k =
     (ifLt k kind.group (span ground.dataSection ground.group)
     (ifEq k kind.group (only ground.dataSection)
     (ifEq k kind.endGroup (only ground.group)
-    (span ground.beforeSections ground.inElseArm))))))))
+    (refusedIn k))))))))
 
 -- "Statements are `function` to `end function`. An `else if..` line is two statements"
 unfoldable pub rowsOf : ℕ → ℕ

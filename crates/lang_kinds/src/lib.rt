@@ -4,7 +4,7 @@ ghost use Rattle.lang_kinds.specs.Kinds.{kindsOf};
 ghost use Rattle.lang_kinds.specs.Grounds.{groundsOf};
 ghost use Rattle.lang_kinds.specs.Tokens.{tokensOf};
 ghost use Rattle.lang_kinds.specs.TokenRow.{tokenRowOf};
-ghost use Rattle.lang_kinds.specs.Nesting.{statementIn, standsIn, rowsOf, enters, leaves, groundOf, isFrame, kindOfWord};
+ghost use Rattle.lang_kinds.specs.Nesting.{statementIn, refusedIn, standsIn, rowsOf, enters, leaves, groundOf, isFrame, kindOfWord};
 
 // Grounds from lo to before hi.
 pub struct Range {
@@ -379,8 +379,8 @@ fn statement_range(k: u32) -> Range
         };
     }
     Range {
-        lo: Ground::IN_FUNCTION,
-        hi: Ground::PAST_GROUNDS,
+        lo: Ground::BEFORE_SECTIONS,
+        hi: Ground::BEFORE_SECTIONS,
     }
 }
 
@@ -433,9 +433,28 @@ pub fn stands_in(k: u32) -> Range
             hi: Ground::IN_FUNCTION,
         };
     }
+    refused_range(k)
+}
+
+// Lines that are refused wherever they stand; a number that is no kind stands nowhere.
+fn refused_range(k: u32) -> Range
+    ensures { λ r. ⌜ r ≡ refusedIn k ⌝ }
+{
+    if k == Kind::LEFT_OUT {
+        return Range {
+            lo: Ground::BEFORE_SECTIONS,
+            hi: Ground::PAST_GROUNDS,
+        };
+    }
+    if k == Kind::UNKNOWN {
+        return Range {
+            lo: Ground::BEFORE_SECTIONS,
+            hi: Ground::PAST_GROUNDS,
+        };
+    }
     Range {
         lo: Ground::BEFORE_SECTIONS,
-        hi: Ground::PAST_GROUNDS,
+        hi: Ground::BEFORE_SECTIONS,
     }
 }
 

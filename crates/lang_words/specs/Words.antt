@@ -1,12 +1,15 @@
 -- The 51 reserved words of 000, 001 and 01: the one table. A word is given by its bytes; it has a number of its own, which is not its
--- place in the table, and the least and the most operand tokens that may follow it on its line.
+-- place in the table, and the least and the most operand tokens that may follow it on its line. The most of a line that ends in
+-- parameters or arguments follows from their limit: `call` and the function's name, `return call`, `let x call` and `set x call` before
+-- them. So it is with the locals that `save-locals` names.
 -- Assumes nothing.
-use Prim.Native.Nat.{ℕ}
+use Prim.Native.Nat.{ℕ, _+_}
 use mathlib.Core.Bool.{Bool}
 use mathlib.Core.List.{List, [], _∷_}
 use lib.Dec.{eqb}
 use Rattle.base_prelude.specs.Choice.{pick}
 use Rattle.base_prelude.specs.Lists.{sameList}
+use Rattle.base_limits.specs.Limits as limits
 use Rattle.lang_words.specs.Numbers as word
 
 pub record Entry : Type 0 where
@@ -32,24 +35,24 @@ words =
     entry (119 ∷ 111 ∷ 114 ∷ 100 ∷ []) word.word 1 1 ∷  -- word
     entry (115 ∷ 116 ∷ 114 ∷ 105 ∷ 110 ∷ 103 ∷ []) word.string 1 1 ∷  -- string
     entry (103 ∷ 114 ∷ 111 ∷ 117 ∷ 112 ∷ []) word.group 0 0 ∷  -- group
-    entry (102 ∷ 117 ∷ 110 ∷ 99 ∷ 116 ∷ 105 ∷ 111 ∷ 110 ∷ []) word.function 0 8 ∷  -- function
+    entry (102 ∷ 117 ∷ 110 ∷ 99 ∷ 116 ∷ 105 ∷ 111 ∷ 110 ∷ []) word.function 0 limits.parameters ∷  -- function
     entry (98 ∷ 108 ∷ 111 ∷ 99 ∷ 107 ∷ []) word.block 0 0 ∷  -- block
     entry (101 ∷ 110 ∷ 100 ∷ []) word.end 1 1 ∷  -- end
     entry (101 ∷ 108 ∷ 115 ∷ 101 ∷ []) word.else 0 3 ∷  -- else
     entry (105 ∷ 102 ∷ []) word.if 0 0 ∷  -- if
-    entry (99 ∷ 97 ∷ 108 ∷ 108 ∷ []) word.call 1 9 ∷  -- call
+    entry (99 ∷ 97 ∷ 108 ∷ 108 ∷ []) word.call 1 (limits.parameters + 1) ∷  -- call
     entry (103 ∷ 111 ∷ 116 ∷ 111 ∷ []) word.goto 1 1 ∷  -- goto
-    entry (108 ∷ 101 ∷ 116 ∷ []) word.letLocal 2 11 ∷  -- let
-    entry (114 ∷ 101 ∷ 116 ∷ 117 ∷ 114 ∷ 110 ∷ []) word.return 0 10 ∷  -- return
-    entry (115 ∷ 101 ∷ 116 ∷ []) word.set 2 11 ∷  -- set
+    entry (108 ∷ 101 ∷ 116 ∷ []) word.letLocal 2 (limits.parameters + 3) ∷  -- let
+    entry (114 ∷ 101 ∷ 116 ∷ 117 ∷ 114 ∷ 110 ∷ []) word.return 0 (limits.parameters + 2) ∷  -- return
+    entry (115 ∷ 101 ∷ 116 ∷ []) word.set 2 (limits.parameters + 3) ∷  -- set
     entry (115 ∷ 101 ∷ 116 ∷ 45 ∷ 98 ∷ 121 ∷ 116 ∷ 101 ∷ []) word.setByte 3 3 ∷  -- set-byte
     entry (115 ∷ 101 ∷ 116 ∷ 45 ∷ 119 ∷ 111 ∷ 114 ∷ 100 ∷ []) word.setWord 3 3 ∷  -- set-word
-    entry (116 ∷ 97 ∷ 105 ∷ 108 ∷ 45 ∷ 99 ∷ 97 ∷ 108 ∷ 108 ∷ []) word.tailCall 1 9 ∷  -- tail-call
+    entry (116 ∷ 97 ∷ 105 ∷ 108 ∷ 45 ∷ 99 ∷ 97 ∷ 108 ∷ 108 ∷ []) word.tailCall 1 (limits.parameters + 1) ∷  -- tail-call
     entry (115 ∷ 97 ∷ 118 ∷ 101 ∷ 45 ∷ 102 ∷ 114 ∷ 97 ∷ 109 ∷ 101 ∷ []) word.saveFrame 1 1 ∷  -- save-frame
-    entry (115 ∷ 97 ∷ 118 ∷ 101 ∷ 45 ∷ 108 ∷ 111 ∷ 99 ∷ 97 ∷ 108 ∷ 115 ∷ []) word.saveLocals 1 65 ∷  -- save-locals
-    entry (115 ∷ 97 ∷ 118 ∷ 101 ∷ 45 ∷ 102 ∷ 114 ∷ 97 ∷ 109 ∷ 101 ∷ 45 ∷ 97 ∷ 110 ∷ 100 ∷ 45 ∷ 108 ∷ 111 ∷ 99 ∷ 97 ∷ 108 ∷ 115 ∷ []) word.saveFrameAndLocals 1 65 ∷  -- save-frame-and-locals
+    entry (115 ∷ 97 ∷ 118 ∷ 101 ∷ 45 ∷ 108 ∷ 111 ∷ 99 ∷ 97 ∷ 108 ∷ 115 ∷ []) word.saveLocals 1 (limits.locals + 1) ∷  -- save-locals
+    entry (115 ∷ 97 ∷ 118 ∷ 101 ∷ 45 ∷ 102 ∷ 114 ∷ 97 ∷ 109 ∷ 101 ∷ 45 ∷ 97 ∷ 110 ∷ 100 ∷ 45 ∷ 108 ∷ 111 ∷ 99 ∷ 97 ∷ 108 ∷ 115 ∷ []) word.saveFrameAndLocals 1 (limits.locals + 1) ∷  -- save-frame-and-locals
     entry (114 ∷ 101 ∷ 115 ∷ 116 ∷ 111 ∷ 114 ∷ 101 ∷ 45 ∷ 102 ∷ 114 ∷ 97 ∷ 109 ∷ 101 ∷ []) word.restoreFrame 1 1 ∷  -- restore-frame
-    entry (114 ∷ 101 ∷ 115 ∷ 116 ∷ 111 ∷ 114 ∷ 101 ∷ 45 ∷ 108 ∷ 111 ∷ 99 ∷ 97 ∷ 108 ∷ 115 ∷ []) word.restoreLocals 1 65 ∷  -- restore-locals
+    entry (114 ∷ 101 ∷ 115 ∷ 116 ∷ 111 ∷ 114 ∷ 101 ∷ 45 ∷ 108 ∷ 111 ∷ 99 ∷ 97 ∷ 108 ∷ 115 ∷ []) word.restoreLocals 1 (limits.locals + 1) ∷  -- restore-locals
     entry (105 ∷ 102 ∷ 101 ∷ 113 ∷ []) word.ifeq 2 2 ∷  -- ifeq
     entry (105 ∷ 102 ∷ 103 ∷ 101 ∷ []) word.ifge 2 2 ∷  -- ifge
     entry (105 ∷ 102 ∷ 103 ∷ 116 ∷ []) word.ifgt 2 2 ∷  -- ifgt

@@ -7,6 +7,7 @@ use lang_words::Substitutes;
 use lex_lexeme::Lexeme;
 use lex_lexeme::Reading;
 ghost use mathlib.Core.Path.{_≡_};
+ghost use Rattle.base_limits.specs.Limits as limits;
 ghost use Prim.Native.Nat.{_+_, _*_, _≤_, _<_, _-_, min};
 ghost use lib.ListN.{length, take};
 ghost use Rattle.base_prelude.specs.Fault.{none};
@@ -200,7 +201,7 @@ fn lookup_front(kind: u32, name: &[u8], size: usize) -> u32
 
 // The reserved word or substitute that a name is.
 fn word_at(s: &[u8], kind: u32, start: usize, size: usize) -> u32
-    requires { ⌜ (size ≡ length (nameAt (now s) start)) × (size ≤ 64) ⌝ }
+    requires { ⌜ (size ≡ length (nameAt (now s) start)) × (size ≤ limits.nameBytes) ⌝ }
     ensures { λ r. ⌜ r ≡ wordNamed kind (nameAt (now (s .entry)) start) ⌝ }
 {
     let mut name = [0u8; Machine::NAME_BYTES];
@@ -275,7 +276,7 @@ fn fill(w: Width, s: &[u8], t: &mut [u32], n: usize, r: Reading) -> FillStep
 }
 
 fn fill_at(w: Width, s: &[u8], t: &mut [u32], n: usize, at: usize) -> FillStep
-    requires { ⌜ (length (now s) ≤ 16384) × (length (now t) ≡ 32768) × (n ≤ 4096) × (at ≤ length (now s)) ⌝ }
+    requires { ⌜ (length (now s) ≤ limits.sourceBytes) × (length (now t) ≡ limits.tokenWords) × (n ≤ limits.tokens) × (at ≤ length (now s)) ⌝ }
     ensures { λ x. ⌜ filled x (now (t .exit)) ≡ fillAt w (now (s .entry)) (now (t .entry)) n at ⌝ }
 {
     let r = lex_lexeme::next_token(w, s, at);
@@ -287,7 +288,7 @@ fn fill_at(w: Width, s: &[u8], t: &mut [u32], n: usize, at: usize) -> FillStep
 }
 
 fn lex_from(w: Width, s: &[u8], t: &mut [u32]) -> Lexed
-    requires { ⌜ (length (now s) ≤ 16384) × (length (now t) ≡ 32768) ⌝ }
+    requires { ⌜ (length (now s) ≤ limits.sourceBytes) × (length (now t) ≡ limits.tokenWords) ⌝ }
     ensures { λ r. ⌜ r ≡ answerOf (tokensFrom w (now (s .entry)) (state 0 [])) ⌝ }
     ensures { λ _. ⌜ now (t .exit) ≡ tableOf (tokensFrom w (now (s .entry)) (state 0 [])) ⌝ }
 {
@@ -315,7 +316,7 @@ fn lex_from(w: Width, s: &[u8], t: &mut [u32]) -> Lexed
 }
 
 fn refuse_long(t: &mut [u32]) -> Lexed
-    ensures { λ r. ⌜ (r ≡ Lexed.Refused 1 16384) × (now (t .exit) ≡ zeros (length (now (t .entry)))) ⌝ }
+    ensures { λ r. ⌜ (r ≡ Lexed.Refused 1 limits.sourceBytes) × (now (t .exit) ≡ zeros (length (now (t .entry)))) ⌝ }
 {
     base_prelude::clear_from(t, 0);
     Lexed::Refused {

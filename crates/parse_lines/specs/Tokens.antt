@@ -7,12 +7,13 @@ use lib.ListN.{length, getD}
 use Rattle.base_prelude.specs.Choice.{ifLt, ifEq}
 use Rattle.base_prelude.specs.Fault.{key}
 use Rattle.base_prelude.specs.Walk.{Step, go, stop, walk}
+use Rattle.base_limits.specs.Limits as limits
 use Rattle.lang_kinds.specs.Tokens as token
 use Rattle.lang_kinds.specs.TokenRow as field
 
 -- word f of token i
 unfoldable pub tokenWord : List ℕ → ℕ → ℕ → ℕ
-tokenWord t i f = getD t (i * 8 + f) 0
+tokenWord t i f = getD t (i * limits.tokenRow + f) 0
 
 abbrev pub kindAt : List ℕ → ℕ → ℕ
 kindAt t i = tokenWord t i field.kind

@@ -1,10 +1,12 @@
 // Units and lines of tokens, and the rules that need no state.
+use base_limits::Machine;
 use lang_kinds::Kind;
 use lang_kinds::Token;
 use lang_kinds::TokenRow;
 use lang_words::Substitutes;
 use lang_words::Word;
 ghost use mathlib.Core.Path.{_≡_};
+ghost use Rattle.base_limits.specs.Limits as limits;
 ghost use Prim.Native.Nat.{_+_, _*_, _-_, _^_, _≤_, _<_};
 ghost use lib.ListN.{length};
 ghost use Rattle.lang_kinds.specs.TokenRow as field;
@@ -21,10 +23,10 @@ pub struct Span {
 
 // Word f of token i, 0 behind the table.
 pub fn token_word(t: &[u32], i: u32, f: usize) -> u32
-    requires { ⌜ f < 8 ⌝ }
+    requires { ⌜ f < limits.tokenRow ⌝ }
     ensures { λ r. ⌜ r ≡ tokenWord (now (t .entry)) i f ⌝ }
 {
-    let at = i as usize * 8 + f;
+    let at = i as usize * Machine::TOKEN_ROW + f;
     if at < t.len() { t[at] } else { 0 }
 }
 
@@ -65,7 +67,7 @@ pub fn key_at(t: &[u32], n: u32, i: u32, number: u32) -> u64
 
 // The first token from a place on whose kind is not from lo to before hi.
 pub fn skip_kinds(t: &[u32], lo: u32, hi: u32, from: u32) -> u32
-    requires { ⌜ (length (now t) ≡ 32768) × (1 ≤ lo) ⌝ }
+    requires { ⌜ (length (now t) ≡ limits.tokenWords) × (1 ≤ lo) ⌝ }
     ensures { λ r. ⌜ r ≡ skip (now (t .entry)) lo hi from ⌝ }
 {
     let mut i = from;
@@ -84,7 +86,7 @@ pub fn skip_kinds(t: &[u32], lo: u32, hi: u32, from: u32) -> u32
 
 // Whether all tokens to the line's end have a kind from lo to before hi.
 pub fn all_from(t: &[u32], lo: u32, hi: u32, i: u32, next: u32) -> bool
-    requires { ⌜ (length (now t) ≡ 32768) × (1 ≤ lo) ⌝ }
+    requires { ⌜ (length (now t) ≡ limits.tokenWords) × (1 ≤ lo) ⌝ }
     ensures { λ r. ⌜ r ≡ allFrom (now (t .entry)) lo hi i next ⌝ }
 {
     if skip_kinds(t, lo, hi, i) == next {
@@ -94,7 +96,7 @@ pub fn all_from(t: &[u32], lo: u32, hi: u32, i: u32, next: u32) -> bool
 }
 
 fn span_from(t: &[u32], first: u32, word: u32) -> Span
-    requires { ⌜ (length (now t) ≡ 32768) × (word < 4294967295) ⌝ }
+    requires { ⌜ (length (now t) ≡ limits.tokenWords) × (word < 4294967295) ⌝ }
     ensures { λ r. ⌜ r ≡ spanFrom (now (t .entry)) first word ⌝ }
 {
     Span {
@@ -105,7 +107,7 @@ fn span_from(t: &[u32], first: u32, word: u32) -> Span
 }
 
 fn span_of(t: &[u32], first: u32) -> Span
-    requires { ⌜ (length (now t) ≡ 32768) × (first ≤ 4097) ⌝ }
+    requires { ⌜ (length (now t) ≡ limits.tokenWords) × (first ≤ limits.tokens + 1) ⌝ }
     ensures { λ r. ⌜ r ≡ spanOf (now (t .entry)) first ⌝ }
 {
     span_from(
@@ -117,7 +119,7 @@ fn span_of(t: &[u32], first: u32) -> Span
 
 // The unit that starts at a token.
 pub fn unit_at(t: &[u32], at: u32) -> Span
-    requires { ⌜ (length (now t) ≡ 32768) × (at ≤ 4097) ⌝ }
+    requires { ⌜ (length (now t) ≡ limits.tokenWords) × (at ≤ limits.tokens + 1) ⌝ }
     ensures { λ r. ⌜ r ≡ unitAt (now (t .entry)) at ⌝ }
 {
     span_of(t, skip_kinds(t, Token::NEWLINE, Token::LABEL, at))

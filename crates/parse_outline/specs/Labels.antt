@@ -6,10 +6,11 @@ use lib.ListN.{length, take, drop}
 use Rattle.base_prelude.specs.Choice.{ifLt, ifEq}
 use Rattle.base_prelude.specs.Lists.{zeros}
 use Rattle.base_prelude.specs.Walk.{Step, go, stop, walk}
+use Rattle.base_limits.specs.Limits as limits
 use Rattle.lang_kinds.specs.Kinds as kind
 use Rattle.lang_kinds.specs.Grounds as ground
 use Rattle.lang_kinds.specs.Tokens as token
-use Rattle.prog_tables.specs.Layout.{dataLabel, functionLabel, placeLabel}
+use Rattle.prog_tables.specs.Layout.{labelRow, labelWords, dataLabel, functionLabel, placeLabel}
 use Rattle.lang_kinds.specs.Nesting.{rowsOf}
 use Rattle.parse_lines.specs.Tokens.{kindAt}
 use Rattle.parse_lines.specs.Units.{unitAt}
@@ -30,7 +31,7 @@ labelNumber section word row = ifLt section ground.dataSection row word
 
 -- label row c
 unfoldable pub putLabel : List ℕ → ℕ → ℕ → ℕ → ℕ → List ℕ
-putLabel x c token kind number = ifLt c 256 (take (c * 4) x ++ (token ∷ kind ∷ number ∷ 0 ∷ []) ++ drop (c * 4 + 4) x) x
+putLabel x c token kind number = ifLt c limits.labels (take (c * labelRow) x ++ (token ∷ kind ∷ number ∷ 0 ∷ []) ++ drop (c * labelRow + labelRow) x) x
 
 -- labels so far, and their rows
 pub record Marked : Type 0 where
@@ -86,4 +87,4 @@ firstMarks = record { at = 0; row = 1; section = ground.beforeSections; labels =
 
 -- the label rows of the tokens t
 unfoldable pub labelRows : List ℕ → List ℕ
-labelRows t = marksFrom t (marking firstMarks (zeros 1024))
+labelRows t = marksFrom t (marking firstMarks (zeros labelWords))

@@ -9,12 +9,17 @@ use parse_units::Verdict;
 use prog_tables::LabelKind;
 use prog_tables::OutlineLabel;
 ghost use mathlib.Core.Path.{_≡_};
+ghost use Rattle.base_limits.specs.Limits as limits;
 ghost use Prim.Native.Nat.{_+_, _*_, _-_, _≤_, _<_};
 ghost use lib.ListN.{length};
+ghost use Rattle.prog_tables.specs.Layout.{labelWords};
+ghost use Rattle.parse_units.specs.Outline.{outlineWords};
 ghost use Rattle.parse_units.specs.Parse.{result, parseOf};
 ghost use Rattle.parse_outline.specs.Labels.{labelKind, labelNumber, putLabel, marked, markToken, markFrom, markUnit, marking, marksBehind, markStep, marksFrom, labelRows, firstMarks, going};
 ghost use Rattle.parse_outline.specs.Fits.{MarksFit};
 ghost use Rattle.parse_outline.specs.Outline.{answerOf, parsed, outlineOf};
+
+const MOST_LABELS: u32 = Machine::LABELS as u32;
 
 // Sizes of the outline's tables, in words.
 pub struct Outline {}
@@ -22,11 +27,11 @@ pub struct Outline {}
 impl Outline {
     pub const ROW: usize = 8;
 
-    pub const WORDS: usize = 8200;
+    pub const WORDS: usize = (Machine::STATEMENTS + 1) * 8;
 
     pub const LABEL_ROW: usize = 4;
 
-    pub const LABEL_WORDS: usize = 1024;
+    pub const LABEL_WORDS: usize = Machine::LABELS * 4;
 }
 
 // The numbers of statements and labels, or a refusal's number and place.
@@ -65,7 +70,7 @@ fn label_number(section: u32, word: u32, row: u32) -> u32
 }
 
 fn put_words(x: &mut [u32], c: u32, token: u32, kind: u32, number: u32)
-    requires { ⌜ (length (now x) ≡ 1024) × (c < 256) ⌝ }
+    requires { ⌜ (length (now x) ≡ labelWords) × (c < limits.labels) ⌝ }
     ensures { λ _. ⌜ now (x .exit) ≡ putLabel (now (x .entry)) c token kind number ⌝ }
 {
     let w = c as usize * Outline::LABEL_ROW;
@@ -76,16 +81,16 @@ fn put_words(x: &mut [u32], c: u32, token: u32, kind: u32, number: u32)
 }
 
 fn put_label(x: &mut [u32], c: u32, token: u32, kind: u32, number: u32)
-    requires { ⌜ length (now x) ≡ 1024 ⌝ }
+    requires { ⌜ length (now x) ≡ labelWords ⌝ }
     ensures { λ _. ⌜ now (x .exit) ≡ putLabel (now (x .entry)) c token kind number ⌝ }
 {
-    if c < 256 {
+    if c < MOST_LABELS {
         put_words(x, c, token, kind, number);
     }
 }
 
 fn mark_token(t: &[u32], x: &mut [u32], i: u32, kind: u32, number: u32, c: u32) -> u32
-    requires { ⌜ (length (now x) ≡ 1024) × (c < 4294967295) ⌝ }
+    requires { ⌜ (length (now x) ≡ labelWords) × (c < 4294967295) ⌝ }
     ensures { λ r. ⌜ marked r (now (x .exit)) ≡ markToken (now (t .entry)) i kind number (marked c (now (x .entry))) ⌝ }
 {
     if parse_lines::kind_at(t, i) == Token::LABEL {
@@ -104,7 +109,7 @@ fn mark_from(
     number: u32,
     start: u32,
 ) -> u32
-    requires { ⌜ (length (now x) ≡ 1024) × (end ≤ 4097) × (start ≤ 4097) ⌝ }
+    requires { ⌜ (length (now x) ≡ labelWords) × (end ≤ limits.tokens + 1) × (start ≤ limits.tokens + 1) ⌝ }
     ensures { λ r. ⌜ marked r (now (x .exit)) ≡ markFrom (end - first) (now (t .entry)) first kind number (marked start (now (x .entry))) ⌝ }
 {
     let mut c = start;
@@ -117,7 +122,7 @@ fn mark_from(
 }
 
 fn mark_unit(t: &[u32], x: &mut [u32], u: Span, k: u32, s: Marks) -> u32
-    requires { ⌜ (length (now x) ≡ 1024) × (u .word ≤ 4097) × (s .labels ≤ 4097) ⌝ }
+    requires { ⌜ (length (now x) ≡ labelWords) × (u .word ≤ limits.tokens + 1) × (s .labels ≤ limits.tokens + 1) ⌝ }
     ensures { λ r. ⌜ marked r (now (x .exit)) ≡ markUnit (now (t .entry)) u k s (now (x .entry)) ⌝ }
 {
     let kind = label_kind(k, s.section);
@@ -186,7 +191,7 @@ fn first_marks() -> Marks
 
 // The label rows of the tokens t; the words are cleared first.
 fn label_rows(t: &[u32], x: &mut [u32])
-    requires { ⌜ (length (now t) ≡ 32768) × (length (now x) ≡ 1024) ⌝ }
+    requires { ⌜ (length (now t) ≡ limits.tokenWords) × (length (now x) ≡ labelWords) ⌝ }
     ensures { λ _. ⌜ now (x .exit) ≡ labelRows (now (t .entry)) ⌝ }
 {
     base_prelude::clear_from(x, 0);
@@ -218,7 +223,7 @@ fn answer_of(v: Verdict) -> Parsed
 }
 
 fn parse_all(w: Width, n: u32, t: &[u32], rows: &mut [u32], labels: &mut [u32]) -> Parsed
-    requires { ⌜ (length (now t) ≡ 32768) × (length (now rows) ≡ 8200) × (length (now labels) ≡ 1024) ⌝ }
+    requires { ⌜ (length (now t) ≡ limits.tokenWords) × (length (now rows) ≡ outlineWords) × (length (now labels) ≡ labelWords) ⌝ }
     ensures { λ r. ⌜ parsed r (now (rows .exit)) (now (labels .exit)) ≡ outlineOf w (now (t .entry)) n ⌝ }
 {
     let v = parse_units::parse_rows(w, t, n, rows);

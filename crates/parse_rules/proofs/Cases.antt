@@ -13,6 +13,7 @@ use Rattle.lang_words.specs.Words.{mostOperands}
 use Rattle.parse_lines.specs.Tokens.{tokenWord, keyAt}
 use Rattle.parse_shapes.specs.Shapes.{isName, isOperator, isListed, shapeFits}
 use Rattle.parse_lines.specs.declared.Span.{Span}
+use Rattle.parse_rules.proofs.Own.{own-by}
 use Rattle.parse_rules.specs.Rules.{shapeRule, leftRule, isHead, headAt, ownWord, nameKey, substituteKey, tokenKey, pastMost, listRule, reservedLabel, labelLimit, labelKey, labelled, labelStep}
 use Rattle.parse_rules.specs.declared.Labelled.{Labelled}
 
@@ -79,41 +80,32 @@ pub ruleset heads = (head-no, head-call, head-operator, head-here, head-none)
 
 module _ (t : List ℕ) (u : Span) (k : ℕ) where
   pub own-2 : k ≡ 2 → u .word + 1 ≡ ownWord t u k
-  unfolding ownWord
-  own-2 e = search tests depth 16
+  own-2 e = own-by t u k _ (search tests depth 16)
 
   pub own-4 : (k ≡ 2 → ⊥) → k ≡ 4 → u .word + 1 ≡ ownWord t u k
-  unfolding ownWord
-  own-4 a e = search tests depth 16
+  own-4 a e = own-by t u k _ (search tests depth 16)
 
   pub own-22 : (k ≡ 2 → ⊥) → (k ≡ 4 → ⊥) → k ≡ 22 → u .word + 1 ≡ ownWord t u k
-  unfolding ownWord
-  own-22 a b e = search tests depth 16
+  own-22 a b e = own-by t u k _ (search tests depth 16)
 
   pub own-33 : (k ≡ 2 → ⊥) → (k ≡ 4 → ⊥) → (k ≡ 22 → ⊥) → k ≡ 33 → u .word + 1 ≡ ownWord t u k
-  unfolding ownWord
-  own-33 a b c e = search tests depth 16
+  own-33 a b c e = own-by t u k _ (search tests depth 16)
 
   pub own-21 : (k ≡ 2 → ⊥) → (k ≡ 4 → ⊥) → (k ≡ 22 → ⊥) → (k ≡ 33 → ⊥) → k ≡ 21 → u .word + 1 ≡ ownWord t u k
-  unfolding ownWord
-  own-21 a b c d e = search tests depth 16
+  own-21 a b c d e = own-by t u k _ (search tests depth 16)
 
   module _ (a : k ≡ 2 → ⊥) (b : k ≡ 4 → ⊥) (c : k ≡ 22 → ⊥) (d : k ≡ 33 → ⊥) (e : k ≡ 21 → ⊥) where
     pub own-return : (r : ℕ) → k ≡ 13 → r ≡ headAt t (u .word + 1) → r ≡ ownWord t u k
-    unfolding ownWord
-    own-return r f q = rw (← q) (search tests depth 16)
+    own-return r f q = own-by t u k _ (rw (← q) (search tests depth 16))
 
     pub own-low : (k ≡ 13 → ⊥) → k < 5 → 0 ≡ ownWord t u k
-    unfolding ownWord
-    own-low f h = search tests depth 16
+    own-low f h = own-by t u k _ (search tests depth 16)
 
     pub own-let : (r : ℕ) → (k ≡ 13 → ⊥) → 5 ≤ k → k < 8 → r ≡ headAt t (u .word + 2) → r ≡ ownWord t u k
-    unfolding ownWord
-    own-let r f h g q = rw (← q) (search tests depth 16)
+    own-let r f h g q = own-by t u k _ (rw (← q) (search tests depth 16))
 
     pub own-none : (k ≡ 13 → ⊥) → 5 ≤ k → 8 ≤ k → 0 ≡ ownWord t u k
-    unfolding ownWord
-    own-none f h g = search tests depth 16
+    own-none f h g = own-by t u k _ (search tests depth 16)
 
 pub ruleset owns = (own-2, own-4, own-22, own-33, own-21, own-return, own-low, own-let, own-none)
 

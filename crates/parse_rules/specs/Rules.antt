@@ -13,7 +13,7 @@ use Rattle.lang_words.specs.Numbers as word
 use Rattle.lang_words.specs.Substitutes as substitute
 use Rattle.lang_words.specs.Words.{mostOperands}
 use Rattle.parse_lines.specs.Tokens.{kindAt, wordAt, keyAt}
-use Rattle.parse_shapes.specs.Shapes.{isName, isOperator, isListed, shapeFits}
+use Rattle.parse_shapes.specs.Shapes.{isName, isOperator, isListed, shapeFits, shapeOf, Shape, Bare, Closing, Names, Name, Integer, OptionalInteger, String, Operands, Test, Call, OptionalExpression, NameAndExpression, AddressAndExpression, NoShape}
 use Rattle.parse_lines.specs.declared.Span.{Span}
 use Rattle.parse_rules.specs.declared.Labelled.{Labelled}
 
@@ -36,18 +36,25 @@ isHead t i = ifTrue (isName t i) (ifEq (wordAt t i) word.call true (isOperator (
 unfoldable pub headAt : List ℕ → ℕ → ℕ
 headAt t i = ifTrue (isHead t i) i 0
 
--- the token of a line that is a reserved word in its own place: behind `end` and `else`, or an expression's first; 0 where none is
+-- the token of a line that is a reserved word in its own place, by the line's shape; 0 where none is
+unfoldable pub ownIn : List ℕ → Span → Shape → ℕ
+ownIn t u Bare = 0
+ownIn t u Closing = u .word + 1
+ownIn t u Names = 0
+ownIn t u Name = 0
+ownIn t u Integer = 0
+ownIn t u OptionalInteger = 0
+ownIn t u String = 0
+ownIn t u Operands = 0
+ownIn t u Test = u .word + 1
+ownIn t u Call = 0
+ownIn t u OptionalExpression = headAt t (u .word + 1)
+ownIn t u NameAndExpression = headAt t (u .word + 2)
+ownIn t u AddressAndExpression = headAt t (u .word + 2)
+ownIn t u NoShape = 0
+
 unfoldable pub ownWord : List ℕ → Span → ℕ → ℕ
-ownWord t u k =
-    ifEq k kind.endFunction (u .word + 1)
-    (ifEq k kind.endBlock (u .word + 1)
-    (ifEq k kind.endIf (u .word + 1)
-    (ifEq k kind.endGroup (u .word + 1)
-    (ifEq k kind.elseIf (u .word + 1)
-    (ifEq k kind.return (headAt t (u .word + 1))
-    (ifLt k kind.letLocal 0
-    (ifLt k kind.setByte (headAt t (u .word + 2))
-    0)))))))
+ownWord t u k = ownIn t u (shapeOf k)
 
 -- 8: "as a name each is refusal 8, at it"
 unfoldable pub nameKey : List ℕ → ℕ → ℕ → ℕ → ℕ

@@ -7,10 +7,13 @@ use lang_words::Substitutes;
 use lang_words::Word;
 use parse_lines::Span;
 ghost use mathlib.Core.Path.{_≡_};
+ghost use Rattle.base_limits.specs.Limits as limits;
 ghost use Prim.Native.Nat.{_+_, _-_, _≤_, _<_, min};
 ghost use lib.ListN.{length};
 ghost use Rattle.base_prelude.specs.Fault.{none};
 ghost use Rattle.parse_rules.specs.Rules.{shapeRule, leftRule, isHead, headAt, ownWord, nameKey, substituteKey, tokenKey, tokensLeast, tokensRule, pastMost, listRule, reservedLabel, labelLimit, labelKey, labelled, labelStep, labelsFrom, labelsRule};
+
+const MOST_LABELS: u32 = Machine::LABELS as u32;
 
 // The least fault of a unit's labels, and the number of labels up to its end.
 pub struct Labelled {
@@ -20,7 +23,7 @@ pub struct Labelled {
 
 // 7: an unknown word or shape.
 pub fn shape_rule(w: Width, t: &[u32], n: u32, u: Span, k: u32) -> u64
-    requires { ⌜ (length (now t) ≡ 32768) × (u .word < 4294967292) ⌝ }
+    requires { ⌜ (length (now t) ≡ limits.tokenWords) × (u .word < 4294967292) ⌝ }
     ensures { λ r. ⌜ r ≡ shapeRule w (now (t .entry)) n u k ⌝ }
 {
     if k == Kind::EDGE {
@@ -193,7 +196,7 @@ fn past_most(t: &[u32], n: u32, i: u32, next: u32) -> u64
 
 // 14: one parameter or argument too many.
 pub fn list_rule(t: &[u32], n: u32, u: Span, k: u32) -> u64
-    requires { ⌜ u .word ≤ 4097 ⌝ }
+    requires { ⌜ u .word ≤ limits.tokens + 1 ⌝ }
     ensures { λ r. ⌜ r ≡ listRule (now (t .entry)) n u k ⌝ }
 {
     if parse_shapes::is_listed(k) {
@@ -219,7 +222,7 @@ fn reserved_label(t: &[u32], n: u32, i: u32) -> u64
 fn label_limit(t: &[u32], n: u32, i: u32, c: u32) -> u64
     ensures { λ r. ⌜ r ≡ labelLimit (now (t .entry)) n i c ⌝ }
 {
-    if c < 256 {
+    if c < MOST_LABELS {
         return 1099511627776;
     }
     parse_lines::key_at(t, n, i, 14)
@@ -245,7 +248,7 @@ fn label_step(t: &[u32], n: u32, i: u32, x: Labelled) -> Labelled
 }
 
 fn labels_from(t: &[u32], n: u32, first: u32, end: u32, c: u32) -> Labelled
-    requires { ⌜ (end ≤ 4097) × (c ≤ 4097) ⌝ }
+    requires { ⌜ (end ≤ limits.tokens + 1) × (c ≤ limits.tokens + 1) ⌝ }
     ensures { λ r. ⌜ r ≡ labelsFrom (end - first) (now (t .entry)) n first (labelled none c) ⌝ }
 {
     let mut x = Labelled {
@@ -262,7 +265,7 @@ fn labels_from(t: &[u32], n: u32, first: u32, end: u32, c: u32) -> Labelled
 
 // The labels of a unit, c labels standing before it.
 pub fn labels_rule(t: &[u32], n: u32, u: Span, c: u32) -> Labelled
-    requires { ⌜ (u .word ≤ 4097) × (c ≤ 4097) ⌝ }
+    requires { ⌜ (u .word ≤ limits.tokens + 1) × (c ≤ limits.tokens + 1) ⌝ }
     ensures { λ r. ⌜ r ≡ labelsRule (now (t .entry)) n u c ⌝ }
 {
     labels_from(t, n, u.first, u.word, c)

@@ -5,6 +5,7 @@ use mathlib.Core.Bool.{Bool, true, false}
 use mathlib.Core.List.{List, [], _∷_}
 use Prim.Native.Nat.{ℕ, zero, suc, _+_, _*_, _-_, _^_, _≤_, _<_}
 use native.Mathlib.Omega.{arith}
+use lib.Dec.{ltb}
 use lib.ListN.{length}
 use Rattle.base_prelude.specs.Choice.{ifLt, ifEq, ifTrue}
 use Rattle.base_prelude.proofs.Choice.{tests, ifEq-yes, ifEq-no, ifTrue-yes, ifTrue-no, ifLt-yes, ifLt-no}
@@ -13,7 +14,9 @@ use Rattle.base_limits.specs.declared.Width.{Width}
 use Rattle.base_limits.specs.declared.Width.the-variants.{Bits32, Bits16}
 use Rattle.lang_words.specs.Words.{leastOperands, mostOperands}
 use Rattle.parse_lines.specs.Tokens.{tokenWord, allFrom}
-use Rattle.parse_shapes.specs.Shapes.{isName, isInteger, isString, operandsFrom, callFrom, isOperator, operatorFrom, operandAt, symbolFrom, expressionFrom, operandCount, isListed, countFits, laterFits, statementFits, otherFits, formFits, isKnown, byteFits, alignFits, rangeFits, shapeFits}
+use Rattle.parse_shapes.specs.Shapes.{isName, isInteger, isString, operandsFrom, callFrom, isOperator, operatorFrom, operandAt, symbolFrom, expressionFrom, operandCount, isListed, countFits, formFits, isKnown, byteFits, alignFits, rangeFits, shapeFits}
+use Rattle.parse_shapes.specs.Forms.{laterFits, statementFits, otherFits, rangedForm}
+use Rattle.parse_shapes.proofs.Forms.{form-by}
 use Rattle.parse_lines.specs.declared.Span.{Span}
 
 module _ (t : List ℕ) (i k : ℕ) (p : k ≡ tokenWord t i 0) where
@@ -223,15 +226,15 @@ module _ (t : List ℕ) (u : Span) (k : ℕ) (r : Bool) where
   other-string e f g h i q = rw (← q) (search tests)
 
   pub form-statement : k < 25 → r ≡ statementFits t u k → r ≡ formFits t u k
-  unfolding formFits
-  form-statement h q = rw (← q) (search tests)
+  unfolding rangedForm
+  form-statement h q = form-by t u k r (q ∙ sym (ifLt-yes _ _ h))
 
   pub form-other : 25 ≤ k → r ≡ otherFits t u k → r ≡ formFits t u k
-  unfolding formFits
-  form-other h q = rw (← q) (search tests)
+  unfolding rangedForm
+  form-other h q = form-by t u k r (q ∙ sym (ifLt-no _ _ h))
 
 module _ (t : List ℕ) (u : Span) (k : ℕ) where
-  pub later-none : (k ≡ 10 → ⊥) → 13 ≤ k → (k ≡ 13 → ⊥) → 20 ≤ k → (k ≡ 21 → ⊥) → true ≡ laterFits t u k
+  pub later-none : (k ≡ 10 → ⊥) → 13 ≤ k → (k ≡ 13 → ⊥) → 20 ≤ k → (k ≡ 21 → ⊥) → ltb k 23 ≡ laterFits t u k
   unfolding laterFits
   later-none e h f g i = search tests
 
@@ -239,7 +242,7 @@ module _ (t : List ℕ) (u : Span) (k : ℕ) where
   unfolding statementFits
   fits-bare e h = search tests
 
-  pub other-none : (k ≡ 27 → ⊥) → (k ≡ 28 → ⊥) → (k ≡ 29 → ⊥) → (k ≡ 30 → ⊥) → (k ≡ 31 → ⊥) → true ≡ otherFits t u k
+  pub other-none : (k ≡ 27 → ⊥) → (k ≡ 28 → ⊥) → (k ≡ 29 → ⊥) → (k ≡ 30 → ⊥) → (k ≡ 31 → ⊥) → ltb k 34 ≡ otherFits t u k
   unfolding otherFits
   other-none e f g h i = search tests
 

@@ -3,7 +3,7 @@
 -- Assumes nothing.
 use Prim.Native.Nat.{ℕ, _+_, _-_, _^_}
 use mathlib.Core.Bool.{Bool, true, false}
-use mathlib.Core.List.{List}
+use mathlib.Core.List.{List, [], _∷_}
 use Rattle.base_prelude.specs.Choice.{ifLt, ifEq, ifTrue}
 use Rattle.base_limits.specs.Width.{bitsOf}
 use Rattle.base_limits.specs.declared.Width.{Width}
@@ -61,15 +61,121 @@ expressionFrom t i next = ifTrue (isName t i) (symbolFrom t i next) (operandAt t
 abbrev pub operandCount : Span → ℕ
 operandCount u = u .next - (u .word + 1)
 
+-- what stands behind the magic word
+pub data Shape : Type 0 where
+  -- nothing, or the word by which the kind is known: `section data`
+  Bare : Shape
+  -- what an `end` closes
+  Closing : Shape
+  -- names to the line's end
+  Names : Shape
+  Name : Shape
+  Integer : Shape
+  OptionalInteger : Shape
+  String : Shape
+  -- as many operands as the word list says
+  Operands : Shape
+  -- a test's word with its operands
+  Test : Shape
+  -- a function's name and its arguments
+  Call : Shape
+  OptionalExpression : Shape
+  NameAndExpression : Shape
+  -- `@` and a name or an integer, then an expression
+  AddressAndExpression : Shape
+  -- no line has this kind
+  NoShape : Shape
+
+pub record Shaped : Type 0 where
+  pub kind : ℕ
+  pub shape : Shape
+
+abbrev pub shaped : ℕ → Shape → Shaped
+shaped k s = record { kind = k; shape = s }
+
+-- one line per kind, in the order of 000 and 001
+unfoldable pub shapes : List Shaped
+shapes =
+    shaped kind.edge Bare ∷
+    shaped kind.sectionData Bare ∷
+    shaped kind.sectionFunctions Bare ∷
+    shaped kind.export Name ∷
+    shaped kind.align OptionalInteger ∷
+    shaped kind.byte Integer ∷
+    shaped kind.word Integer ∷
+    shaped kind.string String ∷
+    shaped kind.group Bare ∷
+    shaped kind.endGroup Closing ∷
+    shaped kind.function Names ∷
+    shaped kind.endFunction Closing ∷
+    shaped kind.block Bare ∷
+    shaped kind.endBlock Closing ∷
+    shaped kind.call Call ∷
+    shaped kind.goto Name ∷
+    shaped kind.ifeq Operands ∷
+    shaped kind.ifge Operands ∷
+    shaped kind.ifgt Operands ∷
+    shaped kind.ifle Operands ∷
+    shaped kind.iflt Operands ∷
+    shaped kind.ifne Operands ∷
+    shaped kind.else Bare ∷
+    shaped kind.elseIf Test ∷
+    shaped kind.endIf Closing ∷
+    shaped kind.letLocal NameAndExpression ∷
+    shaped kind.return OptionalExpression ∷
+    shaped kind.set NameAndExpression ∷
+    shaped kind.setAt AddressAndExpression ∷
+    shaped kind.setByte Operands ∷
+    shaped kind.setWord Operands ∷
+    shaped kind.tailCall Call ∷
+    []
+
+unfoldable pub shapeIn : List Shaped → ℕ → Shape
+shapeIn [] k = NoShape
+shapeIn (x ∷ xs) k = ifEq k (x .kind) (x .shape) (shapeIn xs k)
+
+unfoldable pub shapeOf : ℕ → Shape
+shapeOf k = shapeIn shapes k
+
+-- whether a line has a shape; how many tokens it may have the word list says
+unfoldable pub isShaped : List ℕ → Span → Shape → Bool
+isShaped t u Bare = true
+isShaped t u Closing = true
+isShaped t u Names = allFrom t token.symbol token.substitute (u .word + 1) (u .next)
+isShaped t u Name = isName t (u .word + 1)
+isShaped t u Integer = isInteger t (u .word + 1)
+isShaped t u OptionalInteger = ifEq (operandCount u) 0 true (isInteger t (u .word + 1))
+isShaped t u String = isString t (u .word + 1)
+isShaped t u Operands = operandsFrom t (u .word + 1) (u .next)
+isShaped t u Test = ifEq (operandCount u) 3 (operandsFrom t (u .word + 2) (u .next)) false
+isShaped t u Call = callFrom t (u .word + 1) (u .next)
+isShaped t u OptionalExpression = ifEq (operandCount u) 0 true (expressionFrom t (u .word + 1) (u .next))
+isShaped t u NameAndExpression = ifTrue (isName t (u .word + 1)) (expressionFrom t (u .word + 2) (u .next)) false
+isShaped t u AddressAndExpression = expressionFrom t (u .word + 2) (u .next)
+isShaped t u NoShape = false
+
+unfoldable pub formFits : List ℕ → Span → ℕ → Bool
+formFits t u k = isShaped t u (shapeOf k)
+
 -- lines that end in a list of parameters or arguments: one too many is a passed limit (14) and no wrong shape
+unfoldable pub endsInList : Shape → Bool
+endsInList Bare = false
+endsInList Closing = false
+endsInList Names = true
+endsInList Name = false
+endsInList Integer = false
+endsInList OptionalInteger = false
+endsInList String = false
+endsInList Operands = false
+endsInList Test = false
+endsInList Call = true
+endsInList OptionalExpression = true
+endsInList NameAndExpression = true
+endsInList AddressAndExpression = true
+endsInList NoShape = false
+
 unfoldable pub isListed : ℕ → Bool
-isListed k =
-    ifEq k kind.function true
-    (ifLt k kind.letLocal false
-    (ifLt k kind.setByte true
-    (ifLt k kind.call false
-    (ifLt k kind.ifeq true
-    false))))
+isListed k = endsInList (shapeOf k)
 
 -- "One constant table gives each word its operand count."
 unfoldable pub countFits : List ℕ → Span → ℕ → Bool
@@ -77,39 +183,6 @@ countFits t u k =
     ifLt (operandCount u) (leastOperands (wordAt t (u .word))) false
     (ifTrue (isListed k) true
     (ifLt (mostOperands (wordAt t (u .word))) (operandCount u) false true))
-
--- statements from `goto` on
-unfoldable pub laterFits : List ℕ → Span → ℕ → Bool
-laterFits t u k =
-    ifEq k kind.goto (isName t (u .word + 1))
-    (ifLt k kind.return (callFrom t (u .word + 1) (u .next))
-    (ifEq k kind.return (ifEq (operandCount u) 0 true (expressionFrom t (u .word + 1) (u .next)))
-    (ifLt k kind.else (operandsFrom t (u .word + 1) (u .next))
-    (ifEq k kind.elseIf (ifEq (operandCount u) 3 (operandsFrom t (u .word + 2) (u .next)) false)
-    true))))
-
--- statements
-unfoldable pub statementFits : List ℕ → Span → ℕ → Bool
-statementFits t u k =
-    ifEq k kind.function (allFrom t token.symbol token.substitute (u .word + 1) (u .next))
-    (ifLt k kind.letLocal true
-    (ifLt k kind.setAt (ifTrue (isName t (u .word + 1)) (expressionFrom t (u .word + 2) (u .next)) false)
-    (ifEq k kind.setAt (expressionFrom t (u .word + 2) (u .next))
-    (ifLt k kind.goto (operandsFrom t (u .word + 1) (u .next))
-    (laterFits t u k)))))
-
--- lines that make no row
-unfoldable pub otherFits : List ℕ → Span → ℕ → Bool
-otherFits t u k =
-    ifEq k kind.export (isName t (u .word + 1))
-    (ifEq k kind.align (ifEq (operandCount u) 0 true (isInteger t (u .word + 1)))
-    (ifEq k kind.byte (isInteger t (u .word + 1))
-    (ifEq k kind.word (isInteger t (u .word + 1))
-    (ifEq k kind.string (isString t (u .word + 1))
-    true))))
-
-unfoldable pub formFits : List ℕ → Span → ℕ → Bool
-formFits t u k = ifLt k kind.sectionData (statementFits t u k) (otherFits t u k)
 
 -- a value that is known: an integer, or a substitute that stands for one
 unfoldable pub isKnown : List ℕ → ℕ → Bool
@@ -124,8 +197,11 @@ unfoldable pub byteFits : Width → ℕ → Bool
 byteFits w v = ifLt v 256 true (ifLt v (2 ^ bitsOf w - 128) false true)
 
 -- "`align` takes 1 to 4,096"
+abbrev pub pastAlign : ℕ
+pastAlign = 4097
+
 unfoldable pub alignFits : ℕ → Bool
-alignFits v = ifLt v 1 false (ifLt v 4097 true false)
+alignFits v = ifLt v 1 false (ifLt v pastAlign true false)
 
 -- "Out of range here is refusal 7."
 unfoldable pub rangeFits : Width → List ℕ → Span → ℕ → Bool

@@ -6,12 +6,14 @@ use lang_words::Substitutes;
 use lang_words::Word;
 use parse_lines::Span;
 ghost use mathlib.Core.Path.{_≡_};
+ghost use Rattle.base_limits.specs.Limits as limits;
 ghost use Prim.Native.Nat.{_+_, _*_, _-_, _^_, _≤_, _<_};
 ghost use mathlib.Core.Bool.{true, false};
 ghost use Rattle.base_prelude.specs.Choice.{ifEq, ifTrue};
 ghost use Rattle.base_limits.specs.Width.{bitsOf};
 ghost use lib.ListN.{length};
-ghost use Rattle.parse_shapes.specs.Shapes.{isName, isInteger, isString, operandsFrom, callFrom, isOperator, operatorFrom, operandAt, symbolFrom, expressionFrom, operandCount, isListed, countFits, laterFits, statementFits, otherFits, formFits, isKnown, byteFits, alignFits, rangeFits, shapeFits};
+ghost use Rattle.parse_shapes.specs.Shapes.{isName, isInteger, isString, operandsFrom, callFrom, isOperator, operatorFrom, operandAt, symbolFrom, expressionFrom, operandCount, formFits, isListed, countFits, isKnown, byteFits, alignFits, rangeFits, shapeFits};
+ghost use Rattle.parse_shapes.specs.Forms.{laterFits, statementFits, otherFits};
 
 // A plain symbol.
 pub fn is_name(t: &[u32], i: u32) -> bool
@@ -46,7 +48,7 @@ fn is_string(t: &[u32], i: u32) -> bool
 }
 
 fn operands_from(t: &[u32], i: u32, next: u32) -> bool
-    requires { ⌜ length (now t) ≡ 32768 ⌝ }
+    requires { ⌜ length (now t) ≡ limits.tokenWords ⌝ }
     ensures { λ r. ⌜ r ≡ operandsFrom (now (t .entry)) i next ⌝ }
 {
     parse_lines::all_from(t, Token::SYMBOL, Token::STRING, i, next)
@@ -54,7 +56,7 @@ fn operands_from(t: &[u32], i: u32, next: u32) -> bool
 
 // A function's name, then its arguments.
 fn call_from(t: &[u32], i: u32, next: u32) -> bool
-    requires { ⌜ (length (now t) ≡ 32768) × (i < 4294967295) ⌝ }
+    requires { ⌜ (length (now t) ≡ limits.tokenWords) × (i < 4294967295) ⌝ }
     ensures { λ r. ⌜ r ≡ callFrom (now (t .entry)) i next ⌝ }
 {
     if is_name(t, i) {
@@ -87,7 +89,7 @@ fn tokens_between(i: u32, next: u32) -> u32
 }
 
 fn operator_from(t: &[u32], i: u32, next: u32) -> bool
-    requires { ⌜ (length (now t) ≡ 32768) × (i < 4294967295) ⌝ }
+    requires { ⌜ (length (now t) ≡ limits.tokenWords) × (i < 4294967295) ⌝ }
     ensures { λ r. ⌜ r ≡ operatorFrom (now (t .entry)) i next ⌝ }
 {
     if tokens_between(i + 1, next) == lang_words::least_operands(parse_lines::word_at(t, i)) {
@@ -97,7 +99,7 @@ fn operator_from(t: &[u32], i: u32, next: u32) -> bool
 }
 
 fn operand_at(t: &[u32], i: u32, next: u32) -> bool
-    requires { ⌜ (length (now t) ≡ 32768) × (i < 4294967295) ⌝ }
+    requires { ⌜ (length (now t) ≡ limits.tokenWords) × (i < 4294967295) ⌝ }
     ensures { λ r. ⌜ r ≡ operandAt (now (t .entry)) i next ⌝ }
 {
     if next == i + 1 {
@@ -107,7 +109,7 @@ fn operand_at(t: &[u32], i: u32, next: u32) -> bool
 }
 
 fn symbol_from(t: &[u32], i: u32, next: u32) -> bool
-    requires { ⌜ (length (now t) ≡ 32768) × (i < 4294967294) ⌝ }
+    requires { ⌜ (length (now t) ≡ limits.tokenWords) × (i < 4294967294) ⌝ }
     ensures { λ r. ⌜ r ≡ symbolFrom (now (t .entry)) i next ⌝ }
 {
     let w = parse_lines::word_at(t, i);
@@ -122,7 +124,7 @@ fn symbol_from(t: &[u32], i: u32, next: u32) -> bool
 
 // An expression from a token to the line's end.
 fn expression_from(t: &[u32], i: u32, next: u32) -> bool
-    requires { ⌜ (length (now t) ≡ 32768) × (i < 4294967294) ⌝ }
+    requires { ⌜ (length (now t) ≡ limits.tokenWords) × (i < 4294967294) ⌝ }
     ensures { λ r. ⌜ r ≡ expressionFrom (now (t .entry)) i next ⌝ }
 {
     if is_name(t, i) {
@@ -181,7 +183,7 @@ fn count_fits(t: &[u32], u: Span, k: u32) -> bool
 
 // let and set: a name, then an expression.
 fn named_expression(t: &[u32], word: u32, next: u32) -> bool
-    requires { ⌜ (length (now t) ≡ 32768) × (word < 4294967292) ⌝ }
+    requires { ⌜ (length (now t) ≡ limits.tokenWords) × (word < 4294967292) ⌝ }
     ensures { λ r. ⌜ r ≡ ifTrue (isName (now (t .entry)) (word + 1)) (expressionFrom (now (t .entry)) (word + 2) next) false ⌝ }
 {
     if is_name(t, word + 1) {
@@ -191,7 +193,7 @@ fn named_expression(t: &[u32], word: u32, next: u32) -> bool
 }
 
 fn return_fits(t: &[u32], u: Span) -> bool
-    requires { ⌜ (length (now t) ≡ 32768) × (u .word < 4294967292) ⌝ }
+    requires { ⌜ (length (now t) ≡ limits.tokenWords) × (u .word < 4294967292) ⌝ }
     ensures { λ r. ⌜ r ≡ ifEq (operandCount u) 0 true (expressionFrom (now (t .entry)) (u .word + 1) (u .next)) ⌝ }
 {
     if operand_count(u) == 0 {
@@ -201,7 +203,7 @@ fn return_fits(t: &[u32], u: Span) -> bool
 }
 
 fn else_if_fits(t: &[u32], u: Span) -> bool
-    requires { ⌜ (length (now t) ≡ 32768) × (u .word < 4294967292) ⌝ }
+    requires { ⌜ (length (now t) ≡ limits.tokenWords) × (u .word < 4294967292) ⌝ }
     ensures { λ r. ⌜ r ≡ ifEq (operandCount u) 3 (operandsFrom (now (t .entry)) (u .word + 2) (u .next)) false ⌝ }
 {
     if operand_count(u) == 3 {
@@ -211,7 +213,7 @@ fn else_if_fits(t: &[u32], u: Span) -> bool
 }
 
 fn later_fits(t: &[u32], u: Span, k: u32) -> bool
-    requires { ⌜ (length (now t) ≡ 32768) × (u .word < 4294967292) ⌝ }
+    requires { ⌜ (length (now t) ≡ limits.tokenWords) × (u .word < 4294967292) ⌝ }
     ensures { λ r. ⌜ r ≡ laterFits (now (t .entry)) u k ⌝ }
 {
     if k == Kind::GOTO {
@@ -229,11 +231,11 @@ fn later_fits(t: &[u32], u: Span, k: u32) -> bool
     if k == Kind::ELSE_IF {
         return else_if_fits(t, u);
     }
-    true
+    k < Kind::PAST_ROWS
 }
 
 fn statement_fits(t: &[u32], u: Span, k: u32) -> bool
-    requires { ⌜ (length (now t) ≡ 32768) × (u .word < 4294967292) ⌝ }
+    requires { ⌜ (length (now t) ≡ limits.tokenWords) × (u .word < 4294967292) ⌝ }
     ensures { λ r. ⌜ r ≡ statementFits (now (t .entry)) u k ⌝ }
 {
     if k == Kind::FUNCTION {
@@ -283,11 +285,11 @@ fn other_fits(t: &[u32], u: Span, k: u32) -> bool
     if k == Kind::STRING {
         return is_string(t, u.word + 1);
     }
-    true
+    k < Kind::LEFT_OUT
 }
 
 fn form_fits(t: &[u32], u: Span, k: u32) -> bool
-    requires { ⌜ (length (now t) ≡ 32768) × (u .word < 4294967292) ⌝ }
+    requires { ⌜ (length (now t) ≡ limits.tokenWords) × (u .word < 4294967292) ⌝ }
     ensures { λ r. ⌜ r ≡ formFits (now (t .entry)) u k ⌝ }
 {
     if k < Kind::SECTION_DATA {
@@ -339,13 +341,16 @@ fn byte_fits(w: Width, v: u32) -> bool
     true
 }
 
+// Above what `align` takes.
+const PAST_ALIGN: u32 = 4097;
+
 fn align_fits(v: u32) -> bool
     ensures { λ r. ⌜ r ≡ alignFits v ⌝ }
 {
     if v < 1 {
         return false;
     }
-    if v < 4097 {
+    if v < PAST_ALIGN {
         return true;
     }
     false
@@ -369,7 +374,7 @@ fn range_fits(w: Width, t: &[u32], u: Span, k: u32) -> bool
 
 // A line of a known kind in right shape.
 pub fn shape_fits(w: Width, t: &[u32], u: Span, k: u32) -> bool
-    requires { ⌜ (length (now t) ≡ 32768) × (u .word < 4294967292) ⌝ }
+    requires { ⌜ (length (now t) ≡ limits.tokenWords) × (u .word < 4294967292) ⌝ }
     ensures { λ r. ⌜ r ≡ shapeFits w (now (t .entry)) u k ⌝ }
 {
     if count_fits(t, u, k) {

@@ -13,6 +13,7 @@ use Rattle.base_prelude.specs.Fault.{none, leastOf}
 use Rattle.base_prelude.proofs.Choice.{tests, ifTrue-yes, ifTrue-no, ifEq-yes, ifEq-no}
 use Rattle.lang_kinds.specs.Nesting.{standsIn, rowsOf, enters, leaves, groundOf, isFrame}
 use Rattle.lang_kinds.specs.declared.Range.{Range}
+use Rattle.lang_kinds.proofs.Standing.{range-stands, below-stands, past-stands}
 use Rattle.parse_lines.specs.Tokens.{tokenWord, keyAt}
 use Rattle.parse_shapes.specs.Shapes.{operandCount}
 use Rattle.parse_lines.specs.declared.Span.{Span}
@@ -20,7 +21,7 @@ use Rattle.base_limits.specs.declared.Width.{Width}
 use Rattle.parse_rules.specs.Rules.{shapeRule, leftRule, tokensRule, listRule, labelsRule}
 use Rattle.parse_rules.specs.declared.Labelled.{Labelled}
 use Rattle.parse_units.specs.Outline.{rowAt, wordsOf, putRow, rowIn, behind}
-use Rattle.parse_units.specs.Places.{groundIn, dataWord, statementWord, mayLabel, labelRule, placeRule, roomRule, localsRule, depthRule, lineFaults, limitFaults}
+use Rattle.parse_units.specs.Places.{groundIn, mayLabel, labelRule, placeRule, roomRule, localsRule, depthRule, lineFaults, limitFaults}
 use Rattle.parse_units.specs.Parse.{World, world, putState, putKind, growTwo, growBy, localsBehind, depthBehind, stateBehind, joinState, advance}
 use Rattle.parse_units.specs.declared.Row.{Row}
 use Rattle.parse_units.specs.declared.State.{State}
@@ -68,29 +69,6 @@ module _ (s : State) (o : Row) where
 
 pub ruleset grounds = (ground-section, ground-open)
 
-module _ (g kind w : ℕ) where
-  pub may-none : kind ≡ 3 → g ≡ 0 → false ≡ mayLabel g kind w
-  unfolding mayLabel
-  may-none e f = search tests
-
-  pub may-function : (r : Bool) → kind ≡ 3 → (g ≡ 0 → ⊥) → g ≡ 1 → r ≡ ifEq w 9 true false → r ≡ mayLabel g kind w
-  unfolding mayLabel
-  may-function r e f h q = rw (← q) (search tests)
-
-  pub may-data : (r : Bool) → kind ≡ 3 → (g ≡ 0 → ⊥) → (g ≡ 1 → ⊥) → g < 4 → r ≡ dataWord w → r ≡ mayLabel g kind w
-  unfolding mayLabel
-  may-data r e f h i q = rw (← q) (search tests)
-
-  pub may-statement : (r : Bool) → kind ≡ 3 → (g ≡ 0 → ⊥) → (g ≡ 1 → ⊥) → 4 ≤ g → r ≡ statementWord w → r ≡ mayLabel g kind w
-  unfolding mayLabel
-  may-statement r e f h i q = rw (← q) (search tests)
-
-  pub may-other : (kind ≡ 3 → ⊥) → false ≡ mayLabel g kind w
-  unfolding mayLabel
-  may-other e = search tests
-
-pub ruleset maying = (may-none, may-function, may-data, may-statement, may-other)
-
 module _ (t : List ℕ) (n : ℕ) (u : Span) where
   module _ (g k : ℕ) (p : k ≡ tokenWord t (u .first) 0) where
     pub label-none : (k ≡ 2 → ⊥) → none ≡ labelRule t n u g
@@ -107,23 +85,23 @@ module _ (t : List ℕ) (n : ℕ) (u : Span) where
       label-bad r i j = rw (← p, ← q, ← f, ← h, ← j) (search tests)
 
   module _ (k g : ℕ) (x : Range) (p : x ≡ standsIn k) where
-    low-is : standsIn k .lo ≡ x .lo
-    low-is = ap (λ (y : Range). y .lo) (sym p)
+    low-is : x .lo ≡ standsIn k .lo
+    low-is = ap (λ (y : Range). y .lo) p
 
-    high-is : standsIn k .hi ≡ x .hi
-    high-is = ap (λ (y : Range). y .hi) (sym p)
+    high-is : x .hi ≡ standsIn k .hi
+    high-is = ap (λ (y : Range). y .hi) p
 
     pub place-low : (r : ℕ) → g < x .lo → r ≡ keyAt t n (u .word) 8 → r ≡ placeRule t n u k g
     unfolding placeRule
-    place-low r h q = rw (low-is, ← q) (search tests)
+    place-low r h q = q ∙ sym (ifTrue-no _ _ (below-stands g k (omega (arith, low-is))))
 
     pub place-good : x .lo ≤ g → g < x .hi → none ≡ placeRule t n u k g
     unfolding placeRule
-    place-good h i = rw (low-is, high-is) (search tests)
+    place-good h i = sym (ifTrue-yes _ _ (range-stands g k (omega (arith, low-is)) (omega (arith, high-is))))
 
     pub place-high : (r : ℕ) → x .lo ≤ g → x .hi ≤ g → r ≡ keyAt t n (u .word) 8 → r ≡ placeRule t n u k g
     unfolding placeRule
-    place-high r h i q = rw (low-is, high-is, ← q) (search tests)
+    place-high r h i q = q ∙ sym (ifTrue-no _ _ (past-stands g k (omega (arith, low-is)) (omega (arith, high-is))))
 
   module _ (k : ℕ) where
     pub room-full : (count a b r : ℕ) → a ≡ 1025 - count → b ≡ rowsOf k → a < b → r ≡ keyAt t n (u .word) 14 → r ≡ roomRule t n u k count
@@ -209,7 +187,7 @@ count-put : (k token next operands : ℕ) (x : World) → putKind k token next o
 unfolding putKind putState
 count-put k token next operands x = refl
 
-pub put-few : (k token next operands : ℕ) (s x : State) (rows rows′ : List ℕ) → s .count ≤ 1023 → world x rows′ ≡ putKind k token next operands (world s rows) → x .count ≤ 1024
+pub put-few : (k token next operands : ℕ) (s x : State) (rows rows′ : List ℕ) → s .count + 1 ≤ 1024 → world x rows′ ≡ putKind k token next operands (world s rows) → x .count ≤ 1024
 put-few k token next operands s x rows rows′ h e =
     omega (arith, ap (λ (y : World). y .state .count) e ∙ count-put k token next operands (world s rows))
 

@@ -1,3 +1,5 @@
+pub mod Labelled
 pub mod Cases
 pub mod Bounds
 pub mod UnitSteps
+pub mod Examples

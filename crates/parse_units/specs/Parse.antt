@@ -17,7 +17,7 @@ use Rattle.parse_lines.specs.Lines.{lineKind}
 use Rattle.parse_shapes.specs.Shapes.{operandCount}
 use Rattle.parse_lines.specs.declared.Span.{Span}
 use Rattle.parse_rules.specs.Rules.{labelsRule}
-use Rattle.parse_units.specs.Outline.{rowAt, putRow, rowIn, behind}
+use Rattle.parse_units.specs.Outline.{outlineWords, rowAt, putRow, rowIn, behind}
 use Rattle.parse_units.specs.Places.{groundIn, unitFault}
 use Rattle.parse_units.specs.declared.Row.{Row}
 use Rattle.parse_units.specs.declared.State.{State}
@@ -129,6 +129,6 @@ begin = record { at = 0; count = 1; top = 0; section = ground.beforeSections; lo
 unfoldable pub parseFrom : Width → List ℕ → ℕ → World → Result
 parseFrom w t n x = walk (unitStep w t n) (result (Refused none) []) (suc (length t)) x
 
--- the tokens t of a source of n bytes; 8,200 words hold the edge and 1,024 rows
+-- the tokens t of a source of n bytes
 unfoldable pub parseOf : Width → List ℕ → ℕ → Result
-parseOf w t n = parseFrom w t n (world begin (zeros 8200))
+parseOf w t n = parseFrom w t n (world begin (zeros outlineWords))

@@ -5,14 +5,14 @@ use mathlib.Core.Bool.{Bool, true, false}
 use mathlib.Core.List.{List, [], _∷_}
 use Rattle.base_prelude.specs.Choice.{ifLt, ifEq, ifTrue}
 use Rattle.base_prelude.specs.Fault.{none, leastOf}
+use Rattle.base_prelude.specs.Lists.{isAmong}
 use Rattle.base_limits.specs.declared.Width.{Width}
 use Rattle.base_limits.specs.Limits as limits
 use Rattle.lang_kinds.specs.Kinds as kind
-use Rattle.lang_kinds.specs.Grounds as ground
 use Rattle.lang_kinds.specs.Tokens as token
 use Rattle.lang_words.specs.Numbers as word
-use Rattle.lang_kinds.specs.Nesting.{standsIn, rowsOf, groundOf}
-use Rattle.lang_kinds.specs.declared.Range.{Range}
+use Rattle.lang_kinds.specs.Nesting.{rowsOf, groundOf}
+use Rattle.lang_kinds.specs.Standing.{Ground, BeforeSections, FunctionsSection, DataSection, Group, InFunction, InBlock, InTestArm, InElseArm, NoGround, groundNumbered, standsOn}
 use Rattle.parse_lines.specs.Tokens.{kindAt, wordAt, keyAt}
 use Rattle.parse_lines.specs.declared.Span.{Span}
 use Rattle.parse_rules.specs.Rules.{shapeRule, leftRule, tokensRule, listRule, labelsRule}
@@ -24,22 +24,57 @@ use Rattle.parse_units.specs.declared.State.{State}
 unfoldable pub groundIn : State → Row → ℕ
 groundIn s o = ifEq (s .top) 0 (s .section) (groundOf (o .kind))
 
--- words for data, and for what stands in a function
-unfoldable pub dataWord : ℕ → Bool
-dataWord w = ifLt w word.align false (ifLt w word.function true false)
+-- "A label names a data definition, group or `align` in data"
+abbrev pub dataWords : List ℕ
+dataWords = word.byte ∷ word.word ∷ word.string ∷ word.group ∷ word.align ∷ []
 
-unfoldable pub statementWord : ℕ → Bool
-statementWord w = ifLt w word.function false (ifEq w word.if false (ifLt w word.add true false))
+-- "a function in functions"
+abbrev pub functionWords : List ℕ
+functionWords = word.function ∷ []
 
--- "A label names a data definition, group or `align` in data, a function in functions, or a statement inside a function, `end` and
--- `else` lines included, however its line goes on": judged by the ground and the magic word alone
+-- "or a statement inside a function, `end` and `else` lines included, however its line goes on"
+abbrev pub statementWords : List ℕ
+statementWords =
+    word.function ∷
+    word.block ∷
+    word.end ∷
+    word.else ∷
+    word.call ∷
+    word.goto ∷
+    word.letLocal ∷
+    word.return ∷
+    word.set ∷
+    word.setByte ∷
+    word.setWord ∷
+    word.tailCall ∷
+    word.saveFrame ∷
+    word.saveLocals ∷
+    word.saveFrameAndLocals ∷
+    word.restoreFrame ∷
+    word.restoreLocals ∷
+    word.ifeq ∷
+    word.ifge ∷
+    word.ifgt ∷
+    word.ifle ∷
+    word.iflt ∷
+    word.ifne ∷
+    []
+
+-- the magic words that labels may stand before, on each ground
+unfoldable pub labelledOn : Ground → List ℕ
+labelledOn BeforeSections = []
+labelledOn FunctionsSection = functionWords
+labelledOn DataSection = dataWords
+labelledOn Group = dataWords
+labelledOn InFunction = statementWords
+labelledOn InBlock = statementWords
+labelledOn InTestArm = statementWords
+labelledOn InElseArm = statementWords
+labelledOn NoGround = []
+
+-- labels may stand on the ground g before a token of kind k with the word w: judged by the ground and the magic word alone
 unfoldable pub mayLabel : ℕ → ℕ → ℕ → Bool
-mayLabel g k w =
-    ifEq k token.symbol
-    (ifEq g ground.beforeSections false
-    (ifEq g ground.functionsSection (ifEq w word.function true false)
-    (ifLt g ground.inFunction (dataWord w) (statementWord w))))
-    false
+mayLabel g k w = ifEq k token.symbol (isAmong w (labelledOn (groundNumbered g))) false
 
 -- 8: "else, or at the source's end, refusal 8 at it": the first of the labels before the line
 unfoldable pub labelRule : List ℕ → ℕ → Span → ℕ → ℕ
@@ -50,18 +85,17 @@ labelRule t n u g =
 
 -- 8: "not allowed here: magic word"; "8 at source end if something is open"
 unfoldable pub placeRule : List ℕ → ℕ → Span → ℕ → ℕ → ℕ
-placeRule t n u k g =
-    ifLt g (standsIn k .lo) (keyAt t n (u .word) 8) (ifLt g (standsIn k .hi) none (keyAt t n (u .word) 8))
+placeRule t n u k g = ifTrue (standsOn g k) none (keyAt t n (u .word) 8)
 
--- 14: 1,024 statements; row 0 is the edge, so the first free row is at most 1,025
+-- 14: "statements 1,024"; row 0 is the edge, so the first free row is at most one more
 unfoldable pub roomRule : List ℕ → ℕ → Span → ℕ → ℕ → ℕ
-roomRule t n u k count = ifLt (1025 - count) (rowsOf k) (keyAt t n (u .word) 14) none
+roomRule t n u k count = ifLt (limits.statements + 1 - count) (rowsOf k) (keyAt t n (u .word) 14) none
 
--- 14: 64 locals in scope
+-- 14: "locals in scope 64"
 unfoldable pub localsRule : List ℕ → ℕ → Span → ℕ → ℕ → ℕ
 localsRule t n u k locals = ifEq k kind.letLocal (ifLt locals limits.locals none (keyAt t n (u .word) 14)) none
 
--- 14: blocks 16 deep
+-- 14: "blocks nested 16 deep"
 unfoldable pub depthRule : List ℕ → ℕ → Span → ℕ → ℕ → ℕ
 depthRule t n u k depth = ifEq k kind.block (ifLt depth limits.blockDepth none (keyAt t n (u .word) 14)) none
 

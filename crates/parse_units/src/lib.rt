@@ -7,6 +7,7 @@ use lang_kinds::Token;
 use lang_words::Word;
 use parse_lines::Span;
 ghost use mathlib.Core.Path.{_≡_};
+ghost use Rattle.base_limits.specs.Limits as limits;
 ghost use Prim.Native.Nat.{_+_, _*_, _-_, _≤_, _<_};
 ghost use lib.ListN.{length};
 ghost use mathlib.Core.Bool.{true, false};
@@ -14,18 +15,20 @@ ghost use Rattle.base_prelude.specs.Choice.{ifEq, ifTrue};
 ghost use Rattle.lang_kinds.specs.Nesting.{isFrame, leaves};
 ghost use Rattle.base_prelude.specs.Fault.{none};
 ghost use Rattle.parse_units.specs.OutlineRow.{outlineRowOf};
-ghost use Rattle.parse_units.specs.Outline.{rowAt, putRow, rowIn, behind};
-ghost use Rattle.parse_units.specs.Places.{groundIn, dataWord, statementWord, mayLabel, labelRule, placeRule, roomRule, localsRule, depthRule, lineFaults, limitFaults, unitFault};
+ghost use Rattle.parse_units.specs.Outline.{outlineRow, outlineWords, rowAt, putRow, rowIn, behind};
+ghost use Rattle.parse_units.specs.Places.{groundIn, dataWords, functionWords, statementWords, mayLabel, labelRule, placeRule, roomRule, localsRule, depthRule, lineFaults, limitFaults, unitFault};
 ghost use Rattle.base_prelude.specs.Fault.{leastOf};
 ghost use Rattle.lang_kinds.specs.Nesting.{rowsOf};
 ghost use Rattle.parse_lines.specs.Tokens.{tokenWord};
 ghost use Rattle.parse_lines.specs.Lines.{lineKind};
 ghost use Rattle.parse_shapes.specs.Shapes.{operandCount};
-ghost use Rattle.base_prelude.specs.Lists.{zeros};
+ghost use Rattle.base_prelude.specs.Lists.{zeros, isAmong};
 ghost use Rattle.lang_kinds.specs.Kinds as kind;
-ghost use Rattle.lang_words.specs.Numbers as word;
 ghost use Rattle.parse_units.specs.Parse.{world, putState, putKind, growTwo, growBy, localsBehind, depthBehind, sectionBehind, stateBehind, joinState, advance, result, stepped, unitStep, parseFrom, parseOf, begin};
 ghost use Rattle.parse_units.specs.Fits.{StepFits, UnitStepFits};
+
+// The edge, and a row for each statement.
+const FREE_ROWS: u32 = Machine::STATEMENTS as u32 + 1;
 
 // Sizes of the outline's tables.
 pub struct Outline {}
@@ -33,11 +36,11 @@ pub struct Outline {}
 impl Outline {
     pub const ROW: usize = 8;
 
-    pub const WORDS: usize = 8200;
+    pub const WORDS: usize = (Machine::STATEMENTS + 1) * 8;
 
     pub const LABEL_ROW: usize = 4;
 
-    pub const LABEL_WORDS: usize = 1024;
+    pub const LABEL_WORDS: usize = Machine::LABELS * 4;
 }
 
 // The words of a row of the outline.
@@ -140,7 +143,7 @@ fn row_at(rows: &[u32], n: u32) -> Row
 }
 
 fn put_row(rows: &mut [u32], n: u32, r: Row)
-    requires { ⌜ n * 8 + 8 ≤ length (now rows) ⌝ }
+    requires { ⌜ n * outlineRow + outlineRow ≤ length (now rows) ⌝ }
     ensures { λ _. ⌜ now (rows .exit) ≡ putRow (now (rows .entry)) n r ⌝ }
 {
     let w = n as usize * Outline::ROW;
@@ -224,7 +227,7 @@ fn ground_in(s: State, o: Row) -> u32
 }
 
 fn data_word(w: u32) -> bool
-    ensures { λ r. ⌜ r ≡ dataWord w ⌝ }
+    ensures { λ r. ⌜ r ≡ isAmong w dataWords ⌝ }
 {
     if w < Word::ALIGN {
         return false;
@@ -236,7 +239,7 @@ fn data_word(w: u32) -> bool
 }
 
 fn statement_word(w: u32) -> bool
-    ensures { λ r. ⌜ r ≡ statementWord w ⌝ }
+    ensures { λ r. ⌜ r ≡ isAmong w statementWords ⌝ }
 {
     if w < Word::FUNCTION {
         return false;
@@ -251,7 +254,7 @@ fn statement_word(w: u32) -> bool
 }
 
 fn function_word(w: u32) -> bool
-    ensures { λ r. ⌜ r ≡ ifEq w word.function true false ⌝ }
+    ensures { λ r. ⌜ r ≡ isAmong w functionWords ⌝ }
 {
     if w == Word::FUNCTION {
         return true;
@@ -272,7 +275,10 @@ fn may_label(g: u32, kind: u32, w: u32) -> bool
         if g < Ground::IN_FUNCTION {
             return data_word(w);
         }
-        return statement_word(w);
+        if g < Ground::PAST_GROUNDS {
+            return statement_word(w);
+        }
+        return false;
     }
     false
 }
@@ -309,10 +315,10 @@ fn place_rule(t: &[u32], n: u32, u: Span, k: u32, g: u32) -> u64
 }
 
 fn rows_left(count: u32) -> u32
-    ensures { λ r. ⌜ r ≡ 1025 - count ⌝ }
+    ensures { λ r. ⌜ r ≡ limits.statements + 1 - count ⌝ }
 {
-    if count < 1025 {
-        return 1025 - count;
+    if count < FREE_ROWS {
+        return FREE_ROWS - count;
     }
     0
 }
@@ -354,7 +360,7 @@ fn depth_rule(t: &[u32], n: u32, u: Span, k: u32, depth: u32) -> u64
 }
 
 fn line_faults(w: Width, t: &[u32], n: u32, u: Span, k: u32, g: u32, s: State) -> u64
-    requires { ⌜ (length (now t) ≡ 32768) × (u .word ≤ 4097) × (s .labels ≤ 4097) ⌝ }
+    requires { ⌜ (length (now t) ≡ limits.tokenWords) × (u .word ≤ limits.tokens + 1) × (s .labels ≤ limits.tokens + 1) ⌝ }
     ensures { λ r. ⌜ r ≡ leastOf (lineFaults w (now (t .entry)) n u k g s) ⌝ }
 {
     let x = parse_rules::labels_rule(t, n, u, s.labels);
@@ -366,7 +372,7 @@ fn line_faults(w: Width, t: &[u32], n: u32, u: Span, k: u32, g: u32, s: State) -
 }
 
 fn limit_faults(t: &[u32], n: u32, u: Span, k: u32, s: State) -> u64
-    requires { ⌜ u .word ≤ 4097 ⌝ }
+    requires { ⌜ u .word ≤ limits.tokens + 1 ⌝ }
     ensures { λ r. ⌜ r ≡ leastOf (limitFaults (now (t .entry)) n u k s) ⌝ }
 {
     let a = base_prelude::least(parse_rules::list_rule(t, n, u, k), 1099511627776);
@@ -378,7 +384,7 @@ fn limit_faults(t: &[u32], n: u32, u: Span, k: u32, s: State) -> u64
 
 // The least fault of a unit.
 fn unit_fault(w: Width, t: &[u32], n: u32, u: Span, k: u32, g: u32, s: State) -> u64
-    requires { ⌜ (length (now t) ≡ 32768) × (u .word ≤ 4097) × (s .labels ≤ 4097) ⌝ }
+    requires { ⌜ (length (now t) ≡ limits.tokenWords) × (u .word ≤ limits.tokens + 1) × (s .labels ≤ limits.tokens + 1) ⌝ }
     ensures { λ r. ⌜ r ≡ unitFault w (now (t .entry)) n u k g s ⌝ }
 {
     base_prelude::least(
@@ -404,7 +410,7 @@ fn put_state(s: State, n: u32, r: Row) -> State
 
 // One row more.
 fn put_kind(rows: &mut [u32], k: u32, token: u32, next: u32, operands: u32, s: State) -> State
-    requires { ⌜ (length (now rows) ≡ 8200) × (s .count ≤ 1024) ⌝ }
+    requires { ⌜ (length (now rows) ≡ outlineWords) × (s .count ≤ limits.statements) ⌝ }
     ensures { λ r. ⌜ world r (now (rows .exit)) ≡ putKind k token next operands (world s (now (rows .entry))) ⌝ }
 {
     let o = row_at(rows, s.top);
@@ -415,7 +421,7 @@ fn put_kind(rows: &mut [u32], k: u32, token: u32, next: u32, operands: u32, s: S
 
 // The two rows of an else-if line.
 fn grow_two(t: &[u32], rows: &mut [u32], u: Span, k: u32, s: State) -> State
-    requires { ⌜ (length (now rows) ≡ 8200) × (s .count ≤ 1023) × (u .word ≤ 4097) ⌝ }
+    requires { ⌜ (length (now rows) ≡ outlineWords) × (s .count + 1 ≤ limits.statements) × (u .word ≤ limits.tokens + 1) ⌝ }
     ensures { λ r. ⌜ world r (now (rows .exit)) ≡ growTwo (now (t .entry)) u k (world s (now (rows .entry))) ⌝ }
 {
     let x = put_kind(rows, k, u.word, u.word + 1, 0, s);
@@ -424,7 +430,7 @@ fn grow_two(t: &[u32], rows: &mut [u32], u: Span, k: u32, s: State) -> State
 }
 
 fn grow(m: u32, t: &[u32], rows: &mut [u32], u: Span, k: u32, s: State) -> State
-    requires { ⌜ (length (now rows) ≡ 8200) × (s .count + m ≤ 1025) × (u .word ≤ 4097) ⌝ }
+    requires { ⌜ (length (now rows) ≡ outlineWords) × (s .count + m ≤ limits.statements + 1) × (u .word ≤ limits.tokens + 1) ⌝ }
     ensures { λ r. ⌜ world r (now (rows .exit)) ≡ growBy m (now (t .entry)) u k (world s (now (rows .entry))) ⌝ }
 {
     if m == 0 {
@@ -437,7 +443,7 @@ fn grow(m: u32, t: &[u32], rows: &mut [u32], u: Span, k: u32, s: State) -> State
 }
 
 fn locals_behind(k: u32, operands: u32, before: u32, locals: u32) -> u32
-    requires { ⌜ (k ≡ kind.letLocal → locals < 64) ⌝ }
+    requires { ⌜ (k ≡ kind.letLocal → locals < limits.locals) ⌝ }
     ensures { λ r. ⌜ r ≡ localsBehind k operands before locals ⌝ }
 {
     if k == Kind::FUNCTION {
@@ -462,7 +468,7 @@ fn less_one(depth: u32) -> u32
 }
 
 fn depth_behind(k: u32, depth: u32) -> u32
-    requires { ⌜ (k ≡ kind.block → depth < 16) ⌝ }
+    requires { ⌜ (k ≡ kind.block → depth < limits.blockDepth) ⌝ }
     ensures { λ r. ⌜ r ≡ depthBehind k depth ⌝ }
 {
     if k == Kind::FUNCTION {
@@ -497,7 +503,7 @@ pub fn section_behind(k: u32, section: u32) -> u32
 }
 
 fn state_behind(t: &[u32], n: u32, u: Span, k: u32, o: Row, s: State) -> State
-    requires { ⌜ (u .word ≤ 4097) × (s .labels ≤ 4097) × (k ≡ kind.letLocal → s .locals < 64) × (k ≡ kind.block → s .depth < 16) ⌝ }
+    requires { ⌜ (u .word ≤ limits.tokens + 1) × (s .labels ≤ limits.tokens + 1) × (k ≡ kind.letLocal → s .locals < limits.locals) × (k ≡ kind.block → s .depth < limits.blockDepth) ⌝ }
     ensures { λ r. ⌜ r ≡ stateBehind (now (t .entry)) n u k o s ⌝ }
 {
     let x = parse_rules::labels_rule(t, n, u, s.labels);
@@ -590,7 +596,7 @@ fn start_state() -> State
 
 // The outline of the tokens t of a source of n bytes; the rows' words are cleared first.
 pub fn parse_rows(w: Width, t: &[u32], n: u32, rows: &mut [u32]) -> Verdict
-    requires { ⌜ (length (now t) ≡ 32768) × (length (now rows) ≡ 8200) ⌝ }
+    requires { ⌜ (length (now t) ≡ limits.tokenWords) × (length (now rows) ≡ outlineWords) ⌝ }
     ensures { λ r. ⌜ result r (now (rows .exit)) ≡ parseOf w (now (t .entry)) n ⌝ }
 {
     base_prelude::clear_from(rows, 0);

@@ -102,7 +102,7 @@ module _ (w : Width) (t : List ℕ) (n : ℕ) (u : Span) (k g : ℕ) (s : State)
 
   rule-place : F (placeRule t n u k g)
   unfolding placeRule
-  rule-place = either F g _ _ _ (λ _. at-word 8 (omega arith)) (λ _. either F g _ _ _ (λ _. nothing) (λ _. at-word 8 (omega arith)))
+  rule-place = either-true F _ _ _ (λ _. nothing) (λ _. at-word 8 (omega arith))
 
   rule-left : F (leftRule t n u k)
   unfolding leftRule

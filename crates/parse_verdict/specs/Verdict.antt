@@ -13,6 +13,7 @@ use Rattle.lang_kinds.specs.Tokens as token
 use Rattle.parse_lines.specs.Tokens.{kindAt, placeAt}
 use Rattle.parse_lines.specs.Units.{unitAt}
 use Rattle.parse_lines.specs.Lines.{lineKind}
+use Rattle.parse_units.specs.Outline.{outlineWords}
 use Rattle.parse_units.specs.Parse.{World, world, Result, begin, advance, faultIn, parseOf}
 use Rattle.parse_units.specs.declared.Verdict.{Verdict}
 use Rattle.parse_units.specs.declared.Verdict.the-variants.{Accepted, Refused}
@@ -36,7 +37,7 @@ faultsFrom (suc k) w t n x = faultAt w t n x ∷ ifEq (kindIn t x) kind.edge [] 
 
 -- the faults of the whole source
 unfoldable pub allFaults : Width → List ℕ → ℕ → List ℕ
-allFaults w t n = faultsFrom (suc (length t)) w t n (world begin (zeros 8200))
+allFaults w t n = faultsFrom (suc (length t)) w t n (world begin (zeros outlineWords))
 
 -- the least of them
 unfoldable pub verdictOf : Width → List ℕ → ℕ → ℕ

@@ -5,6 +5,7 @@ use lang_kinds::Kind;
 use lang_kinds::TokenRow;
 use parse_lines::Span;
 ghost use mathlib.Core.Path.{_≡_};
+ghost use Rattle.base_limits.specs.Limits as limits;
 ghost use Prim.Native.Nat.{_+_, _-_, _≤_, _<_};
 ghost use lib.ListN.{length};
 ghost use Rattle.base_prelude.specs.Lists.{overlay};
@@ -166,7 +167,7 @@ fn first_cursor() -> Cursor
 
 // The bytes of all lines before the token `end`, or the magic word of the first that is too big.
 pub fn measure(w: Width, t: &[u32], end: u32) -> Measured
-    requires { ⌜ length (now t) ≡ 32768 ⌝ }
+    requires { ⌜ length (now t) ≡ limits.tokenWords ⌝ }
     ensures { λ r. ⌜ r ≡ measureOf w (now (t .entry)) end ⌝ }
 {
     measure_from(w, t, end, first_cursor())
@@ -271,7 +272,7 @@ fn length_in(m: Measured) -> u32
 
 // The address of what a label names, by the token of its magic word.
 pub fn address_of(w: Width, t: &[u32], word: u32) -> u32
-    requires { ⌜ length (now t) ≡ 32768 ⌝ }
+    requires { ⌜ length (now t) ≡ limits.tokenWords ⌝ }
     ensures { λ r. ⌜ r ≡ addressOf w (now (t .entry)) word ⌝ }
 {
     length_in(measure(w, t, word))
@@ -279,7 +280,7 @@ pub fn address_of(w: Width, t: &[u32], word: u32) -> u32
 
 // The data of the source s, over a buffer that is zeros where an `align` fills.
 pub fn write_image(w: Width, s: &[u8], t: &[u32], out: &mut [u8])
-    requires { ⌜ length (now t) ≡ 32768 ⌝ }
+    requires { ⌜ length (now t) ≡ limits.tokenWords ⌝ }
     ensures { λ _. ⌜ now (out .exit) ≡ imageOf w (now (s .entry)) (now (t .entry)) (now (out .entry)) ⌝ }
 {
     lay_from(w, s, t, first_cursor(), out);

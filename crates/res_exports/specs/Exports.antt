@@ -4,13 +4,14 @@
 -- Assumes nothing.
 use Prim.Native.Nat.{ℕ, zero, suc, _+_, _-_, min}
 use mathlib.Core.Bool.{Bool, true, false}
-use mathlib.Core.List.{List, []}
+use mathlib.Core.List.{List, [], _∷_}
 use lib.Dec.{ltb}
 use lib.ListN.{length, getD, set}
 use Rattle.base_prelude.specs.Choice.{ifLt, ifEq, ifTrue}
 use Rattle.base_prelude.specs.Fault.{none}
-use Rattle.base_prelude.specs.Lists.{zeros}
+use Rattle.base_prelude.specs.Lists.{zeros, isAmong}
 use Rattle.base_prelude.specs.Walk.{Step, go, stop, walk}
+use Rattle.base_limits.specs.Limits as limits
 use Rattle.lang_kinds.specs.Kinds as kind
 use Rattle.parse_lines.specs.Tokens.{keyAt}
 use Rattle.parse_lines.specs.Units.{unitAt}
@@ -132,4 +133,22 @@ exportsFrom same t n y l uses x = walk (exportStep same t n y l uses) (exported 
 
 -- the exports of the tokens t of a source of n bytes with l label rows y; `uses` has the first token that means each label
 unfoldable pub exportsOf : (ℕ → ℕ → Bool) → List ℕ → ℕ → List ℕ → ℕ → List ℕ → Exported
-exportsOf same t n y l uses = exportsFrom same t n y l uses (world (exports 0 none) (zeros 256))
+exportsOf same t n y l uses = exportsFrom same t n y l uses (world (exports 0 none) (zeros limits.labels))
+
+-- ---- which labels are exported
+
+-- the label that the first definition behind an export's line carries; l for none
+unfoldable pub carriedIn : (ℕ → ℕ → Bool) → List ℕ → List ℕ → ℕ → Span → ℕ
+carriedIn same t y l u = carriedBy same y l (definitionFrom t (u .next) .first) (definitionFrom t (u .next) .word) (u .word + 1)
+
+-- those of the exports among so many lines from a token on
+unfoldable pub exportedFrom : ℕ → (ℕ → ℕ → Bool) → List ℕ → List ℕ → ℕ → ℕ → List ℕ
+exportedFrom zero same t y l at = []
+exportedFrom (suc left) same t y l at =
+    ifEq (lineKind t (unitAt t at .word)) kind.edge []
+    (ifEq (lineKind t (unitAt t at .word)) kind.export (carriedIn same t y l (unitAt t at) ∷ exportedFrom left same t y l (unitAt t at .next))
+    (exportedFrom left same t y l (unitAt t at .next)))
+
+-- label j is exported: an export's definition carries it
+unfoldable pub isExported : (ℕ → ℕ → Bool) → List ℕ → List ℕ → ℕ → ℕ → Bool
+isExported same t y l j = isAmong j (exportedFrom (suc (length t)) same t y l 0)

@@ -2,6 +2,7 @@
 use lang_kinds::Kind;
 use parse_lines::Span;
 ghost use mathlib.Core.Path.{_≡_};
+ghost use Rattle.base_limits.specs.Limits as limits;
 ghost use Prim.Native.Nat.{_+_, _-_, _≤_, _<_, min};
 ghost use lib.ListN.{length, getD};
 ghost use Rattle.base_prelude.specs.Fault.{none};
@@ -192,7 +193,7 @@ fn export_part(
     k: u32,
     best: u64,
 ) -> u64
-    requires { ⌜ (length (now t) ≡ 32768) × (u .word ≤ 4097) × (u .next ≤ 4097) ⌝ }
+    requires { ⌜ (length (now t) ≡ limits.tokenWords) × (u .word ≤ limits.tokens + 1) × (u .next ≤ limits.tokens + 1) ⌝ }
     ensures { λ r. ⌜ exported r (now (flags .exit)) ≡ exportPart (sameNumber (now (t .entry))) (now (t .entry)) n (now (y .entry)) l (now (uses .entry)) u k (exported best (now (flags .entry))) ⌝ }
 {
     if k == Kind::EXPORT {
@@ -254,7 +255,7 @@ fn exports_from(
 
 // The exports of the tokens t of a source of n bytes: the least fault, and in `flags` 1 for each label that is exported.
 pub fn judge_exports(t: &[u32], n: u32, y: &[u32], l: u32, uses: &[u32], flags: &mut [u32]) -> u64
-    requires { ⌜ (length (now t) ≡ 32768) × (length (now flags) ≡ 256) ⌝ }
+    requires { ⌜ (length (now t) ≡ limits.tokenWords) × (length (now flags) ≡ limits.labels) ⌝ }
     ensures { λ r. ⌜ exported r (now (flags .exit)) ≡ exportsOf (sameNumber (now (t .entry))) (now (t .entry)) n (now (y .entry)) l (now (uses .entry)) ⌝ }
 {
     base_prelude::clear_from(flags, 0);

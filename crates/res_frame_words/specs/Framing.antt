@@ -5,6 +5,7 @@ use mathlib.Core.List.{List}
 use lib.ListN.{set}
 use Rattle.base_prelude.specs.Choice.{ifEq, ifTrue}
 use Rattle.base_prelude.specs.Lists.{zeros}
+use Rattle.base_limits.specs.Limits as limits
 use Rattle.lang_kinds.specs.Kinds as kind
 use Rattle.prog_tables.specs.Statement.{Row}
 use Rattle.prog_tables.specs.Nesting.{hasTarget, targetOf}
@@ -31,4 +32,4 @@ wordsIn w f c (suc n) = set (wordsIn w f c n) n (wordOf f c n)
 
 -- a word for each of the rows, 0 behind them
 unfoldable pub wordsOf : (ℕ → Row) → ℕ → List ℕ
-wordsOf f c = wordsIn (zeros 1024) f c c
+wordsOf f c = wordsIn (zeros limits.statements) f c c

@@ -1,24 +1,29 @@
 // The word that nesting and frames give each row of the statement table.
+use base_limits::Machine;
 use lang_kinds::Kind;
 ghost use mathlib.Core.Path.{_≡_};
+ghost use Rattle.base_limits.specs.Limits as limits;
 ghost use Prim.Native.Nat.{_≤_, _<_};
 ghost use lib.ListN.{length};
 ghost use Rattle.prog_tables.specs.Statement.{rowAt};
 ghost use Rattle.prog_tables.specs.Frames.{frameSize};
 ghost use Rattle.res_frame_words.specs.Framing.{frameValue, wordOf, wordsIn, wordsOf};
 
+// A function and the blocks in it.
+const FRAME_DEPTH: u32 = Machine::BLOCK_DEPTH + 1;
+
 // The frame size of a function, whatever its parameters.
 fn size_of(k: &[u32], c: u32, n: u32) -> u64
-    requires { ⌜ c ≤ 1024 ⌝ }
+    requires { ⌜ c ≤ limits.statements ⌝ }
     ensures { λ r. ⌜ r ≡ frameSize (rowAt (now (k .entry))) c n ⌝ }
 {
     let p = prog_tables::parameters_at(k, n);
-    let need = prog_frames::need(k, c, 17, n);
+    let need = prog_frames::need(k, c, FRAME_DEPTH, n);
     3 + p as u64 + need as u64
 }
 
 fn value_of(k: &[u32], c: u32, n: u32) -> u64
-    requires { ⌜ (c ≤ 1024) × (n < c) ⌝ }
+    requires { ⌜ (c ≤ limits.statements) × (n < c) ⌝ }
     ensures { λ r. ⌜ r ≡ frameValue (rowAt (now (k .entry))) c n ⌝ }
 {
     let kind = prog_tables::kind_at(k, n);
@@ -41,14 +46,14 @@ fn value_of(k: &[u32], c: u32, n: u32) -> u64
 }
 
 fn word_of(k: &[u32], c: u32, n: u32) -> u32
-    requires { ⌜ (c ≤ 1024) × (n < c) ⌝ }
+    requires { ⌜ (c ≤ limits.statements) × (n < c) ⌝ }
     ensures { λ r. ⌜ r ≡ wordOf (rowAt (now (k .entry))) c n ⌝ }
 {
     (value_of(k, c, n) % 4294967296) as u32
 }
 
 fn put_words(k: &[u32], c: u32, out: &mut [u32])
-    requires { ⌜ (c ≤ 1024) × (length (now out) ≡ 1024) ⌝ }
+    requires { ⌜ (c ≤ limits.statements) × (length (now out) ≡ limits.statements) ⌝ }
     ensures { λ _. ⌜ now (out .exit) ≡ wordsIn (now (out .entry)) (rowAt (now (k .entry))) c c ⌝ }
 {
     let mut n: u32 = 0;
@@ -60,7 +65,7 @@ fn put_words(k: &[u32], c: u32, out: &mut [u32])
 
 // The words of c rows; the table is cleared first.
 pub fn make_words(k: &[u32], c: u32, out: &mut [u32])
-    requires { ⌜ (c ≤ 1024) × (length (now out) ≡ 1024) ⌝ }
+    requires { ⌜ (c ≤ limits.statements) × (length (now out) ≡ limits.statements) ⌝ }
     ensures { λ _. ⌜ now (out .exit) ≡ wordsOf (rowAt (now (k .entry))) c ⌝ }
 {
     base_prelude::clear_from(out, 0);

@@ -5,6 +5,7 @@ use mathlib.Core.List.{List, [], _∷_, _++_}
 use lib.ListN.{take, drop, getD}
 use Rattle.base_prelude.specs.Choice.{ifEq}
 use Rattle.base_prelude.specs.Lists.{overlay}
+use Rattle.base_limits.specs.Limits as limits
 use Rattle.base_limits.specs.declared.Width.{Width}
 use Rattle.lang_kinds.specs.TokenRow as field
 use Rattle.prog_tables.specs.OutlineLabel as outline
@@ -58,10 +59,11 @@ labelTable w t y flags l out = labelsFrom l w t y flags 0 out
 unfoldable pub labelName : List ℕ → List ℕ → List ℕ → ℕ → List ℕ
 labelName s t y j = nameAt s (tokenWord t (outlineWord y j outline.token) field.first)
 
--- bytes over the front of the 64 bytes of row j
+-- bytes over the front of the bytes of row j
 unfoldable pub putName : List ℕ → ℕ → List ℕ → List ℕ
 putName names j bytes =
-    take (j * 64) names ++ (overlay bytes (take 64 (drop (j * 64) names)) ++ drop 64 (drop (j * 64) names))
+    take (j * limits.nameBytes) names
+    ++ (overlay bytes (take limits.nameBytes (drop (j * limits.nameBytes) names)) ++ drop limits.nameBytes (drop (j * limits.nameBytes) names))
 
 -- names from j on, so many of them
 unfoldable pub namesFrom : ℕ → List ℕ → List ℕ → List ℕ → ℕ → List ℕ → List ℕ

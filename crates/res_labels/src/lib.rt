@@ -1,4 +1,5 @@
 // The label table and the name table.
+use base_limits::Machine;
 use base_limits::Width;
 use lang_kinds::TokenRow;
 use prog_tables::LabelKind;
@@ -6,6 +7,8 @@ use prog_tables::LabelRow;
 use prog_tables::OutlineLabel;
 use prog_tables::Table;
 ghost use mathlib.Core.Path.{_≡_};
+ghost use Rattle.prog_tables.specs.Layout.{labelRow};
+ghost use Rattle.base_limits.specs.Limits as limits;
 ghost use mathlib.Core.List.{[], _∷_};
 ghost use Prim.Native.Nat.{_+_, _*_, _≤_, _<_};
 ghost use lib.ListN.{length};
@@ -49,7 +52,7 @@ fn final_kind(kind: u32, flag: u32) -> u32
 }
 
 fn final_number(w: Width, t: &[u32], kind: u32, number: u32) -> u32
-    requires { ⌜ length (now t) ≡ 32768 ⌝ }
+    requires { ⌜ length (now t) ≡ limits.tokenWords ⌝ }
     ensures { λ r. ⌜ r ≡ finalNumber w (now (t .entry)) kind number ⌝ }
 {
     if kind == LabelKind::DATA {
@@ -62,7 +65,7 @@ fn final_number(w: Width, t: &[u32], kind: u32, number: u32) -> u32
 }
 
 fn put_words(out: &mut [u32], j: u32, kind: u32, number: u32, size: u32)
-    requires { ⌜ j * 4 + 4 ≤ length (now out) ⌝ }
+    requires { ⌜ j * labelRow + labelRow ≤ length (now out) ⌝ }
     ensures { λ _. ⌜ now (out .exit) ≡ putWords (now (out .entry)) j (kind ∷ number ∷ 0 ∷ size ∷ []) ⌝ }
 {
     let at = j as usize * Table::LABEL_ROW;
@@ -73,7 +76,7 @@ fn put_words(out: &mut [u32], j: u32, kind: u32, number: u32, size: u32)
 }
 
 fn write_row(w: Width, t: &[u32], y: &[u32], flags: &[u32], j: u32, out: &mut [u32])
-    requires { ⌜ (length (now t) ≡ 32768) × (j * 4 + 4 ≤ length (now out)) ⌝ }
+    requires { ⌜ (length (now t) ≡ limits.tokenWords) × (j * labelRow + labelRow ≤ length (now out)) ⌝ }
     ensures { λ _. ⌜ now (out .exit) ≡ putWords (now (out .entry)) j (labelWords w (now (t .entry)) (now (y .entry)) (now (flags .entry)) j) ⌝ }
 {
     let kind = outline_word(y, j, OutlineLabel::KIND);
@@ -83,7 +86,7 @@ fn write_row(w: Width, t: &[u32], y: &[u32], flags: &[u32], j: u32, out: &mut [u
 }
 
 fn write_rows(w: Width, t: &[u32], y: &[u32], flags: &[u32], l: u32, out: &mut [u32])
-    requires { ⌜ (length (now t) ≡ 32768) × (l * 4 ≤ length (now out)) ⌝ }
+    requires { ⌜ (length (now t) ≡ limits.tokenWords) × (l * labelRow ≤ length (now out)) ⌝ }
     ensures { λ _. ⌜ now (out .exit) ≡ labelTable w (now (t .entry)) (now (y .entry)) (now (flags .entry)) l (now (out .entry)) ⌝ }
 {
     let mut j: u32 = 0;
@@ -94,7 +97,7 @@ fn write_rows(w: Width, t: &[u32], y: &[u32], flags: &[u32], l: u32, out: &mut [
 }
 
 fn write_name(s: &[u8], t: &[u32], y: &[u32], j: u32, names: &mut [u8])
-    requires { ⌜ j * 64 + 64 ≤ length (now names) ⌝ }
+    requires { ⌜ j * limits.nameBytes + limits.nameBytes ≤ length (now names) ⌝ }
     ensures { λ _. ⌜ now (names .exit) ≡ putName (now (names .entry)) j (labelName (now (s .entry)) (now (t .entry)) (now (y .entry)) j) ⌝ }
 {
     let first = parse_lines::token_word(
@@ -102,13 +105,13 @@ fn write_name(s: &[u8], t: &[u32], y: &[u32], j: u32, names: &mut [u8])
         outline_word(y, j, OutlineLabel::TOKEN),
         TokenRow::FIRST,
     );
-    let from = j as usize * 64;
-    let end = from + 64;
+    let from = j as usize * Machine::NAME_BYTES;
+    let end = from + Machine::NAME_BYTES;
     lex_spelling::copy_text(false, s, first as usize, &mut names[from..end]);
 }
 
 fn write_names(s: &[u8], t: &[u32], y: &[u32], l: u32, names: &mut [u8])
-    requires { ⌜ l * 64 ≤ length (now names) ⌝ }
+    requires { ⌜ l * limits.nameBytes ≤ length (now names) ⌝ }
     ensures { λ _. ⌜ now (names .exit) ≡ nameTable (now (s .entry)) (now (t .entry)) (now (y .entry)) l (now (names .entry)) ⌝ }
 {
     let mut j: u32 = 0;
@@ -129,7 +132,7 @@ pub fn write_labels(
     out: &mut [u32],
     names: &mut [u8],
 )
-    requires { ⌜ (length (now t) ≡ 32768) × (l * 4 ≤ length (now out)) × (l * 64 ≤ length (now names)) ⌝ }
+    requires { ⌜ (length (now t) ≡ limits.tokenWords) × (l * labelRow ≤ length (now out)) × (l * limits.nameBytes ≤ length (now names)) ⌝ }
     ensures { λ _. ⌜ now (out .exit) ≡ labelTable w (now (t .entry)) (now (y .entry)) (now (flags .entry)) l (now (out .entry)) ⌝ }
     ensures { λ _. ⌜ now (names .exit) ≡ nameTable (now (s .entry)) (now (t .entry)) (now (y .entry)) l (now (names .entry)) ⌝ }
 {

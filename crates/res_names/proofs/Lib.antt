@@ -1,2 +1,3 @@
 pub mod Cases
 pub mod Folds
+pub mod Uses

@@ -8,6 +8,7 @@ use lib.ListN.{length, getD, set}
 use Rattle.base_prelude.specs.Choice.{ifLt, ifEq, ifTrue}
 use Rattle.base_prelude.specs.Fault.{none}
 use Rattle.base_prelude.specs.Lists.{zeros}
+use Rattle.base_limits.specs.Limits as limits
 use Rattle.lang_kinds.specs.Kinds as kind
 use Rattle.lang_kinds.specs.Tokens as token
 use Rattle.parse_lines.specs.Tokens.{kindAt, keyAt}
@@ -181,4 +182,4 @@ labelsFault (suc left) same t n y l j best = labelsFault left same t n y l (j + 
 -- the names of c statements and l labels
 unfoldable pub namesOf : (ℕ → ℕ → Bool) → List ℕ → ℕ → List ℕ → List ℕ → ℕ → ℕ → Naming
 namesOf same t n k y l c =
-    statementsPart c same t n k y l 0 (naming (labelsFault l same t n y l 0 none) (zeros 256))
+    statementsPart c same t n k y l 0 (naming (labelsFault l same t n y l 0 none) (zeros limits.labels))

@@ -5,6 +5,7 @@ use prog_tables::LabelKind;
 use res_scope::Meaning;
 use res_scope::Parts;
 ghost use mathlib.Core.Path.{_≡_};
+ghost use Rattle.base_limits.specs.Limits as limits;
 ghost use Prim.Native.Nat.{_+_, _-_, _≤_, _<_};
 ghost use lib.ListN.{length};
 ghost use Rattle.base_prelude.specs.Fault.{none};
@@ -434,7 +435,7 @@ fn labels_fault(t: &[u32], n: u32, y: &[u32], l: u32) -> u64
 
 // The names of c statements and l labels: the least fault, and in u for each label the first token that means it.
 pub fn judge_names(t: &[u32], n: u32, k: &[u32], y: &[u32], l: u32, c: u32, u: &mut [u32]) -> u64
-    requires { ⌜ length (now u) ≡ 256 ⌝ }
+    requires { ⌜ length (now u) ≡ limits.labels ⌝ }
     ensures { λ r. ⌜ naming r (now (u .exit)) ≡ namesOf (sameNumber (now (t .entry))) (now (t .entry)) n (now (k .entry)) (now (y .entry)) l c ⌝ }
 {
     base_prelude::clear_from(u, 0);

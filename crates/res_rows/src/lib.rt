@@ -1,4 +1,5 @@
 // The rows of the statement table, from the skeleton, the frame words, the final label table, and what each name means.
+use base_limits::Machine;
 use lang_kinds::Kind;
 use lang_kinds::Token;
 use prog_tables::LabelRow;
@@ -9,6 +10,7 @@ use prog_tables::Table;
 use res_scope::Meaning;
 use res_scope::Parts;
 ghost use mathlib.Core.Path.{_≡_};
+ghost use Rattle.base_limits.specs.Limits as limits;
 ghost use Prim.Native.Nat.{_+_, _-_, _*_, _≤_, _<_, min};
 ghost use lib.ListN.{length};
 ghost use Rattle.prog_tables.specs.Statement.{operandKind, operandNumber, slotWords};
@@ -280,7 +282,7 @@ fn head_of(
     next: u32,
     p: Parts,
 ) -> Head
-    requires { ⌜ first ≤ 4097 ⌝ }
+    requires { ⌜ first ≤ limits.tokens + 1 ⌝ }
     ensures { λ x. ⌜ x ≡ headOf (rowWith (sameNumber (now (t .entry))) (now (t .entry)) (now (k .entry)) (now (y .entry)) l (now (w .entry)) (now (z .entry)) c r kind first next p) ⌝ }
 {
     let i = first + 1;
@@ -383,10 +385,10 @@ fn put_slots(
     at: usize,
 )
     requires { ⌜ (first + count < 4294967296) × (at + 16 ≤ length (now out)) ⌝ }
-    ensures { λ _. ⌜ now (out .exit) ≡ putWords (now (out .entry)) at (slotWords 8 (operandsFrom (min count 8) (sameNumber (now (t .entry))) (now (t .entry)) (now (k .entry)) (now (y .entry)) l (now (w .entry)) (now (z .entry)) r first)) ⌝ }
+    ensures { λ _. ⌜ now (out .exit) ≡ putWords (now (out .entry)) at (slotWords limits.parameters (operandsFrom (min count limits.parameters) (sameNumber (now (t .entry))) (now (t .entry)) (now (k .entry)) (now (y .entry)) l (now (w .entry)) (now (z .entry)) r first)) ⌝ }
 {
     let mut j: u32 = 0;
-    while j < 8 {
+    while j < Machine::PARAMETERS {
         put_slot(
             t,
             k,
@@ -420,7 +422,7 @@ fn put_parts(
     p: Parts,
     out: &mut [u32],
 )
-    requires { ⌜ (first ≤ 4097) × (r * statementRow + statementRow ≤ length (now out)) ⌝ }
+    requires { ⌜ (first ≤ limits.tokens + 1) × (r * statementRow + statementRow ≤ length (now out)) ⌝ }
     ensures { λ _. ⌜ now (out .exit) ≡ putRow (now (out .entry)) r (rowWith (sameNumber (now (t .entry))) (now (t .entry)) (now (k .entry)) (now (y .entry)) l (now (w .entry)) (now (z .entry)) c r kind first next p) ⌝ }
 {
     let at = r as usize * Table::STATEMENT_ROW;
@@ -474,7 +476,7 @@ pub fn write_rows(
     c: u32,
     out: &mut [u32],
 )
-    requires { ⌜ (c ≤ 1024) × (c * statementRow ≤ length (now out)) ⌝ }
+    requires { ⌜ (c ≤ limits.statements) × (c * statementRow ≤ length (now out)) ⌝ }
     ensures { λ _. ⌜ now (out .exit) ≡ statementTable (sameNumber (now (t .entry))) (now (t .entry)) (now (k .entry)) (now (y .entry)) l (now (w .entry)) (now (z .entry)) c (now (out .entry)) ⌝ }
 {
     let mut r: u32 = 0;

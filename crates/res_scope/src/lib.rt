@@ -1,4 +1,5 @@
 // What a name means at a statement: the let, parameter or label that has it; and the parts of a statement.
+use base_limits::Machine;
 use lang_kinds::Kind;
 use lang_kinds::Token;
 use lang_kinds::TokenRow;
@@ -8,6 +9,7 @@ use prog_tables::OutlineLabel;
 use prog_tables::StatementRow;
 use prog_tables::Table;
 ghost use mathlib.Core.Path.{_≡_};
+ghost use Rattle.base_limits.specs.Limits as limits;
 ghost use Prim.Native.Nat.{_+_, _-_, _≤_, _<_, min};
 ghost use Rattle.prog_tables.specs.Layout.{noExpression, callExpression};
 ghost use Rattle.prog_tables.specs.Statement.{rowAt};
@@ -31,10 +33,16 @@ pub struct Parts {
     pub first: u32,
 }
 
+// A function and the blocks in it.
+const FRAME_DEPTH: u32 = Machine::BLOCK_DEPTH + 1;
+
+// Behind the last token and the line's end.
+const PAST_TOKENS: u32 = Machine::TOKENS as u32 + 1;
+
 fn clamp(i: u32) -> u32
-    ensures { λ r. ⌜ r ≡ min i 4097 ⌝ }
+    ensures { λ r. ⌜ r ≡ min i (limits.tokens + 1) ⌝ }
 {
-    if i < 4097 { i } else { 4097 }
+    if i < PAST_TOKENS { i } else { PAST_TOKENS }
 }
 
 // The magic word's token of a statement.
@@ -112,7 +120,7 @@ fn let_named(t: &[u32], k: &[u32], s: u32, i: u32, m: u32) -> bool
     if kind == Kind::LET {
         let token = first_token(k, m);
         if same_name(t, token + 1, i) {
-            return prog_frames::is_around(k, 17, prog_tables::scope_at(k, m), s);
+            return prog_frames::is_around(k, FRAME_DEPTH, prog_tables::scope_at(k, m), s);
         }
         return false;
     }
@@ -295,7 +303,7 @@ fn lists_operands(kind: u32) -> bool
 }
 
 fn call_parts(i: u32) -> Parts
-    requires { ⌜ i ≤ 4097 ⌝ }
+    requires { ⌜ i ≤ limits.tokens + 1 ⌝ }
     ensures { λ r. ⌜ r ≡ parts callExpression (i + 1) (i + 2) ⌝ }
 {
     Parts {
@@ -306,7 +314,7 @@ fn call_parts(i: u32) -> Parts
 }
 
 fn plain_parts(kind: u32, i: u32, next: u32) -> Parts
-    requires { ⌜ i ≤ 4097 ⌝ }
+    requires { ⌜ i ≤ limits.tokens + 1 ⌝ }
     ensures { λ r. ⌜ r ≡ plainParts kind i next ⌝ }
 {
     if lists_operands(kind) {
@@ -323,7 +331,7 @@ fn plain_parts(kind: u32, i: u32, next: u32) -> Parts
 
 // The parts of a statement of a kind whose magic word is token i.
 pub fn parts_of(t: &[u32], kind: u32, i: u32, next: u32) -> Parts
-    requires { ⌜ i ≤ 4097 ⌝ }
+    requires { ⌜ i ≤ limits.tokens + 1 ⌝ }
     ensures { λ r. ⌜ r ≡ partsOf (now (t .entry)) kind i next ⌝ }
 {
     if kind == Kind::RETURN {

@@ -4,6 +4,8 @@ use parse_units::OutlineRow;
 use prog_tables::StatementRow;
 use prog_tables::Table;
 ghost use mathlib.Core.Path.{_≡_};
+ghost use Rattle.prog_tables.specs.Layout.{statementWords};
+ghost use Rattle.base_limits.specs.Limits as limits;
 ghost use Prim.Native.Nat.{_+_, _*_, _-_, _≤_, _<_};
 ghost use lib.ListN.{length};
 ghost use Rattle.parse_units.specs.Outline.{rowAt};
@@ -54,7 +56,7 @@ fn bare_row(x: &[u32], n: u32) -> SkeletonRow
 }
 
 fn put_row(k: &mut [u32], n: u32, r: SkeletonRow)
-    requires { ⌜ (n < 1024) × (length (now k) ≡ 27648) ⌝ }
+    requires { ⌜ (n < limits.statements) × (length (now k) ≡ statementWords) ⌝ }
     ensures { λ _. ⌜ now (k .exit) ≡ putRow (now (k .entry)) n r ⌝ }
 {
     let w = n as usize * Table::STATEMENT_ROW;
@@ -72,7 +74,7 @@ fn put_row(k: &mut [u32], n: u32, r: SkeletonRow)
 }
 
 fn put_statement(x: &[u32], n: u32, k: &mut [u32])
-    requires { ⌜ (n < 1024) × (length (now k) ≡ 27648) ⌝ }
+    requires { ⌜ (n < limits.statements) × (length (now k) ≡ statementWords) ⌝ }
     ensures { λ _. ⌜ now (k .exit) ≡ putRow (now (k .entry)) n (statementOf (now (x .entry)) n) ⌝ }
 {
     let r = bare_row(x, n + 1);
@@ -80,7 +82,7 @@ fn put_statement(x: &[u32], n: u32, k: &mut [u32])
 }
 
 fn put_rows(x: &[u32], c: u32, k: &mut [u32])
-    requires { ⌜ (c ≤ 1024) × (length (now k) ≡ 27648) ⌝ }
+    requires { ⌜ (c ≤ limits.statements) × (length (now k) ≡ statementWords) ⌝ }
     ensures { λ _. ⌜ now (k .exit) ≡ rowsIn (now (k .entry)) (now (x .entry)) c ⌝ }
 {
     let mut n: u32 = 0;
@@ -92,7 +94,7 @@ fn put_rows(x: &[u32], c: u32, k: &mut [u32])
 
 // The rows of c statements of the outline x; the words are cleared first.
 pub fn make_skeleton(x: &[u32], c: u32, k: &mut [u32])
-    requires { ⌜ (c ≤ 1024) × (length (now k) ≡ 27648) ⌝ }
+    requires { ⌜ (c ≤ limits.statements) × (length (now k) ≡ statementWords) ⌝ }
     ensures { λ _. ⌜ now (k .exit) ≡ skeletonOf (now (x .entry)) c ⌝ }
 {
     base_prelude::clear_from(k, 0);

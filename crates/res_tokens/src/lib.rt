@@ -2,6 +2,7 @@
 use base_limits::Machine;
 use lang_kinds::TokenRow;
 ghost use mathlib.Core.Path.{_≡_};
+ghost use Rattle.base_limits.specs.Limits as limits;
 ghost use Prim.Native.Nat.{_*_, _≤_, _<_};
 ghost use lib.ListN.{length};
 ghost use Rattle.base_limits.specs.Limits.{tokenRow};
@@ -41,7 +42,7 @@ fn mark_statements(k: &[u32], c: u32, n: u32, out: &mut [u32])
 
 // The rows of n tokens, and the c statements that they begin.
 pub fn write_tokens(t: &[u32], k: &[u32], c: u32, n: u32, out: &mut [u32])
-    requires { ⌜ (n * tokenRow ≤ length (now out)) × (n ≤ 4096) × (length (now t) ≡ 32768) ⌝ }
+    requires { ⌜ (n * tokenRow ≤ length (now out)) × (n ≤ limits.tokens) × (length (now t) ≡ limits.tokenWords) ⌝ }
     ensures { λ _. ⌜ now (out .exit) ≡ tokenTable (now (t .entry)) (now (k .entry)) c n (now (out .entry)) ⌝ }
 {
     copy_words(t, n as usize * Machine::TOKEN_ROW, out);

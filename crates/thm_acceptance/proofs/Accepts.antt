@@ -8,7 +8,7 @@ use Prim.Native.Nat.{ℕ, zero, suc, _+_, _*_, _/_, _%_, _-_, _≤_, _<_, min}
 use native.Mathlib.Nat.{min-eq-left}
 use native.Mathlib.Decide.{decLt}
 use native.Mathlib.Omega.{arith}
-use lib.ListN.{length}
+use lib.ListN.{length, length-replicate}
 use Rattle.base_prelude.specs.Choice.{ifLt, ifTrue}
 use Rattle.base_prelude.specs.Fault.{none, key, keyNumber, keyPlace, leastOf}
 use Rattle.base_prelude.proofs.Choice.{either, either-true, ifLt-yes, ifLt-no, ifTrue-yes, ifTrue-no, true-false}
@@ -18,6 +18,7 @@ use Rattle.parse_lines.specs.Tokens.{placeAt, keyAt}
 use Rattle.lex_source.specs.Token.{Token}
 use Rattle.lex_source.specs.Lex.{Outcome, accepted, refused, lexOf}
 use Rattle.lex_source.specs.Rows.{tokenTable}
+use Rattle.lex_source.specs.Rows as rows
 use Rattle.parse_units.specs.Parse.{Result, parseOf}
 use Rattle.parse_units.specs.declared.Verdict.{Verdict}
 use Rattle.parse_units.specs.declared.Verdict.the-variants as verdict
@@ -36,6 +37,7 @@ use Rattle.res_text.specs.Same.{sameText}
 use Rattle.parse_verdict.specs.Verdict.{Clean, allFaults, verdictOf, keyOf, Rising}
 use Rattle.parse_verdict.specs.Lexing.{lexFaults, lexKey}
 use Rattle.parse_verdict.proofs.Decided.{least-none, all-none, none-all, decided, RealV, parse-real}
+use Rattle.parse_verdict.proofs.Counts as counts
 use Rattle.parse_verdict.proofs.Lexed.{lexed-rising, lexed-long}
 use Rattle.parse_verdict.proofs.Lexing.{lexed-fine, fine-lexed, long-refused, lex-least, lex-real}
 use Rattle.check_judge.specs.Judge.{Known, known, Judged, refusal, fine, sizeGroup, namesWith, namesJudged, faultGroup, nameGroup, outlineGroup, lineGroup, tokenGroup, judgeOf}
@@ -43,8 +45,12 @@ use Rattle.check_source.specs.Check.{Lent, Filled, refuse, hasRoom, accept, ans
 use Rattle.check_source.specs.declared.Checked.{Checked}
 use Rattle.check_source.specs.declared.Checked.the-variants.{Accepted, Refused}
 use Rattle.thm_acceptance.specs.Faults.{allNameFaults, exportFaults}
-use Rattle.thm_acceptance.specs.Accepts.{tokensIn, tokensOf, statementsIn, labelsIn, longRule, namesIn, nameFaults, roomRule, laterGroups, groupsOf, judge, countsIn, countsOf, Unbroken, Holds, AllClean, isAccepted}
+use Rattle.thm_acceptance.specs.Accepts.{tokensIn, tokensOf, tableOf, outlined, statementsIn, labelsIn, longRule, namesIn, nameFaults, roomRule, laterGroups, groupsOf, judge, countsIn, countsOf, Holds, AllClean, isAccepted}
+use Rattle.thm_acceptance.specs.Unbroken.{NamesUnbroken, Unbroken}
 use Rattle.thm_acceptance.proofs.Least.{append-least, names-least, exports-least}
+use Rattle.thm_acceptance.proofs.Paged.{lines-fine}
+use Rattle.thm_acceptance.proofs.Page.{ReadsUnbroken, clean-reads, reads-clean, LinesUnbroken, fine-lines, lines-join}
+use Rattle.thm_acceptance.proofs.PageNames.{clean-names, names-clean}
 
 -- ---- one group after the other
 
@@ -230,10 +236,113 @@ clean-room : (b : Lent) (n c l size : ℕ) → hasRoom b n c l size ≡ true →
 unfolding roomRule
 clean-room b n c l size h = subst (λ (k : ℕ). none ≤ k) (sym (ifTrue-yes none (key 0 16) h)) (omega arith)
 
+-- ---- the page of rules
+
+table-empty : length (tokenTable []) ≡ 32768
+unfolding tokenTable rows.rowsOf
+table-empty = length-replicate {A = ℕ} 32768 0
+
+-- the token table has its length, whatever the source
+table-size : (w : Width) (s : List ℕ) → length (tokenTable (tokensOf w s)) ≡ 32768
+unfolding tokensOf tokensIn
+table-size w s = by (lexOf w s) refl
+  where
+    by : (o : Outcome) → lexOf w s ≡ o → length (tokenTable (tokensIn o)) ≡ 32768
+    by (accepted ts) e = lexed-long w s ts e
+    by (refused k) e = table-empty
+
+few-labels : (w : Width) (t : List ℕ) (n : ℕ) → length t ≡ 32768 → labelsIn (outlineOf w t n .answer) ≤ 256
+unfolding labelsIn
+few-labels w t n e = by (outlineOf w t n .answer) refl
+  where
+    by : (a : Parsed) → outlineOf w t n .answer ≡ a → labelsIn a ≤ 256
+    by (parsed.Accepted c l) q = counts.accepted-counts w t n c l e q .1
+    by (parsed.Refused number place) q = omega arith
+
+module _ (w : Width) (s : List ℕ) where
+  -- no fault in any group
+  record Faultless : Type 0 where
+    pub short : length s ≤ 16384
+    pub tokens : Clean (lexFaults w s)
+    pub lines : Clean (allFaults w (tableOf w s) (length s))
+    pub names : Clean (nameFaults s (tableOf w s) (outlined w s))
+    pub size : Clean (bigRule w (tableOf w s) (length s) ∷ [])
+
+  abbrev few : labelsIn (outlined w s .answer) ≤ 256
+  few = few-labels w (tableOf w s) (length s) (table-size w s)
+
+  page-names : Clean (nameFaults s (tableOf w s) (outlined w s))
+      → NamesUnbroken (sameText s (tableOf w s)) (tableOf w s) (length s) (skeletonOf (outlined w s .rows) (statementsIn (outlined w s .answer))) (outlined w s .labels) (labelsIn (outlined w s .answer)) (statementsIn (outlined w s .answer))
+  unfolding nameFaults
+  page-names h = clean-names _ _ _ _ _ _ _ few h
+
+  names-page : NamesUnbroken (sameText s (tableOf w s)) (tableOf w s) (length s) (skeletonOf (outlined w s .rows) (statementsIn (outlined w s .answer))) (outlined w s .labels) (labelsIn (outlined w s .answer)) (statementsIn (outlined w s .answer))
+      → Clean (nameFaults s (tableOf w s) (outlined w s))
+  unfolding nameFaults
+  names-page h = names-clean _ _ _ _ _ _ _ few h
+
+  faultless-unbroken : Faultless → Unbroken w s
+  faultless-unbroken f =
+      let r = clean-reads w s (f .tokens) in
+      let x = fine-lines w (tableOf w s) (length s) (lines-fine w (tableOf w s) (length s) .0 (f .lines)) in
+      record {
+        short = f .short;
+        readable = r .readable;
+        separated = r .separated;
+        escapes = r .escapes;
+        strings = r .strings;
+        integers = r .integers;
+        lengths = r .lengths;
+        fewTokens = r .fewTokens;
+        shaped = x .shaped;
+        worded = x .worded;
+        placed = x .placed;
+        labelled = x .labelled;
+        labelsNamed = x .labelsNamed;
+        notLeftOut = x .notLeftOut;
+        fewStatements = x .fewStatements;
+        fewLabels = x .fewLabels;
+        fewLocals = x .fewLocals;
+        fewBlocks = x .fewBlocks;
+        fewArguments = x .fewArguments;
+        names = page-names (f .names);
+        size = f .size .0;
+      }
+
+  unbroken-faultless : Unbroken w s → Faultless
+  unbroken-faultless u =
+      record {
+        short = u .short;
+        tokens = reads-clean w s (record {
+          readable = u .readable;
+          separated = u .separated;
+          escapes = u .escapes;
+          strings = u .strings;
+          integers = u .integers;
+          lengths = u .lengths;
+          fewTokens = u .fewTokens;
+        });
+        lines = lines-fine w (tableOf w s) (length s) .1 (lines-join w (tableOf w s) (length s) (record {
+          shaped = u .shaped;
+          worded = u .worded;
+          placed = u .placed;
+          labelled = u .labelled;
+          labelsNamed = u .labelsNamed;
+          notLeftOut = u .notLeftOut;
+          fewStatements = u .fewStatements;
+          fewLabels = u .fewLabels;
+          fewLocals = u .fewLocals;
+          fewBlocks = u .fewBlocks;
+          fewArguments = u .fewArguments;
+        }));
+        names = names-page (u .names);
+        size = (u .size, tt);
+      }
+
 module _ (w : Width) (s : List ℕ) (b : Lent) where
-  groups-unbroken : AllClean (groupsOf w s b) → Unbroken w s × Holds w s b
+  groups-faultless : AllClean (groupsOf w s b) → Faultless w s × Holds w s b
   unfolding groupsOf laterGroups
-  groups-unbroken h = (
+  groups-faultless h = (
     record {
       short = long-short s (h .0 .0);
       tokens = h .1 .0;
@@ -244,10 +353,16 @@ module _ (w : Width) (s : List ℕ) (b : Lent) where
     room-clean b _ _ _ _ (h .1 .1 .1 .1 .1 .0 .0),
   )
 
-  unbroken-groups : Unbroken w s → Holds w s b → AllClean (groupsOf w s b)
+  faultless-groups : Faultless w s → Holds w s b → AllClean (groupsOf w s b)
   unfolding groupsOf laterGroups
-  unbroken-groups u h =
+  faultless-groups u h =
       ((short-long s (u .short), tt), (u .tokens, (u .lines, (u .names, (u .size, ((clean-room b _ _ _ _ h, tt), tt))))))
+
+  groups-unbroken : AllClean (groupsOf w s b) → Unbroken w s × Holds w s b
+  groups-unbroken h = let g = groups-faultless h in (faultless-unbroken w s (g .0), g .1)
+
+  unbroken-groups : Unbroken w s → Holds w s b → AllClean (groupsOf w s b)
+  unbroken-groups u h = faultless-groups (unbroken-faultless w s u) h
 
   -- "You accept a source exactly when it breaks none of the listed rules and the tables lent can hold it."
   pub accepts-exactly : (isAccepted (checkOf w s b .answer) ≡ true) ↔ (Unbroken w s × Holds w s b)

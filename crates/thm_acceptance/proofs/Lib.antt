@@ -1,3 +1,7 @@
+pub mod Opens
+pub mod Paged
+pub mod Page
+pub mod PageNames
 pub mod Least
 pub mod Accepts
 pub mod Opened

@@ -102,21 +102,8 @@ abbrev pub AllClean : List (List ℕ) → Type 0
 AllClean [] = Unit {0}
 AllClean (ks ∷ gs) = Clean ks × AllClean gs
 
--- ---- "it breaks none of the listed rules"
+-- ---- "and the tables lent can hold it": 16
 
-pub record Unbroken (w : Width) (s : List ℕ) : Type 0 where
-  -- 1
-  pub short : length s ≤ sourceBytes
-  -- 2 to 6, and 14 for tokens
-  pub tokens : Clean (lexFaults w s)
-  -- 7, 8, 9 and other 14
-  pub lines : Clean (allFaults w (tableOf w s) (length s))
-  -- 10 to 13 and 17
-  pub names : Clean (nameFaults s (tableOf w s) (outlined w s))
-  -- 15
-  pub size : Clean (bigRule w (tableOf w s) (length s) ∷ [])
-
--- "and the tables lent can hold it": 16
 abbrev pub Holds : Width → List ℕ → Lent → Type 0
 Holds w s b =
     hasRoom b (length (tokensOf w s)) (statementsIn (outlined w s .answer)) (labelsIn (outlined w s .answer)) (lengthIn (lengthOf w (tableOf w s))) ≡ true

@@ -10,19 +10,23 @@ use lib.Dec.{T, leb, leb→le}
 use lib.ListN.{length, getD}
 use Rattle.base_prelude.specs.Choice.{ifLt, ifEq, ifTrue}
 use Rattle.base_prelude.specs.Fault.{none, leastOf}
+use Rattle.base_prelude.specs.Lists.{isAmong}
 use Rattle.base_prelude.proofs.Choice.{either, either-eq, either-true, ifEq-yes, true-false}
 use Rattle.base_prelude.proofs.Keys.{key-fault}
 use Rattle.base_prelude.proofs.Table.{every, at}
 use Rattle.base_limits.specs.declared.Width.{Width}
 use Rattle.lang_kinds.specs.Nesting.{standsIn, groundOf, rowsOf, wordKinds, kindOfWord}
+use Rattle.lang_kinds.specs.Standing.{groundNumbered, standsOn}
 use Rattle.lang_kinds.specs.declared.Range.{Range}
+use Rattle.lang_kinds.proofs.Standing.{stands-range}
 use Rattle.lang_kinds.proofs.Cases.{kind-none, kind-known}
 use Rattle.parse_lines.specs.Tokens.{kindAt, wordAt, keyAt}
 use Rattle.parse_lines.specs.Lines.{sectionKind, endKind, testKind, elseKind, setKind, symbolKind, otherKind, lineKind}
 use Rattle.parse_lines.specs.declared.Span.{Span}
 use Rattle.parse_rules.specs.Rules.{shapeRule, leftRule, reservedLabel, labelKey, labelled, labelStep, labelsFrom, labelsRule}
 use Rattle.parse_rules.specs.declared.Labelled.{Labelled}
-use Rattle.parse_units.specs.Places.{groundIn, mayLabel, labelRule, placeRule, lineFaults, unitFault}
+use Rattle.parse_units.specs.Places.{groundIn, labelledOn, mayLabel, labelRule, placeRule, lineFaults, unitFault}
+use Rattle.parse_units.proofs.Labelled.{may-before, may-first}
 use Rattle.parse_units.specs.declared.Row.{Row}
 use Rattle.parse_units.specs.declared.State.{State}
 
@@ -130,8 +134,8 @@ stands-low k l h =
 place-by : (t : List ℕ) (n : ℕ) (u : Span) (k g : ℕ) → none ≤ placeRule t n u k g → g < standsIn k .hi
 unfolding placeRule
 place-by t n u k g =
-    either (λ (x : ℕ). none ≤ x → g < standsIn k .hi) g (standsIn k .lo) _ _ (λ _ h. let z : ⊥ = omega (arith, key-low t n (u .word) 8 (omega arith)) in absurd z) (λ _.
-    either (λ (x : ℕ). none ≤ x → g < standsIn k .hi) g (standsIn k .hi) _ _ (λ h _. h) (λ _ h. let z : ⊥ = omega (arith, key-low t n (u .word) 8 (omega arith)) in absurd z))
+    either-true (λ (x : ℕ). none ≤ x → g < standsIn k .hi) (standsOn g k) _ _ (λ e _. stands-range g k e .1)
+    (λ _ h. let z : ⊥ = omega (arith, key-low t n (u .word) 8 (omega arith)) in absurd z)
 
 left-by : (t : List ℕ) (n : ℕ) (u : Span) (k : ℕ) → none ≤ leftRule t n u k → k ≡ 34 → ⊥
 unfolding leftRule
@@ -149,12 +153,15 @@ shape-by w t n u k =
 may-by : (g kind w : ℕ) → mayLabel g kind w ≡ true → (kind ≡ 3) × (g ≡ 0 → ⊥) × (g ≡ 1 → w ≡ 9)
 unfolding mayLabel
 may-by g kind w =
-    either-eq (λ (b : Bool). b ≡ true → (kind ≡ 3) × (g ≡ 0 → ⊥) × (g ≡ 1 → w ≡ 9)) kind 3 _ _
-    (λ a. either-eq (λ (b : Bool). b ≡ true → (kind ≡ 3) × (g ≡ 0 → ⊥) × (g ≡ 1 → w ≡ 9)) g 0 _ _ (λ _ h. true-false (sym h)) (λ d.
-    either-eq (λ (b : Bool). b ≡ true → (kind ≡ 3) × (g ≡ 0 → ⊥) × (g ≡ 1 → w ≡ 9)) g 1 _ _
-    (λ _. either-eq (λ (b : Bool). b ≡ true → (kind ≡ 3) × (g ≡ 0 → ⊥) × (g ≡ 1 → w ≡ 9)) w 9 _ _ (λ e _. (a, d, λ _. e)) (λ _ h. true-false (sym h)))
-    (λ f h. (a, d, λ e. absurd (f e)))))
-    (λ _ h. true-false (sym h))
+    either-eq (λ (b : Bool). b ≡ true → (kind ≡ 3) × (g ≡ 0 → ⊥) × (g ≡ 1 → w ≡ 9)) kind 3 _ _ (λ a h. (a, before h, first h)) (λ _ h. true-false (sym h))
+  where
+    before : isAmong w (labelledOn (groundNumbered g)) ≡ true → g ≡ 0 → ⊥
+    before h e = true-false (sym h ∙ ap (λ (x : ℕ). isAmong w (labelledOn (groundNumbered x))) e ∙ may-before w)
+
+    first : isAmong w (labelledOn (groundNumbered g)) ≡ true → g ≡ 1 → w ≡ 9
+    first h e =
+        either-eq (λ (b : Bool). b ≡ true → w ≡ 9) w 9 true false (λ q _. q) (λ _ q. true-false (sym q))
+        (sym (ap (λ (x : ℕ). isAmong w (labelledOn (groundNumbered x))) e ∙ may-first w) ∙ h)
 
 label-by : (t : List ℕ) (n : ℕ) (u : Span) (g : ℕ) → kindAt t (u .first) ≡ 2 → none ≤ labelRule t n u g → mayLabel g (kindAt t (u .word)) (wordAt t (u .word)) ≡ true
 unfolding labelRule

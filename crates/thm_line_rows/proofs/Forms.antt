@@ -16,7 +16,9 @@ use Rattle.lang_kinds.specs.Nesting.{rowsOf, kindOfWord}
 use Rattle.lang_words.specs.Words.{leastOperands, mostOperands}
 use Rattle.parse_lines.specs.Tokens.{kindAt, wordAt, keyAt, allFrom}
 use Rattle.parse_lines.specs.declared.Span.{Span}
-use Rattle.parse_shapes.specs.Shapes.{isName, operandsFrom, callFrom, expressionFrom, operandCount, isListed, countFits, laterFits, statementFits, formFits, shapeFits}
+use Rattle.parse_shapes.specs.Shapes.{isName, operandsFrom, callFrom, expressionFrom, operandCount, isListed, countFits, shapeFits}
+use Rattle.parse_shapes.specs.Forms.{laterFits, statementFits, rangedForm}
+use Rattle.parse_shapes.proofs.Forms.{forms-say}
 use Rattle.parse_rules.specs.Rules.{shapeRule, pastMost, listRule, substituteKey, tokenKey, tokensLeast, tokensRule}
 use Rattle.parse_units.proofs.Bounds.{unit-order}
 use Rattle.thm_line_rows.specs.Lined.{Line, MadeOf, whole, jump, test, Lined}
@@ -67,8 +69,8 @@ module _ (w : Width) (t : List ℕ) (n : ℕ) (u : Span) (k : ℕ) (low : k < 25
   shape-count h = both-if _ _ h .0
 
   shape-form : shapeFits w t u k ≡ true → statementFits t u k ≡ true
-  unfolding shapeFits formFits
-  shape-form h = sym (ifLt-yes _ _ low) ∙ both-if _ _ (both-if _ _ h .1) .0
+  unfolding shapeFits rangedForm
+  shape-form h = sym (ifLt-yes _ _ low) ∙ sym (forms-say t u k) ∙ both-if _ _ (both-if _ _ h .1) .0
 
 module _ (t : List ℕ) (n : ℕ) (u : Span) (k : ℕ) where
   count-least : countFits t u k ≡ true → leastOperands (wordAt t (u .word)) ≤ operandCount u

@@ -1,11 +1,11 @@
 use Rattle.base_prelude.proofs.Choice.{tests}
 use Rattle.lang_kinds.specs.Nesting.{standsIn}
-use Rattle.lang_kinds.proofs.Cases.{stands-statement}
+use Rattle.lang_kinds.proofs.Cases.{stands-statement, stands-refused}
 use native.Mathlib.Omega.{arith}
 use mathlib.Core.Path.{_≡_, refl, sym, _∙_, ap, subst}
 use Rattle.base_prelude.proofs.Choice.{tests}
 use Rattle.lang_kinds.specs.Nesting.{standsIn}
-use Rattle.lang_kinds.proofs.Cases.{stands-statement}
+use Rattle.lang_kinds.proofs.Cases.{stands-statement, stands-refused}
 use native.Mathlib.Omega.{arith}
 use mathlib.Core.Path.{_≡_, refl, sym, _∙_, ap, subst}
 use borrow.Author.Needs.{needs}
@@ -14,6 +14,7 @@ use Rattle.lang_kinds.proofs.stands_in.Tie as tie
 use Rattle.lang_kinds.proofs.stands_in.Reads as reads
 use Rattle.lang_kinds.proofs.stands_in.Lts as lts
 use Rattle.lang_kinds.proofs.statement_range.Reads as statement-range-reads
+use Rattle.lang_kinds.proofs.refused_range.Reads as refused-range-reads
 
 returns : tie.Need-returns
 unfolding standsIn
@@ -57,10 +58,12 @@ unfolding standsIn
 returns-8 c =
     search tests depth 16
 
+refused-range-requires : tie.Need-refused-range-requires
+refused-range-requires c κs = search needs
+
 returns-9 : tie.Need-returns-9
-unfolding standsIn
 returns-9 c =
-    search tests depth 16
+    search stands-refused
 
 pub stands-in-spec : {M : Type 1} → statement M
 stands-in-spec =
@@ -75,4 +78,5 @@ stands-in-spec =
     returns-6
     returns-7
     returns-8
+    refused-range-requires
     returns-9)

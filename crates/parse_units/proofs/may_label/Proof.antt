@@ -1,4 +1,4 @@
-use Rattle.parse_units.proofs.Cases.{maying}
+use Rattle.parse_units.proofs.Labelled.{maying}
 use native.Mathlib.Omega.{arith}
 use mathlib.Core.Path.{_≡_, refl, sym, _∙_, ap, subst}
 use borrow.Author.Needs.{needs}
@@ -39,6 +39,10 @@ returns-5 : tie.Need-returns-5
 returns-5 c =
     search maying
 
+returns-6 : tie.Need-returns-6
+returns-6 c =
+    search maying
+
 pub may-label-spec : {M : Type 1} → statement M
 may-label-spec =
     tie.close
@@ -50,4 +54,5 @@ may-label-spec =
     returns-3
     statement-word-requires
     returns-4
-    returns-5)
+    returns-5
+    returns-6)

@@ -1,0 +1,89 @@
+-- The page of rules: a source breaks none of them exactly when it is accepted (`accepts-exactly`). One field for each rule, with 01's
+-- number and words; it speaks of what is read, of lines and what stands before them, and of rows and labels.
+-- Assumes nothing.
+use Prim.Native.Nat.{ℕ, _+_, _-_, _≤_, _<_}
+use mathlib.Core.Path.{_≡_}
+use mathlib.Core.Bool.{Bool}
+use mathlib.Core.List.{List}
+use lib.ListN.{length}
+use Rattle.base_limits.specs.Limits.{sourceBytes}
+use Rattle.base_limits.specs.declared.Width.{Width}
+use Rattle.lang_kinds.specs.Kinds as kind
+use Rattle.lex_source.specs.Faults.{loneRule, escapeRule, openRule, rangeRule, lengthRule, limitRule, followRule}
+use Rattle.prog_tables.specs.Statement.{rowAt}
+use Rattle.res_skeleton.specs.Skeleton.{skeletonOf}
+use Rattle.res_scope.specs.Lines.{firstToken, endToken}
+use Rattle.res_scope.specs.Parts.{partsOf}
+use Rattle.res_scope.specs.declared.Parts.{Parts}
+use Rattle.res_names.specs.Naming.{labelFault}
+use Rattle.res_names.specs.Uses.{firstUse}
+use Rattle.res_exports.specs.Exports.{carriedIn}
+use Rattle.res_data.specs.Sizes.{bigRule}
+use Rattle.res_text.specs.Same.{sameText}
+use Rattle.parse_verdict.specs.Verdict.{Clean}
+use Rattle.thm_acceptance.specs.Reads.{EachRead}
+use Rattle.thm_acceptance.specs.Lines.{Line, EachLine}
+use Rattle.thm_acceptance.specs.LineRules.{Silent, Shaped, Worded, Placed, MayBeLabelled, LabelsNamed, NotLeftOut, FewStatements, FewLabels, FewLocals, FewBlocks, FewArguments}
+use Rattle.thm_acceptance.specs.Faults.{declaredFaults, headFaults, calleeFaults, operandFaults}
+use Rattle.thm_acceptance.specs.Accepts.{tableOf, outlined, statementsIn, labelsIn}
+
+-- 10 to 13 and 17: the rules of 'Names', in a table t of the tokens of a source of n bytes with c rows k and l label rows y; `same` says
+-- whether two tokens have one name
+pub record NamesUnbroken (same : ℕ → ℕ → Bool) (t : List ℕ) (n : ℕ) (k y : List ℕ) (l c : ℕ) : Type 0 where
+  -- 12: "Two locals of one frame, parameters included, may not share a name"
+  pub locals : (r : ℕ) → r < c → Clean (declaredFaults same t n k r (rowAt k r .kind))
+  -- 12: "nor may two labels"
+  pub labels : (j : ℕ) → j < l → Silent (labelFault same t n y l j)
+  -- 10 and 11: "`goto` takes a statement's label in the same function and innermost block. `set` takes a local."
+  pub targets : (r : ℕ) → r < c → Clean (headFaults same t n k y l r (rowAt k r .kind) (firstToken k r + 1))
+  -- 10, 11 and 13: "`call` and `tail-call` take a function label with its parameter count"
+  pub callees : (r : ℕ) → r < c → (p : Parts) → p ≡ partsOf t (rowAt k r .kind) (firstToken k r) (endToken k r)
+      → Clean (calleeFaults same t n k y l r (p .callee) (endToken k r - p .first))
+  -- 10 and 11: "A value is a local or a data label (its address)"
+  pub values : (r : ℕ) → r < c → (p : Parts) → p ≡ partsOf t (rowAt k r .kind) (firstToken k r) (endToken k r)
+      → Clean (operandFaults (endToken k r - p .first) same t n k y l r (p .first))
+  -- 10 and 11: "`export n`: the first data definition, group or function after it carries label n, with no `section` between; else 10
+  -- if no label is n, 11 if one is"
+  pub exports : EachLine t (λ before x. x .kind ≡ kind.export → carriedIn same t y l (x .unit) < l)
+  -- 17: "An export stands before the first operand or target that means its label", if there is one
+  pub exportsFirst : EachLine t (λ before x. x .kind ≡ kind.export
+      → (firstUse same t k y l c (carriedIn same t y l (x .unit)) ≡ 0 → ⊥) → x .unit .word + 1 ≤ firstUse same t k y l c (carriedIn same t y l (x .unit)))
+
+-- "it breaks none of the listed rules"
+pub record Unbroken (w : Width) (s : List ℕ) : Type 0 where
+  -- 1: "source too long"
+  pub short : length s ≤ sourceBytes
+  -- 2: "no token can be read here"
+  pub readable : EachRead w s (λ n r. Silent (loneRule r))
+  -- 2: "After an integer, string, symbol or substitute comes a blank, byte 10, `#` or the end .., else refusal 2 there"
+  pub separated : EachRead w s (λ n r. Silent (followRule s r))
+  -- 3: "bad escape"
+  pub escapes : EachRead w s (λ n r. Silent (escapeRule r))
+  -- 4: "string open at line or source end"
+  pub strings : EachRead w s (λ n r. Silent (openRule r))
+  -- 5: "integer out of range"
+  pub integers : EachRead w s (λ n r. Silent (rangeRule r))
+  -- 6: "name too long"
+  pub lengths : EachRead w s (λ n r. Silent (lengthRule r))
+  -- 14: "tokens 4,096"
+  pub fewTokens : EachRead w s (λ n r. Silent (limitRule n r))
+  -- 7, 8 and 9 of a line's words and shape
+  pub shaped : EachLine (tableOf w s) (Shaped w (tableOf w s) (length s))
+  pub worded : EachLine (tableOf w s) (Worded w (tableOf w s) (length s))
+  -- 8 of places
+  pub placed : EachLine (tableOf w s) (Placed w (tableOf w s) (length s))
+  pub labelled : EachLine (tableOf w s) (MayBeLabelled w (tableOf w s) (length s))
+  pub labelsNamed : EachLine (tableOf w s) (LabelsNamed w (tableOf w s) (length s))
+  -- 9
+  pub notLeftOut : EachLine (tableOf w s) (NotLeftOut w (tableOf w s) (length s))
+  -- 14, limit by limit
+  pub fewStatements : EachLine (tableOf w s) (FewStatements w (tableOf w s) (length s))
+  pub fewLabels : EachLine (tableOf w s) (FewLabels w (tableOf w s) (length s))
+  pub fewLocals : EachLine (tableOf w s) (FewLocals w (tableOf w s) (length s))
+  pub fewBlocks : EachLine (tableOf w s) (FewBlocks w (tableOf w s) (length s))
+  pub fewArguments : EachLine (tableOf w s) (FewArguments w (tableOf w s) (length s))
+  -- 10 to 13 and 17
+  pub names : NamesUnbroken (sameText s (tableOf w s)) (tableOf w s) (length s)
+      (skeletonOf (outlined w s .rows) (statementsIn (outlined w s .answer))) (outlined w s .labels) (labelsIn (outlined w s .answer)) (statementsIn (outlined w s .answer))
+  -- 15: "data too big"
+  pub size : Silent (bigRule w (tableOf w s) (length s))
