@@ -86,13 +86,7 @@ pub fn load_record(record: &[u32]) -> Loaded
     let s = record[0];
     if is_listed(s) {
         let state = make_state(s, record[5], record[6]);
-        return Loaded::Fit(Machine::of_parts(
-            state,
-            record[1],
-            record[2],
-            record[3],
-            record[4],
-        ));
+        return Loaded::Fit(Machine::of_parts(state, record[1], record[2], record[3], record[4]));
     }
     Loaded::Unfit
 }

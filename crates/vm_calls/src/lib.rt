@@ -69,7 +69,15 @@ pub fn work(t: &[u32], c: u32, r: Machine, st: &[u32], m: &[u8]) -> Worked
     let s = r.frame;
     let top = r.top;
     let e = prog_tables::expression_at(t, n);
-    vm_operands::eval(e, prog_tables::slot_at(t, n, 0), prog_tables::slot_at(t, n, 1), st, s, m, top)
+    vm_operands::eval(
+        e,
+        prog_tables::slot_at(t, n, 0),
+        prog_tables::slot_at(t, n, 1),
+        st,
+        s,
+        m,
+        top,
+    )
 }
 
 // ---- calls
@@ -121,7 +129,11 @@ fn arguments_at(t: &[u32], n: u32) -> u32
     ensures { λ k. ⌜ (k ≡ min (rowAt (now (t .entry)) n .count) operandSlots) × (k ≤ operandSlots) ⌝ }
 {
     let k = prog_tables::count_at(t, n);
-    if k < Machine::PARAMETERS { k } else { Machine::PARAMETERS }
+    if k < Machine::PARAMETERS {
+        k
+    } else {
+        Machine::PARAMETERS
+    }
 }
 
 // A new frame of function g at a place, with k arguments: the run goes on behind its `function` line.
@@ -202,7 +214,14 @@ pub fn call_at(t: &[u32], c: u32, r: Machine, st: &mut [u32], m: &[u8]) -> Outco
 }
 
 // A new frame of function g in the place of the frame in use; its head stays.
-fn enter_again(r: Machine, g: u32, size: u32, words: [u32; Table::OPERAND_SLOTS], k: u32, st: &mut [u32]) -> Outcome
+fn enter_again(
+    r: Machine,
+    g: u32,
+    size: u32,
+    words: [u32; Table::OPERAND_SLOTS],
+    k: u32,
+    st: &mut [u32],
+) -> Outcome
     requires { ⌜ (k ≤ operandSlots) × (g < greatestWord) × (r .frame + size ≤ stackWords) ⌝ }
     ensures { λ o. ⌜ (o ≡ oneStep (movedTo r (suc g) (r .frame) (r .frame + size) (topAtEntry (now (st .entry)) (r .frame)))) × (now (st .exit) ≡ storeFrom (now (st .entry)) (r .frame) (frameWords (returnsTo (now (st .entry)) (r .frame)) (callerFrame (now (st .entry)) (r .frame)) (topAtEntry (now (st .entry)) (r .frame)) (take k words) size)) ⌝ }
 {

@@ -71,27 +71,64 @@ some-stop = omega arith
 some-applied : (w : Width) (m : List ℕ) (top e x y : ℕ) → StopSome (applied w m top e x y)
 unfolding applied operators Every
 some-applied w m top e x y =
-    each-operator (λ (o : Operator). StopSome (o .result w m top x y)) e
-    (some-value _ top,
-    (some-value _ top,
-    (some-answered top (asrOf (bitsOf w) x y),
-    (some-reserved w (length m) top x,
-    (some-reserved w (length m) top (bytesOf w * x),
-    (some-answered top (bsrOf (bitsOf w) x y),
-    (some-answered top (divOf (bitsOf w) x y),
-    (some-byte m top (byteAddress w x y),
-    (some-fetched top (fetchOf w m (wordAddress w x y)),
-    (some-answered top (modOf (bitsOf w) x y),
-    (some-value _ top,
-    (some-value _ top,
-    (some-value _ top,
-    (some-answered top (rolOf (bitsOf w) x y),
-    (some-answered top (rorOf (bitsOf w) x y),
-    (some-answered top (shlOf (bitsOf w) x y),
-    (some-answered top (shrOf (bitsOf w) x y),
-    (some-value _ top,
-    (some-value _ top,
-    tt)))))))))))))))))))
+    each-operator (λ (o : Operator). StopSome (o .result w m top x y)) e (
+      some-value _ top,
+      (
+        some-value _ top,
+        (
+          some-answered top (asrOf (bitsOf w) x y),
+          (
+            some-reserved w (length m) top x,
+            (
+              some-reserved w (length m) top (bytesOf w * x),
+              (
+                some-answered top (bsrOf (bitsOf w) x y),
+                (
+                  some-answered top (divOf (bitsOf w) x y),
+                  (
+                    some-byte m top (byteAddress w x y),
+                    (
+                      some-fetched top (fetchOf w m (wordAddress w x y)),
+                      (
+                        some-answered top (modOf (bitsOf w) x y),
+                        (
+                          some-value _ top,
+                          (
+                            some-value _ top,
+                            (
+                              some-value _ top,
+                              (
+                                some-answered top (rolOf (bitsOf w) x y),
+                                (
+                                  some-answered top (rorOf (bitsOf w) x y),
+                                  (
+                                    some-answered top (shlOf (bitsOf w) x y),
+                                    (
+                                      some-answered top (shrOf (bitsOf w) x y),
+                                      (
+                                        some-value _ top,
+                                        (
+                                          some-value _ top,
+                                          tt,
+                                        ),
+                                      ),
+                                    ),
+                                  ),
+                                ),
+                              ),
+                            ),
+                          ),
+                        ),
+                      ),
+                    ),
+                  ),
+                ),
+              ),
+            ),
+          ),
+        ),
+      ),
+    )
     (some-value 0 top)
 
 some-eval : (w : Width) (st : List ℕ) (s : ℕ) (m : List ℕ) (top e : ℕ) (os : List Operand) → StopSome (evalOf w st s m top e os)

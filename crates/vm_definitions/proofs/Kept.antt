@@ -107,27 +107,64 @@ top-stop m k = tt
 pub top-applied : (w : Width) (m : List ℕ) (top e x y : ℕ) → top ≤ length m → TopIn (length m) (applied w m top e x y)
 unfolding applied operators Every
 top-applied w m top e x y h =
-    each-operator (λ (o : Operator). TopIn (length m) (o .result w m top x y)) e
-    (top-value (length m) (addOf (bitsOf w) x y) top h,
-    (top-value (length m) (andOf (bitsOf w) x y) top h,
-    (top-answered (length m) top (asrOf (bitsOf w) x y) h,
-    (top-reserved w (length m) top x,
-    (top-reserved w (length m) top (bytesOf w * x),
-    (top-answered (length m) top (bsrOf (bitsOf w) x y) h,
-    (top-answered (length m) top (divOf (bitsOf w) x y) h,
-    (top-byte m (length m) top (byteAddress w x y) h,
-    (top-fetched (length m) top (fetchOf w m (wordAddress w x y)) h,
-    (top-answered (length m) top (modOf (bitsOf w) x y) h,
-    (top-value (length m) (mulOf (bitsOf w) x y) top h,
-    (top-value (length m) (notOf (bitsOf w) x) top h,
-    (top-value (length m) (orOf (bitsOf w) x y) top h,
-    (top-answered (length m) top (rolOf (bitsOf w) x y) h,
-    (top-answered (length m) top (rorOf (bitsOf w) x y) h,
-    (top-answered (length m) top (shlOf (bitsOf w) x y) h,
-    (top-answered (length m) top (shrOf (bitsOf w) x y) h,
-    (top-value (length m) (subOf (bitsOf w) x y) top h,
-    (top-value (length m) (xorOf (bitsOf w) x y) top h,
-    tt)))))))))))))))))))
+    each-operator (λ (o : Operator). TopIn (length m) (o .result w m top x y)) e (
+      top-value (length m) (addOf (bitsOf w) x y) top h,
+      (
+        top-value (length m) (andOf (bitsOf w) x y) top h,
+        (
+          top-answered (length m) top (asrOf (bitsOf w) x y) h,
+          (
+            top-reserved w (length m) top x,
+            (
+              top-reserved w (length m) top (bytesOf w * x),
+              (
+                top-answered (length m) top (bsrOf (bitsOf w) x y) h,
+                (
+                  top-answered (length m) top (divOf (bitsOf w) x y) h,
+                  (
+                    top-byte m (length m) top (byteAddress w x y) h,
+                    (
+                      top-fetched (length m) top (fetchOf w m (wordAddress w x y)) h,
+                      (
+                        top-answered (length m) top (modOf (bitsOf w) x y) h,
+                        (
+                          top-value (length m) (mulOf (bitsOf w) x y) top h,
+                          (
+                            top-value (length m) (notOf (bitsOf w) x) top h,
+                            (
+                              top-value (length m) (orOf (bitsOf w) x y) top h,
+                              (
+                                top-answered (length m) top (rolOf (bitsOf w) x y) h,
+                                (
+                                  top-answered (length m) top (rorOf (bitsOf w) x y) h,
+                                  (
+                                    top-answered (length m) top (shlOf (bitsOf w) x y) h,
+                                    (
+                                      top-answered (length m) top (shrOf (bitsOf w) x y) h,
+                                      (
+                                        top-value (length m) (subOf (bitsOf w) x y) top h,
+                                        (
+                                          top-value (length m) (xorOf (bitsOf w) x y) top h,
+                                          tt,
+                                        ),
+                                      ),
+                                    ),
+                                  ),
+                                ),
+                              ),
+                            ),
+                          ),
+                        ),
+                      ),
+                    ),
+                  ),
+                ),
+              ),
+            ),
+          ),
+        ),
+      ),
+    )
     (top-value (length m) 0 top h)
 
 pub top-eval : (w : Width) (st : List ℕ) (s : ℕ) (m : List ℕ) (top e : ℕ) (os : List Operand) → top ≤ length m → TopIn (length m) (evalOf w st s m top e os)

@@ -132,27 +132,64 @@ module _ (w : Width) (m s : ℕ) where
   operator-no : (top e x y : ℕ) → NoStack (operatorMeets w top e x y)
   unfolding operatorMeets operators Every
   operator-no top e x y =
-      each-operator (λ (o : Operator). NoStack (o .meets w top x y)) e
-      (none-stack,
-      (none-stack,
-      (one-stack (shiftsBy y) (shifts-other y),
-      (one-stack (reservesTo (roundUp w top + x)) (reserves-other (roundUp w top + x)),
-      (one-stack (reservesTo (roundUp w top + bytesOf w * x)) (reserves-other (roundUp w top + bytesOf w * x)),
-      (one-stack (shiftsBy y) (shifts-other y),
-      (one-stack (divides x y) (divides-other x y),
-      (one-stack (byteAt (byteAddress w x y)) (byte-other (byteAddress w x y)),
-      (one-stack (wordAt (wordAddress w x y)) (word-other (wordAddress w x y)),
-      (one-stack (leavesOver y) (leaves-other y),
-      (none-stack,
-      (none-stack,
-      (none-stack,
-      (one-stack (shiftsBy y) (shifts-other y),
-      (one-stack (shiftsBy y) (shifts-other y),
-      (one-stack (shiftsBy y) (shifts-other y),
-      (one-stack (shiftsBy y) (shifts-other y),
-      (none-stack,
-      (none-stack,
-      tt)))))))))))))))))))
+      each-operator (λ (o : Operator). NoStack (o .meets w top x y)) e (
+        none-stack,
+        (
+          none-stack,
+          (
+            one-stack (shiftsBy y) (shifts-other y),
+            (
+              one-stack (reservesTo (roundUp w top + x)) (reserves-other (roundUp w top + x)),
+              (
+                one-stack (reservesTo (roundUp w top + bytesOf w * x)) (reserves-other (roundUp w top + bytesOf w * x)),
+                (
+                  one-stack (shiftsBy y) (shifts-other y),
+                  (
+                    one-stack (divides x y) (divides-other x y),
+                    (
+                      one-stack (byteAt (byteAddress w x y)) (byte-other (byteAddress w x y)),
+                      (
+                        one-stack (wordAt (wordAddress w x y)) (word-other (wordAddress w x y)),
+                        (
+                          one-stack (leavesOver y) (leaves-other y),
+                          (
+                            none-stack,
+                            (
+                              none-stack,
+                              (
+                                none-stack,
+                                (
+                                  one-stack (shiftsBy y) (shifts-other y),
+                                  (
+                                    one-stack (shiftsBy y) (shifts-other y),
+                                    (
+                                      one-stack (shiftsBy y) (shifts-other y),
+                                      (
+                                        one-stack (shiftsBy y) (shifts-other y),
+                                        (
+                                          none-stack,
+                                          (
+                                            none-stack,
+                                            tt,
+                                          ),
+                                        ),
+                                      ),
+                                    ),
+                                  ),
+                                ),
+                              ),
+                            ),
+                          ),
+                        ),
+                      ),
+                    ),
+                  ),
+                ),
+              ),
+            ),
+          ),
+        ),
+      )
       none-stack
 
   -- behind the operands of a row that does not call

@@ -213,27 +213,64 @@ module _ (w : Width) (m : List ℕ) (l top x y : ℕ) where
   pub applied-cause : (e : ℕ) → stopIn (applied w m top e x y) ≡ firstOf w (length m) l (operatorMeets w top e x y)
   unfolding applied operatorMeets operators Every Agrees
   applied-cause e =
-      each-operator Agrees e
-      (word-agrees _,
-      (word-agrees _,
-      (asr-agrees,
-      (reserve-agrees x,
-      (reserve-agrees (bytesOf w * x),
-      (bsr-agrees,
-      (div-agrees,
-      (byte-agrees,
-      (fetch-agrees,
-      (mod-agrees,
-      (word-agrees _,
-      (word-agrees _,
-      (word-agrees _,
-      (rol-agrees,
-      (ror-agrees,
-      (shl-agrees,
-      (bsr-agrees,
-      (word-agrees _,
-      (word-agrees _,
-      tt)))))))))))))))))))
+      each-operator Agrees e (
+        word-agrees _,
+        (
+          word-agrees _,
+          (
+            asr-agrees,
+            (
+              reserve-agrees x,
+              (
+                reserve-agrees (bytesOf w * x),
+                (
+                  bsr-agrees,
+                  (
+                    div-agrees,
+                    (
+                      byte-agrees,
+                      (
+                        fetch-agrees,
+                        (
+                          mod-agrees,
+                          (
+                            word-agrees _,
+                            (
+                              word-agrees _,
+                              (
+                                word-agrees _,
+                                (
+                                  rol-agrees,
+                                  (
+                                    ror-agrees,
+                                    (
+                                      shl-agrees,
+                                      (
+                                        bsr-agrees,
+                                        (
+                                          word-agrees _,
+                                          (
+                                            word-agrees _,
+                                            tt,
+                                          ),
+                                        ),
+                                      ),
+                                    ),
+                                  ),
+                                ),
+                              ),
+                            ),
+                          ),
+                        ),
+                      ),
+                    ),
+                  ),
+                ),
+              ),
+            ),
+          ),
+        ),
+      )
       (word-agrees 0)
 
 -- ---- expressions

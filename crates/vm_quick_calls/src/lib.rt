@@ -145,16 +145,7 @@ fn read_arguments(
 {
     let mut i: u32 = 0;
     while i < k {
-        let x = vm_quick_operands::read_slot(
-            t,
-            n,
-            i,
-            d,
-            size,
-            st,
-            s,
-            m,
-        );
+        let x = vm_quick_operands::read_slot(t, n, i, d, size, st, s, m);
         let Read::Got(v) = x else {
             return false;
         };
@@ -211,17 +202,7 @@ fn enter(
         return Transfer::Stays;
     }
     let mut words = [0u32; Table::OPERAND_SLOTS];
-    if read_arguments(
-        t,
-        n,
-        k,
-        d,
-        size,
-        st,
-        s,
-        m,
-        &mut words,
-    ) {
+    if read_arguments(t, n, k, d, size, st, s, m, &mut words) {
         let to = k as usize;
         return push_frame(st, at, call, below, top, p, z, &words[0..to]);
     }
@@ -305,16 +286,7 @@ fn result(t: &[u32], d: u32, size: u32, st: &[u32], s: u32, m: &[u8], n: u32, to
         if e == ExpressionKind::NONE {
             return Worked::Value { word: 0, top: 0 };
         }
-        return vm_quick_operands::work(
-            t,
-            n,
-            d,
-            size,
-            st,
-            s,
-            m,
-            top,
-        );
+        return vm_quick_operands::work(t, n, d, size, st, s, m, top);
     }
     Worked::Stop(0)
 }

@@ -151,16 +151,7 @@ fn work_two(
 }
 
 // The expression of row n, where it is no call.
-pub fn work(
-    t: &[u32],
-    n: u32,
-    d: u32,
-    size: u32,
-    st: &[u32],
-    s: u32,
-    m: &[u8],
-    top: u32,
-) -> Worked
+pub fn work(t: &[u32], n: u32, d: u32, size: u32, st: &[u32], s: u32, m: &[u8], top: u32) -> Worked
     requires { ⌜ (placeOf n + statementRow ≤ length (now t)) × (s + size ≤ length (now st)) × (length (now m) ≤ memoryBytes) ⌝ }
     ensures { λ r. ⌜ r ≡ goodWork (now (t .entry)) (placeOf n) size d (now (st .entry)) s (now (m .entry)) top ⌝ }
 {

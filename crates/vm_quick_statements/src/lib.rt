@@ -62,8 +62,7 @@ fn is_aimed(t: &[u32], c: u32, g: u32, a: u32) -> bool
     ensures { λ r. ⌜ r ≡ aimed (now (t .entry)) c g a ⌝ }
 {
     if a < c {
-        return prog_tables::func_in(t, a)
-            == g;
+        return prog_tables::func_in(t, a) == g;
     }
     false
 }
