@@ -1,6 +1,6 @@
 -- What the functions of statements give back, as the machine's definitions say it.
 -- Assumes nothing.
-use Prim.Native.Nat.{ℕ, suc, _<_, _+_, _*_}
+use Prim.Native.Nat.{ℕ, suc, _<_}
 use mathlib.Core.Path.{_≡_}
 use mathlib.Core.Bool.{Bool, true}
 use mathlib.Core.List.{List}

@@ -1,11 +1,11 @@
 -- The five causes of a stop, on their own: what a statement meets, in reading order, and which of it is a cause. Nothing here
 -- evaluates a statement.
 -- Assumes nothing.
-use Prim.Native.Nat.{ℕ, _+_, _-_, _*_, _%_, _^_}
+use Prim.Native.Nat.{ℕ, _+_, _-_, _%_, _^_}
 use mathlib.Core.Bool.{Bool, true, false}
 use mathlib.Core.List.{List, [], _∷_, _++_}
 use lib.Dec.{ltb, leb, eqb}
-use lib.ListN.{getD, length}
+use lib.ListN.{length}
 use Rattle.base_prelude.specs.Choice.{ifLt, ifEq, ifTrue}
 use Rattle.base_limits.specs.Width.{bitsOf, bytesOf}
 use Rattle.base_limits.specs.declared.Width.{Width}

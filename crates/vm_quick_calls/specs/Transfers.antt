@@ -1,11 +1,11 @@
 -- Calls and returns, each tested for 35 and taken at once. One that is not good, that stops, or whose form is none of these stays, and is left
 -- to the exact step. What is taken is what the machine's step makes of it (proofs/Right.antt).
 -- Assumes nothing.
-use Prim.Native.Nat.{ℕ, zero, suc, _+_, _*_}
+use Prim.Native.Nat.{ℕ, zero, suc, _+_}
 use mathlib.Core.Bool.{Bool, true, false}
 use mathlib.Core.List.{List}
 use lib.Dec.{ltb, eqb}
-use lib.ListN.{getD, length, set, take}
+use lib.ListN.{length, set, take}
 use Rattle.base_prelude.specs.Choice.{ifLt, ifEq, ifTrue}
 use Rattle.lang_kinds.specs.Kinds as kind
 use Rattle.prog_tables.specs.Layout.{noExpression, callExpression, operandSlots}

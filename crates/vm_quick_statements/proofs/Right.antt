@@ -43,6 +43,7 @@ use Rattle.vm_quick_statements.specs.declared.Move.the-variants.{To, Sta
 use Rattle.vm_quick_statements.specs.declared.Three.{Three}
 use Rattle.vm_quick_statements.specs.declared.Three.the-variants.{All, Unread}
 use Rattle.vm_quick_statements.specs.PlainRun.{Taken, taken, aimed, quickJump, quickBlock, quickEnd, threeRead, assignedBy, quickAssign, byteBy, quickByte, wordBy, quickWord, storedBy, storedAt, quickAt, quickTest, quickJumps, quickStores, quickKind, quickForm, quickStep}
+use Rattle.prog_tables.proofs.CallRows.{quiet-row}
 use Rattle.prog_tables.proofs.Each.{both-false}
 use Rattle.prog_tables.proofs.Ranges.{test-least, test-most}
 
@@ -568,7 +569,7 @@ module _ (t : List ℕ) (c : ℕ) (lw : List ℕ) (lc g d size : ℕ) (r : Machi
           below = below;
           own = own;
           good =
-              no-fault prog n (rw (p0, l23, test-bare (row .kind) e)) (aims-good z) (rw (test-uncalled (row .kind) (row .expr) e)) (rw p1) (rw (l3, l7))
+              no-fault prog n (rw (p0, l23, quiet-row (row .kind) (row .expr) (test-uncalled (row .kind) (row .expr) e), test-bare (row .kind) e)) (aims-good z) (rw (test-uncalled (row .kind) (row .expr) e)) (rw p1) (rw (l3, l7))
               (rw (two e, sized, o .good, p .good)) (rw p7);
           line = p1;
           tail = p12;

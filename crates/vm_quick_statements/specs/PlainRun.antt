@@ -2,7 +2,7 @@
 -- stops, or whose form is none of these stays, and is left to the exact step. What is taken is what the machine's step makes of it
 -- (proofs/Right.antt, proofs/Run.antt).
 -- Assumes nothing.
-use Prim.Native.Nat.{ℕ, zero, suc, _+_, _*_, _%_}
+use Prim.Native.Nat.{ℕ, zero, suc, _+_, _%_}
 use mathlib.Core.Bool.{Bool, false}
 use mathlib.Core.List.{List, [], _∷_}
 use lib.Dec.{eqb}

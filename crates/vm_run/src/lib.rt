@@ -9,7 +9,6 @@ ghost use Prim.Native.Nat.{_+_, _*_, _≤_, _<_};
 ghost use lib.ListN.{length};
 ghost use Rattle.base_limits.specs.Limits.{memoryBytes, stackWords};
 ghost use Rattle.base_limits.specs.declared.Width.the-variants.{Bits32};
-ghost use Rattle.base_limits.specs.Record.{movedTo};
 ghost use Rattle.prog_tables.specs.Statement.{rowAt};
 ghost use Rattle.prog_tables.specs.Program.{programFrom};
 ghost use Rattle.vm_definitions.specs.Step.{stepOf, runOf};

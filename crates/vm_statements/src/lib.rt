@@ -8,7 +8,7 @@ use vm_definitions::Worked;
 ghost use mathlib.Core.Path.{_≡_};
 ghost use mathlib.Core.Bool.{true};
 ghost use mathlib.Core.List.{[], _∷_};
-ghost use Prim.Native.Nat.{suc, _+_, _*_, _≤_, _<_};
+ghost use Prim.Native.Nat.{suc, _+_, _≤_, _<_};
 ghost use lib.ListN.{length, getD, take, replicate};
 ghost use Rattle.base_limits.specs.Limits.{greatestWord, memoryBytes};
 ghost use Rattle.base_prelude.specs.Choice.{ifTrue};

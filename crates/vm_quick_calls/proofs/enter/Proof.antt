@@ -4,10 +4,6 @@ use mathlib.Core.Path.{_≡_, refl, sym, _∙_, ap, subst}
 use borrow.Author.Needs.{needs}
 use Rattle.vm_quick_calls.proofs.enter.Statement.{statement}
 use Rattle.vm_quick_calls.proofs.enter.Tie as tie
-use Rattle.vm_quick_calls.proofs.enter.Reads as reads
-use Rattle.vm_quick_calls.proofs.enter.Lts as lts
-use Rattle.vm_quick_calls.proofs.push_frame.Reads as push-frame-reads
-use Rattle.vm_quick_calls.proofs.read_arguments.Reads as read-arguments-reads
 
 add-if1 : tie.Need-add-if1
 add-if1 c = search needs
@@ -15,9 +11,6 @@ add-if1 c = search needs
 returns : tie.Need-returns
 returns c =
     search entering
-
-mul-read-arguments : tie.Need-mul-read-arguments
-mul-read-arguments c = search needs
 
 slice-aggregate-read-arguments : tie.Need-slice-aggregate-read-arguments
 slice-aggregate-read-arguments c = search needs
@@ -57,7 +50,6 @@ enter-spec =
     (tie.spec
     add-if1
     returns
-    mul-read-arguments
     slice-aggregate-read-arguments
     read-arguments-requires
     sub-push-frame

@@ -6,16 +6,15 @@ use Rattle.vm_quick_calls.proofs.is_bad.Statement.{statement}
 use Rattle.vm_quick_calls.proofs.is_bad.Tie as tie
 use Rattle.vm_quick_calls.proofs.is_bad.Reads as reads
 use Rattle.vm_quick_calls.proofs.is_bad.Lts as lts
-use Rattle.vm_quick_operands.proofs.peek.Reads as peek-reads
 
-peek-requires : tie.Need-peek-requires
-peek-requires c κs = search needs
+word-in-requires : tie.Need-word-in-requires
+word-in-requires c κs = search needs
 
-add-peek : tie.Need-add-peek
-add-peek c = search needs
+add-word-in : tie.Need-add-word-in
+add-word-in c = search needs
 
-peek-requires-2 : tie.Need-peek-requires-2
-peek-requires-2 c κs = search needs
+word-in-requires-2 : tie.Need-word-in-requires-2
+word-in-requires-2 c κs = search needs
 
 returns : tie.Need-returns
 returns c =
@@ -49,9 +48,9 @@ pub is-bad-spec : {M : Type 1} → statement M
 is-bad-spec =
     tie.close
     (tie.spec
-    peek-requires
-    add-peek
-    peek-requires-2
+    word-in-requires
+    add-word-in
+    word-in-requires-2
     returns
     returns-2
     returns-3

@@ -4,13 +4,6 @@ use mathlib.Core.Path.{_≡_, refl, sym, _∙_, ap, subst}
 use borrow.Author.Needs.{needs}
 use Rattle.vm_quick_calls.proofs.is_call_good.Statement.{statement}
 use Rattle.vm_quick_calls.proofs.is_call_good.Tie as tie
-use Rattle.vm_quick_calls.proofs.is_call_good.Reads as reads
-use Rattle.vm_quick_calls.proofs.is_call_good.Lts as lts
-use Rattle.prog_tables.proofs.callee_at.Reads as callee-at-reads
-use Rattle.prog_tables.proofs.count_at.Reads as count-at-reads
-use Rattle.vm_quick_calls.proofs.are_good.Reads as are-good-reads
-use Rattle.vm_quick_calls.proofs.callee_size.Reads as callee-size-reads
-use Rattle.vm_quick_calls.proofs.calls_local.Reads as calls-local-reads
 
 count-at-requires : tie.Need-count-at-requires
 count-at-requires c κs = search needs
@@ -31,9 +24,6 @@ returns-2 c =
 
 calls-local-requires : tie.Need-calls-local-requires
 calls-local-requires c κs = search needs
-
-mul-are-good : tie.Need-mul-are-good
-mul-are-good c = search needs
 
 are-good-requires : tie.Need-are-good-requires
 are-good-requires c κs = search needs
@@ -56,7 +46,6 @@ is-call-good-spec =
     callee-size-requires
     returns-2
     calls-local-requires
-    mul-are-good
     are-good-requires
     returns-3
     returns-4)

@@ -1,5 +1,5 @@
 use borrow.Author.Needs.{needs}
-use Prim.Native.Nat.{_-_}
+use Prim.Native.Nat.{_-_, _*_}
 use Rattle.vm_quick_operands.specs.Fast.{goodRead}
 use Rattle.vm_quick_operands.proofs.Reading.{Reading, reading}
 use native.Mathlib.Omega.{arith}
@@ -8,34 +8,21 @@ use Rattle.vm_quick_calls.proofs.read_arguments.Statement.{statement}
 use Rattle.vm_quick_calls.proofs.read_arguments.Tie as tie
 use Rattle.vm_quick_calls.proofs.read_arguments.Reads as reads
 use Rattle.vm_quick_calls.proofs.read_arguments.Lts as lts
-use Rattle.vm_quick_operands.proofs.read.Reads as read-reads
 
 abbrev Inv-loop : tie.InvT-loop
-Inv-loop t at k d size st s m words₀ i₀ words i =
-    Reading (goodRead size d st s m) t at k words i
+Inv-loop t n k d size st s m words₀ i₀ words i =
+    Reading (goodRead size d st s m) t (n * 27) k words i
 
 abbrev μ-loop : tie.MeasureT-loop
-μ-loop t at k d size st s m words₀ i₀ words i =
+μ-loop t n k d size st s m words₀ i₀ words i =
     k - i
 
 loop-holds : tie.Need-loop-holds Inv-loop μ-loop
 loop-holds c =
     search reading
 
-add-read : tie.Need-add-read Inv-loop μ-loop
-add-read c = search needs
-
-cast-read : tie.Need-cast-read Inv-loop μ-loop
-cast-read c = search needs
-
-mul-read : tie.Need-mul-read Inv-loop μ-loop
-mul-read c = search needs
-
-add-read-2 : tie.Need-add-read-2 Inv-loop μ-loop
-add-read-2 c = search needs
-
-read-requires : tie.Need-read-requires Inv-loop μ-loop
-read-requires c κs = search needs
+read-slot-requires : tie.Need-read-slot-requires Inv-loop μ-loop
+read-slot-requires c κs = search needs
 
 enum-known-x : tie.Need-enum-known-x Inv-loop μ-loop
 enum-known-x c = search needs
@@ -83,11 +70,7 @@ read-arguments-spec =
     Inv-loop
     μ-loop
     loop-holds
-    add-read
-    cast-read
-    mul-read
-    add-read-2
-    read-requires
+    read-slot-requires
     enum-known-x
     enum-told
     same-length

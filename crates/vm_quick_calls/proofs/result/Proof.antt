@@ -4,11 +4,6 @@ use mathlib.Core.Path.{_≡_, refl, sym, _∙_, ap, subst}
 use borrow.Author.Needs.{needs}
 use Rattle.vm_quick_calls.proofs.result.Statement.{statement}
 use Rattle.vm_quick_calls.proofs.result.Tie as tie
-use Rattle.vm_quick_calls.proofs.result.Reads as reads
-use Rattle.vm_quick_calls.proofs.result.Lts as lts
-use Rattle.vm_quick_operands.proofs.work.Reads as work-reads
-use Rattle.prog_tables.proofs.expression_at.Reads as expression-at-reads
-use Rattle.prog_tables.proofs.kind_at.Reads as kind-at-reads
 
 kind-at-requires : tie.Need-kind-at-requires
 kind-at-requires c κs = search needs
@@ -23,9 +18,6 @@ expression-at-requires c κs = search needs
 returns-2 : tie.Need-returns-2
 returns-2 c =
     search results
-
-mul-work : tie.Need-mul-work
-mul-work c = search needs
 
 work-requires : tie.Need-work-requires
 work-requires c κs = search needs
@@ -46,7 +38,6 @@ result-spec =
     returns
     expression-at-requires
     returns-2
-    mul-work
     work-requires
     returns-3
     returns-4)

@@ -1,13 +1,15 @@
+-- `vm_quick_calls::tail_call` meets its contract.
+-- Assumes nothing.
 use Rattle.vm_quick_calls.proofs.Cases.{tailing, tail-high}
-use native.Mathlib.Omega.{arith}
-use mathlib.Core.Path.{_≡_, refl, sym, _∙_, ap, subst}
 use borrow.Author.Needs.{needs}
 use Rattle.vm_quick_calls.proofs.tail_call.Statement.{statement}
 use Rattle.vm_quick_calls.proofs.tail_call.Tie as tie
-use Rattle.vm_quick_calls.proofs.tail_call.Reads as reads
-use Rattle.vm_quick_calls.proofs.tail_call.Lts as lts
-use Rattle.prog_tables.proofs.word_at.Reads as word-at-reads
-use Rattle.vm_quick_calls.proofs.call_at.Reads as call-at-reads
+
+expression-at-requires : tie.Need-expression-at-requires
+expression-at-requires c κs = search needs
+
+returns : tie.Need-returns
+returns c = search tailing
 
 word-at-requires : tie.Need-word-at-requires
 word-at-requires c κs = search needs
@@ -24,15 +26,15 @@ add-word-at-2 c = search needs
 word-at-requires-3 : tie.Need-word-at-requires-3
 word-at-requires-3 c κs = search needs
 
-cast-if1 : tie.Need-cast-if1
-cast-if1 c = search needs
+cast-if2 : tie.Need-cast-if2
+cast-if2 c = search needs
 
 same-length : tie.Need-same-length
 same-length c = search needs
 
-returns : tie.Need-returns
-returns c =
-    tail-high _ _ _ _ _ _ _ _ _ _ _ (c .before .word-at3 .ensures) (c .if1 .taken)
+returns-2 : tie.Need-returns-2
+returns-2 c =
+    tail-high _ _ _ _ _ _ _ _ _ _ _ (c .before .before .before .before .before .before .before .before .expression-at .ensures) (c .before .before .before .before .before .before .before .if1 .left) _ (c .before .word-at3 .ensures) (c .if2 .taken)
 
 call-at-requires : tie.Need-call-at-requires
 call-at-requires c κs = search needs
@@ -40,22 +42,23 @@ call-at-requires c κs = search needs
 same-length-2 : tie.Need-same-length-2
 same-length-2 c = search needs
 
-returns-2 : tie.Need-returns-2
-returns-2 c =
-    search tailing
+returns-3 : tie.Need-returns-3
+returns-3 c = search tailing
 
 pub tail-call-spec : {M : Type 1} → statement M
 tail-call-spec =
     tie.close
     (tie.spec
+    expression-at-requires
+    returns
     word-at-requires
     add-word-at
     word-at-requires-2
     add-word-at-2
     word-at-requires-3
-    cast-if1
+    cast-if2
     same-length
-    returns
+    returns-2
     call-at-requires
     same-length-2
-    returns-2)
+    returns-3)

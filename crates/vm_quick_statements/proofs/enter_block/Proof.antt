@@ -45,7 +45,7 @@ same-length c = search needs
 
 returns-3 : tie.Need-returns-3
 returns-3 c =
-    block-in _ _ _ _ _ _ _ _ _ (c .before .before .before .before .before .before .before .peek .ensures) (c .before .before .before .before .before .before .peek2 .ensures) _ (c .before .before .before .before .before .if1 .left) (c .before .before .before .before .if2 .left) (c .before .before .open-block .ensures)
+    block-in _ _ _ _ _ _ _ _ _ (c .before .before .before .before .before .before .before .a-in .ensures) (c .before .before .before .before .before .before .b-in .ensures) _ (c .before .before .before .before .before .if1 .left) (c .before .before .before .before .if2 .left) (c .before .before .open-block .ensures)
 
 pub enter-block-spec : {M : Type 1} → statement M
 enter-block-spec =

@@ -4,6 +4,10 @@ use mathlib.Core.Path.{_≡_, refl, sym, _∙_, ap, subst}
 use borrow.Author.Needs.{needs}
 use Rattle.vm_quick_statements.proofs.open_block.Statement.{statement}
 use Rattle.vm_quick_statements.proofs.open_block.Tie as tie
+use Rattle.vm_quick_statements.proofs.open_block.Reads as reads
+use Rattle.vm_quick_statements.proofs.open_block.Lts as lts
+use Rattle.vm_memory.proofs.put.Reads as put-reads
+use Rattle.vm_memory.proofs.put_zeros.Reads as put-zeros-reads
 
 put-requires : tie.Need-put-requires
 put-requires c κs = search needs

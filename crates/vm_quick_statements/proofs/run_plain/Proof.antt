@@ -5,12 +5,17 @@ use native.Mathlib.Omega.{arith}
 use mathlib.Core.Path.{_≡_, refl, sym, _∙_, ap, subst}
 use Rattle.vm_quick_statements.proofs.run_plain.Statement.{statement}
 use Rattle.vm_quick_statements.proofs.run_plain.Tie as tie
+use Rattle.vm_quick_statements.proofs.run_plain.Reads as reads
+use Rattle.vm_quick_statements.proofs.run_plain.Lts as lts
+use Rattle.vm_quick_statements.proofs.take.Reads as take-reads
 
 abbrev Inv-loop : tie.InvT-loop
-Inv-loop t c g d size budget st₀ s m₀ n top next₀ end₀ count₀ st m next end count = ?
+Inv-loop t c g d size budget st₀ s m₀ n top next₀ end₀ count₀ st m next end count =
+    SoFar t c g d size s budget st₀ m₀ next₀ end₀ st m next end count
 
 abbrev μ-loop : tie.MeasureT-loop
-μ-loop t c g d size budget st₀ s m₀ n top next₀ end₀ count₀ st m next end count = ?
+μ-loop t c g d size budget st₀ s m₀ n top next₀ end₀ count₀ st m next end count =
+    budget - count
 
 loop-holds : tie.Need-loop-holds Inv-loop μ-loop
 loop-holds c =
