@@ -284,7 +284,7 @@ module _ (w : Width) (s : List ℕ) where
   faultless-unbroken : Faultless → Unbroken w s
   faultless-unbroken f =
       let r = clean-reads w s (f .tokens) in
-      let x = fine-lines w (tableOf w s) (length s) (lines-fine w (tableOf w s) (length s) .0 (f .lines)) in
+      let x = fine-lines w (tableOf w s) (lines-fine w (tableOf w s) (length s) .0 (f .lines)) in
       record {
         short = f .short;
         readable = r .readable;
@@ -295,11 +295,13 @@ module _ (w : Width) (s : List ℕ) where
         lengths = r .lengths;
         fewTokens = r .fewTokens;
         shaped = x .shaped;
-        worded = x .worded;
+        substitutesKnown = x .substitutesKnown;
+        namesFree = x .namesFree;
         placed = x .placed;
         labelled = x .labelled;
-        labelsNamed = x .labelsNamed;
+        labelsFree = x .labelsFree;
         notLeftOut = x .notLeftOut;
+        noFrameSize = x .noFrameSize;
         fewStatements = x .fewStatements;
         fewLabels = x .fewLabels;
         fewLocals = x .fewLocals;
@@ -322,13 +324,15 @@ module _ (w : Width) (s : List ℕ) where
           lengths = u .lengths;
           fewTokens = u .fewTokens;
         });
-        lines = lines-fine w (tableOf w s) (length s) .1 (lines-join w (tableOf w s) (length s) (record {
+        lines = lines-fine w (tableOf w s) (length s) .1 (lines-join w (tableOf w s) (record {
           shaped = u .shaped;
-          worded = u .worded;
+          substitutesKnown = u .substitutesKnown;
+          namesFree = u .namesFree;
           placed = u .placed;
           labelled = u .labelled;
-          labelsNamed = u .labelsNamed;
+          labelsFree = u .labelsFree;
           notLeftOut = u .notLeftOut;
+          noFrameSize = u .noFrameSize;
           fewStatements = u .fewStatements;
           fewLabels = u .fewLabels;
           fewLocals = u .fewLocals;

@@ -5,10 +5,13 @@ use mathlib.Core.List.{List, [], _∷_, _++_}
 use Prim.Native.Nat.{ℕ}
 use Rattle.base_prelude.specs.Fault.{none, key, leastOf}
 use Rattle.base_limits.specs.declared.Width.the-variants.{Bits32}
+use Rattle.lex_source.specs.Rows.{rowsOf}
 use Rattle.check_source.specs.Check.{Lent, lent}
 use Rattle.check_source.specs.declared.Checked.{Checked}
 use Rattle.check_source.specs.declared.Checked.the-variants.{Accepted, Refused}
-use Rattle.thm_acceptance.specs.Accepts.{groupsOf, judge, countsOf}
+use Rattle.lang_kinds.specs.Grounds as ground
+use Rattle.thm_acceptance.specs.Lines.{Line, linesOf, statementsBefore, labelsBefore, openBefore, localsIn, blocksIn, groundBefore}
+use Rattle.thm_acceptance.specs.Accepts.{tokensOf, groupsOf, judge, countsOf}
 use Rattle.thm_acceptance.proofs.Opened.{opened}
 
 -- the least fault of each group: 1; tokens; lines; names; 15; 16
@@ -65,3 +68,45 @@ unknown-export = refl
 first-group : judge ((none ∷ []) ∷ (key 9 7 ∷ key 3 8 ∷ []) ∷ (key 1 10 ∷ []) ∷ []) (Accepted 8 2 1 0) ≡ Refused 8 3
 unfolding opened
 first-group = refl
+
+-- ---- what stands before each line
+
+-- `f: function a`, `block`, `let b a`, `end block`, `end function`, a line each
+abbrev nested : List ℕ
+nested =
+    section-line
+    ++ (102 ∷ 58 ∷ 32 ∷ 102 ∷ 117 ∷ 110 ∷ 99 ∷ 116 ∷ 105 ∷ 111 ∷ 110 ∷ 32 ∷ 97 ∷ 10 ∷ [])
+    ++ (98 ∷ 108 ∷ 111 ∷ 99 ∷ 107 ∷ 10 ∷ 108 ∷ 101 ∷ 116 ∷ 32 ∷ 98 ∷ 32 ∷ 97 ∷ 10 ∷ 101 ∷ 110 ∷ 100 ∷ 32 ∷ 98 ∷ 108 ∷ 111 ∷ 99 ∷ 107 ∷ 10 ∷ [])
+    ++ end-line
+
+-- of each line, where f says something of the lines before it
+abbrev along : (List Line → ℕ) → List Line → List Line → List ℕ
+along f before [] = []
+along f before (x ∷ xs) = f before ∷ along f (x ∷ before) xs
+
+-- the rows of its tokens alone
+abbrev nestedTable : List ℕ
+nestedTable = rowsOf (tokensOf Bits32 nested)
+
+-- section, function, block, let, end block, end function, the source's end
+grounds : along (groundBefore nestedTable) [] (linesOf nestedTable)
+    ≡ ground.beforeSections ∷ ground.functionsSection ∷ ground.inFunction ∷ ground.inBlock ∷ ground.inBlock ∷ ground.inFunction ∷ ground.functionsSection ∷ []
+unfolding opened
+grounds = refl
+
+-- the parameter; with the let; the block's let is gone behind its end
+locals : along (λ before. localsIn (openBefore nestedTable before)) [] (linesOf nestedTable) ≡ 0 ∷ 0 ∷ 1 ∷ 1 ∷ 2 ∷ 1 ∷ 0 ∷ []
+unfolding opened
+locals = refl
+
+blocks : along (λ before. blocksIn (openBefore nestedTable before)) [] (linesOf nestedTable) ≡ 0 ∷ 0 ∷ 0 ∷ 1 ∷ 1 ∷ 0 ∷ 0 ∷ []
+unfolding opened
+blocks = refl
+
+statements-before : along statementsBefore [] (linesOf nestedTable) ≡ 0 ∷ 0 ∷ 1 ∷ 2 ∷ 3 ∷ 4 ∷ 5 ∷ []
+unfolding opened
+statements-before = refl
+
+labels-before : along (labelsBefore nestedTable) [] (linesOf nestedTable) ≡ 0 ∷ 0 ∷ 1 ∷ 1 ∷ 1 ∷ 1 ∷ 1 ∷ []
+unfolding opened
+labels-before = refl

@@ -1,4 +1,5 @@
 pub mod Opens
+pub mod LineRules
 pub mod Paged
 pub mod Page
 pub mod PageNames

@@ -28,7 +28,7 @@ use Rattle.parse_verdict.proofs.Decided.{least-none, none-all}
 use Rattle.parse_verdict.proofs.Decided as decided
 use Rattle.thm_acceptance.specs.Reads.{Behind, EachReadFrom, EachRead}
 use Rattle.thm_acceptance.specs.Lines.{Line, EachFrom, EachLine, linesOf}
-use Rattle.thm_acceptance.specs.LineRules.{Silent, Shaped, Worded, Placed, MayBeLabelled, LabelsNamed, NotLeftOut, FewStatements, FewLabels, FewLocals, FewBlocks, FewArguments}
+use Rattle.thm_acceptance.specs.LineRules.{Silent, Shaped, SubstitutesKnown, NamesFree, Placed, MayBeLabelled, LabelsFree, NotLeftOut, NoFrameSize, FewStatements, FewLabels, FewLocals, FewBlocks, FewArguments}
 use Rattle.thm_acceptance.proofs.Paged.{LineFine}
 
 -- ---- what is read
@@ -159,69 +159,77 @@ pub each-both : (P Q : List Line → Line → Type 0) (before xs : List Line) �
 each-both P Q before [] h g = tt
 each-both P Q before (x ∷ xs) h g = ((h .0, g .0), each-both P Q (x ∷ before) xs (h .1) (g .1))
 
-module _ (w : Width) (t : List ℕ) (n : ℕ) where
+module _ (w : Width) (t : List ℕ) where
   pub record LinesUnbroken : Type 0 where
-    pub shaped : EachLine t (Shaped w t n)
-    pub worded : EachLine t (Worded w t n)
-    pub placed : EachLine t (Placed w t n)
-    pub labelled : EachLine t (MayBeLabelled w t n)
-    pub labelsNamed : EachLine t (LabelsNamed w t n)
-    pub notLeftOut : EachLine t (NotLeftOut w t n)
-    pub fewStatements : EachLine t (FewStatements w t n)
-    pub fewLabels : EachLine t (FewLabels w t n)
-    pub fewLocals : EachLine t (FewLocals w t n)
-    pub fewBlocks : EachLine t (FewBlocks w t n)
-    pub fewArguments : EachLine t (FewArguments w t n)
+    pub shaped : EachLine t (Shaped w t)
+    pub substitutesKnown : EachLine t (SubstitutesKnown w t)
+    pub namesFree : EachLine t (NamesFree w t)
+    pub placed : EachLine t (Placed w t)
+    pub labelled : EachLine t (MayBeLabelled w t)
+    pub labelsFree : EachLine t (LabelsFree w t)
+    pub notLeftOut : EachLine t (NotLeftOut w t)
+    pub noFrameSize : EachLine t (NoFrameSize w t)
+    pub fewStatements : EachLine t (FewStatements w t)
+    pub fewLabels : EachLine t (FewLabels w t)
+    pub fewLocals : EachLine t (FewLocals w t)
+    pub fewBlocks : EachLine t (FewBlocks w t)
+    pub fewArguments : EachLine t (FewArguments w t)
 
   abbrev Fine : List Line → Line → Type 0
-  Fine = LineFine w t n
+  Fine = LineFine w t
 
   pub fine-lines : EachLine t Fine → LinesUnbroken
   fine-lines h =
       record {
-        shaped = each-map Fine (Shaped w t n) (λ b x f. f .shaped) [] (linesOf t) h;
-        worded = each-map Fine (Worded w t n) (λ b x f. f .worded) [] (linesOf t) h;
-        placed = each-map Fine (Placed w t n) (λ b x f. f .placed) [] (linesOf t) h;
-        labelled = each-map Fine (MayBeLabelled w t n) (λ b x f. f .labelled) [] (linesOf t) h;
-        labelsNamed = each-map Fine (LabelsNamed w t n) (λ b x f. f .named) [] (linesOf t) h;
-        notLeftOut = each-map Fine (NotLeftOut w t n) (λ b x f. f .kept) [] (linesOf t) h;
-        fewStatements = each-map Fine (FewStatements w t n) (λ b x f. f .statements) [] (linesOf t) h;
-        fewLabels = each-map Fine (FewLabels w t n) (λ b x f. f .labels) [] (linesOf t) h;
-        fewLocals = each-map Fine (FewLocals w t n) (λ b x f. f .locals) [] (linesOf t) h;
-        fewBlocks = each-map Fine (FewBlocks w t n) (λ b x f. f .blocks) [] (linesOf t) h;
-        fewArguments = each-map Fine (FewArguments w t n) (λ b x f. f .arguments) [] (linesOf t) h;
+        shaped = each-map Fine (Shaped w t) (λ b x z. z .shaped) [] (linesOf t) h;
+        substitutesKnown = each-map Fine (SubstitutesKnown w t) (λ b x z. z .substitutes) [] (linesOf t) h;
+        namesFree = each-map Fine (NamesFree w t) (λ b x z. z .names) [] (linesOf t) h;
+        placed = each-map Fine (Placed w t) (λ b x z. z .placed) [] (linesOf t) h;
+        labelled = each-map Fine (MayBeLabelled w t) (λ b x z. z .labelled) [] (linesOf t) h;
+        labelsFree = each-map Fine (LabelsFree w t) (λ b x z. z .named) [] (linesOf t) h;
+        notLeftOut = each-map Fine (NotLeftOut w t) (λ b x z. z .kept) [] (linesOf t) h;
+        noFrameSize = each-map Fine (NoFrameSize w t) (λ b x z. z .sizes) [] (linesOf t) h;
+        fewStatements = each-map Fine (FewStatements w t) (λ b x z. z .statements) [] (linesOf t) h;
+        fewLabels = each-map Fine (FewLabels w t) (λ b x z. z .labels) [] (linesOf t) h;
+        fewLocals = each-map Fine (FewLocals w t) (λ b x z. z .locals) [] (linesOf t) h;
+        fewBlocks = each-map Fine (FewBlocks w t) (λ b x z. z .blocks) [] (linesOf t) h;
+        fewArguments = each-map Fine (FewArguments w t) (λ b x z. z .arguments) [] (linesOf t) h;
       }
 
+  -- all in one
+  abbrev Two : (List Line → Line → Type 0) → (List Line → Line → Type 0) → List Line → Line → Type 0
+  Two P Q b x = P b x × Q b x
+
+  joined : (P Q : List Line → Line → Type 0) → EachLine t P → EachLine t Q → EachLine t (Two P Q)
+  joined P Q h g = each-both P Q [] (linesOf t) h g
+
   abbrev Words : List Line → Line → Type 0
-  Words b x = Shaped w t n b x × (Worded w t n b x × NotLeftOut w t n b x)
+  Words = Two (Two (Shaped w t) (SubstitutesKnown w t)) (Two (NamesFree w t) (NoFrameSize w t))
 
   abbrev Places : List Line → Line → Type 0
-  Places b x = Placed w t n b x × (MayBeLabelled w t n b x × LabelsNamed w t n b x)
+  Places = Two (Two (Placed w t) (MayBeLabelled w t)) (Two (LabelsFree w t) (NotLeftOut w t))
 
   abbrev Counts : List Line → Line → Type 0
-  Counts b x = FewStatements w t n b x × FewLabels w t n b x
-
-  abbrev Limits : List Line → Line → Type 0
-  Limits b x = FewLocals w t n b x × (FewBlocks w t n b x × FewArguments w t n b x)
+  Counts = Two (Two (FewStatements w t) (FewLabels w t)) (Two (FewLocals w t) (Two (FewBlocks w t) (FewArguments w t)))
 
   pub lines-join : LinesUnbroken → EachLine t Fine
   lines-join u =
-      let xs : List Line = linesOf t in
-      let a : EachFrom Words [] xs = each-both (Shaped w t n) (λ b x. Worded w t n b x × NotLeftOut w t n b x) [] xs (u .shaped) (each-both (Worded w t n) (NotLeftOut w t n) [] xs (u .worded) (u .notLeftOut)) in
-      let b : EachFrom Places [] xs = each-both (Placed w t n) (λ b x. MayBeLabelled w t n b x × LabelsNamed w t n b x) [] xs (u .placed) (each-both (MayBeLabelled w t n) (LabelsNamed w t n) [] xs (u .labelled) (u .labelsNamed)) in
-      let c : EachFrom Counts [] xs = each-both (FewStatements w t n) (FewLabels w t n) [] xs (u .fewStatements) (u .fewLabels) in
-      let d : EachFrom Limits [] xs = each-both (FewLocals w t n) (λ b x. FewBlocks w t n b x × FewArguments w t n b x) [] xs (u .fewLocals) (each-both (FewBlocks w t n) (FewArguments w t n) [] xs (u .fewBlocks) (u .fewArguments)) in
-      each-map (λ b x. (Words b x × Places b x) × (Counts b x × Limits b x)) Fine (λ b x z.
+      let a : EachLine t Words = joined (Two (Shaped w t) (SubstitutesKnown w t)) (Two (NamesFree w t) (NoFrameSize w t)) (joined (Shaped w t) (SubstitutesKnown w t) (u .shaped) (u .substitutesKnown)) (joined (NamesFree w t) (NoFrameSize w t) (u .namesFree) (u .noFrameSize)) in
+      let b : EachLine t Places = joined (Two (Placed w t) (MayBeLabelled w t)) (Two (LabelsFree w t) (NotLeftOut w t)) (joined (Placed w t) (MayBeLabelled w t) (u .placed) (u .labelled)) (joined (LabelsFree w t) (NotLeftOut w t) (u .labelsFree) (u .notLeftOut)) in
+      let c : EachLine t Counts = joined (Two (FewStatements w t) (FewLabels w t)) (Two (FewLocals w t) (Two (FewBlocks w t) (FewArguments w t))) (joined (FewStatements w t) (FewLabels w t) (u .fewStatements) (u .fewLabels)) (joined (FewLocals w t) (Two (FewBlocks w t) (FewArguments w t)) (u .fewLocals) (joined (FewBlocks w t) (FewArguments w t) (u .fewBlocks) (u .fewArguments))) in
+      each-map (Two Words (Two Places Counts)) Fine (λ b x z.
       record {
         shaped = z .0 .0 .0;
-        worded = z .0 .0 .1 .0;
-        placed = z .0 .1 .0;
-        labelled = z .0 .1 .1 .0;
-        named = z .0 .1 .1 .1;
-        kept = z .0 .0 .1 .1;
-        statements = z .1 .0 .0;
-        labels = z .1 .0 .1;
-        locals = z .1 .1 .0;
-        blocks = z .1 .1 .1 .0;
-        arguments = z .1 .1 .1 .1;
-      }) [] xs (each-both (λ b x. Words b x × Places b x) (λ b x. Counts b x × Limits b x) [] xs (each-both Words Places [] xs a b) (each-both Counts Limits [] xs c d))
+        substitutes = z .0 .0 .1;
+        names = z .0 .1 .0;
+        sizes = z .0 .1 .1;
+        placed = z .1 .0 .0 .0;
+        labelled = z .1 .0 .0 .1;
+        named = z .1 .0 .1 .0;
+        kept = z .1 .0 .1 .1;
+        statements = z .1 .1 .0 .0;
+        labels = z .1 .1 .0 .1;
+        locals = z .1 .1 .1 .0;
+        blocks = z .1 .1 .1 .1 .0;
+        arguments = z .1 .1 .1 .1 .1;
+      }) [] (linesOf t) (joined Words (Two Places Counts) a (joined Places Counts b c))

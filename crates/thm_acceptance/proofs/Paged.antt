@@ -41,7 +41,8 @@ use Rattle.thm_line_rows.proofs.Puts.{length-put}
 use Rattle.thm_line_rows.proofs.Words.{Says, line-says, test-kind}
 use Rattle.thm_label_rows.proofs.Unit.{line-low}
 use Rattle.thm_acceptance.specs.Lines.{Line, lineFrom, linesFrom, linesOf, EachFrom, EachLine, statementKinds, statementsBefore, labelsAmong, labelCount, labelsBefore, Level, level, openedBy, openedByAll, openBefore, localsIn, blocksIn, sectionBefore, groundAmong, groundBefore}
-use Rattle.thm_acceptance.specs.LineRules.{Silent, Shaped, Worded, Placed, MayBeLabelled, LabelsNamed, NotLeftOut, FewStatements, FewLabels, FewLocals, FewBlocks, FewArguments}
+use Rattle.thm_acceptance.specs.LineRules.{isReserved, Shaped, SubstitutesKnown, NamesFree, Placed, MayBeLabelled, LabelsFree, NotLeftOut, NoFrameSize, FewStatements, FewLabels, FewLocals, FewBlocks, FewArguments}
+use Rattle.thm_acceptance.proofs.LineRules.{reserved-by, by-reserved, shape-by, by-shape, TokensFree, tokens-by, by-tokens, list-by, by-list}
 use Rattle.thm_acceptance.proofs.Opens.{leaves-high, Link, Chain, closed, within, Somewhere, nowhere, somewhere, where-is, Frame, LocalsAre, Needs, chain-more, Counted, Head, Fit, next-counted, else-if-counted}
 
 -- ---- a rule that finds nothing
@@ -313,18 +314,20 @@ module _ (w : Width) (t : List ℕ) (n : ℕ) (u : Span) (k g : ℕ) (s : State)
 -- ---- a line, and the state before it
 
 -- no rule is broken by a line
-pub record LineFine (w : Width) (t : List ℕ) (n : ℕ) (before : List Line) (x : Line) : Type 0 where
-  pub shaped : Shaped w t n before x
-  pub worded : Worded w t n before x
-  pub placed : Placed w t n before x
-  pub labelled : MayBeLabelled w t n before x
-  pub named : LabelsNamed w t n before x
-  pub kept : NotLeftOut w t n before x
-  pub statements : FewStatements w t n before x
-  pub labels : FewLabels w t n before x
-  pub locals : FewLocals w t n before x
-  pub blocks : FewBlocks w t n before x
-  pub arguments : FewArguments w t n before x
+pub record LineFine (w : Width) (t : List ℕ) (before : List Line) (x : Line) : Type 0 where
+  pub shaped : Shaped w t before x
+  pub substitutes : SubstitutesKnown w t before x
+  pub names : NamesFree w t before x
+  pub placed : Placed w t before x
+  pub labelled : MayBeLabelled w t before x
+  pub named : LabelsFree w t before x
+  pub kept : NotLeftOut w t before x
+  pub sizes : NoFrameSize w t before x
+  pub statements : FewStatements w t before x
+  pub labels : FewLabels w t before x
+  pub locals : FewLocals w t before x
+  pub blocks : FewBlocks w t before x
+  pub arguments : FewArguments w t before x
 
 record Agree (t : List ℕ) (before : List Line) (y : World) : Type 0 where
   pub long : length (y .table) ≡ 8200
@@ -704,46 +707,49 @@ module _ (w : Width) (t : List ℕ) (n : ℕ) (before : List Line) (y : World) (
   labels-in = refl
 
   -- the parser finds nothing: no rule is broken
-  clean-fine : none ≤ faultAt w t n y → LineFine w t n before x
+  clean-fine : none ≤ faultAt w t n y → LineFine w t before x
   unfolding faultAt faultIn
   clean-fine h =
       let r = fault-rules w t n u k g (y .state) h in
       let p : standsOn (groundBefore t before) k ≡ true = subst (λ (v : ℕ). standsOn v k ≡ true) (ground-is t before y a) (place-by t n u k g (r .place)) in
       let m = labels-by t n u k (y .state .labels) (omega (arith, a .labels, a .few)) (r .labels) in
       let o = unit-order t (y .state .at) in
+      let z = tokens-by t n u k (r .tokens) in
       record {
-        shaped = r .shape;
-        worded = r .tokens;
+        shaped = shape-by w t n u k (r .shape);
+        substitutes = z .known;
+        names = z .names;
+        sizes = z .sizes;
         placed = p;
         labelled = λ e. subst (λ (v : ℕ). mayLabel v (kindAt t (u .word)) (wordAt t (u .word)) ≡ true) (ground-is t before y a) (label-by t n u k g (r .label) e);
-        named = λ i b c e. m .0 i b (omega arith) e;
+        named = λ i b c e. reserved-by t n i (m .0 i b (omega arith) e);
         kept = left-by t n u k (r .left);
         statements = omega (arith, room-by t n u k (y .state .count) (r .room), a .count, a .free);
         labels = omega (arith, m .1, labels-in, a .labels);
         locals = λ e. omega (arith, locals-by t n u k (y .state .locals) (r .locals) e, locals-are e p);
         blocks = λ e. omega (arith, depth-by t n u k (y .state .depth) (r .depth) e, a .counted .depth);
-        arguments = r .list;
+        arguments = list-by t n u k (r .list);
       }
 
   -- and the other way
-  fine-clean : LineFine w t n before x → none ≤ faultAt w t n y
+  fine-clean : LineFine w t before x → none ≤ faultAt w t n y
   unfolding faultAt faultIn
   fine-clean f =
       let o = unit-order t (y .state .at) in
       rules-fault w t n u k g (y .state) (record {
         label = by-label t n u k g (λ e. subst (λ (v : ℕ). mayLabel v (kindAt t (u .word)) (wordAt t (u .word)) ≡ true) (sym (ground-is t before y a)) (f .labelled e));
-        labels = by-labels t n u k (y .state .labels) (λ j b c e. f .named j b (omega (arith, o .1)) e, omega (arith, f .labels, labels-in, a .labels));
-        shape = f .shaped;
+        labels = by-labels t n u k (y .state .labels) (λ j b c e. by-reserved t n j (f .named j b (omega (arith, o .1)) e), omega (arith, f .labels, labels-in, a .labels));
+        shape = by-shape w t n u k (f .shaped);
         place = by-place t n u k g (subst (λ (v : ℕ). standsOn v k ≡ true) (sym (ground-is t before y a)) (f .placed));
         left = by-left t n u k (f .kept);
         room = by-room t n u k (y .state .count) (omega (arith, f .statements, a .count));
         locals = by-locals t n u k (y .state .locals) (λ e. omega (arith, f .locals e, locals-are e (f .placed)));
         depth = by-depth t n u k (y .state .depth) (λ e. omega (arith, f .blocks e, a .counted .depth));
-        tokens = f .worded;
-        list = f .arguments;
+        tokens = by-tokens t n u k (record { names = f .names; known = f .substitutes; sizes = f .sizes });
+        list = by-list t n u k (f .arguments);
       })
 
-  here-is : LineFine w t n before x → (k ≡ 0 → ⊥) → Here t u k (openBefore t before) y
+  here-is : LineFine w t before x → (k ≡ 0 → ⊥) → Here t u k (openBefore t before) y
   unfolding groundBefore
   here-is f d =
       let s = where-is (y .table) (y .state .top) (openBefore t before) (a .chain) in
@@ -758,7 +764,7 @@ module _ (w : Width) (t : List ℕ) (n : ℕ) (before : List Line) (y : World) (
         held = record { long = a .long; low = a .low; chain = a .chain };
       }
 
-  agree-next : LineFine w t n before x → (k ≡ 0 → ⊥) → Agree t (x ∷ before) (nextWorld t n y)
+  agree-next : LineFine w t before x → (k ≡ 0 → ⊥) → Agree t (x ∷ before) (nextWorld t n y)
   unfolding nextWorld kindIn advance joinState stateBehind openBefore statementsBefore labelsBefore sectionBefore sectionBehind
   agree-next f d =
       let h = here-is f d in
@@ -786,7 +792,7 @@ next-at t n y = refl
 
 module _ (w : Width) (t : List ℕ) (n : ℕ) where
   abbrev Fine : List Line → Line → Type 0
-  Fine = LineFine w t n
+  Fine = LineFine w t
 
   faults-more : (left : ℕ) (y : World) → faultsFrom (suc left) w t n y ≡ faultAt w t n y ∷ ifEq (lineKind t (unitAt t (y .state .at) .word)) 0 [] (faultsFrom left w t n (nextWorld t n y))
   unfolding faultsFrom kindIn

@@ -23,7 +23,7 @@ use Rattle.res_text.specs.Same.{sameText}
 use Rattle.parse_verdict.specs.Verdict.{Clean}
 use Rattle.thm_acceptance.specs.Reads.{EachRead}
 use Rattle.thm_acceptance.specs.Lines.{Line, EachLine}
-use Rattle.thm_acceptance.specs.LineRules.{Silent, Shaped, Worded, Placed, MayBeLabelled, LabelsNamed, NotLeftOut, FewStatements, FewLabels, FewLocals, FewBlocks, FewArguments}
+use Rattle.thm_acceptance.specs.LineRules.{Silent, Shaped, SubstitutesKnown, NamesFree, Placed, MayBeLabelled, LabelsFree, NotLeftOut, NoFrameSize, FewStatements, FewLabels, FewLocals, FewBlocks, FewArguments}
 use Rattle.thm_acceptance.specs.Faults.{declaredFaults, headFaults, calleeFaults, operandFaults}
 use Rattle.thm_acceptance.specs.Accepts.{tableOf, outlined, statementsIn, labelsIn}
 
@@ -67,21 +67,23 @@ pub record Unbroken (w : Width) (s : List ℕ) : Type 0 where
   pub lengths : EachRead w s (λ n r. Silent (lengthRule r))
   -- 14: "tokens 4,096"
   pub fewTokens : EachRead w s (λ n r. Silent (limitRule n r))
-  -- 7, 8 and 9 of a line's words and shape
-  pub shaped : EachLine (tableOf w s) (Shaped w (tableOf w s) (length s))
-  pub worded : EachLine (tableOf w s) (Worded w (tableOf w s) (length s))
-  -- 8 of places
-  pub placed : EachLine (tableOf w s) (Placed w (tableOf w s) (length s))
-  pub labelled : EachLine (tableOf w s) (MayBeLabelled w (tableOf w s) (length s))
-  pub labelsNamed : EachLine (tableOf w s) (LabelsNamed w (tableOf w s) (length s))
-  -- 9
-  pub notLeftOut : EachLine (tableOf w s) (NotLeftOut w (tableOf w s) (length s))
+  -- 7: words, shapes and ranges; substitutes
+  pub shaped : EachLine (tableOf w s) (Shaped w (tableOf w s))
+  pub substitutesKnown : EachLine (tableOf w s) (SubstitutesKnown w (tableOf w s))
+  -- 8: reserved words as names; places; what a label names; a label's own name
+  pub namesFree : EachLine (tableOf w s) (NamesFree w (tableOf w s))
+  pub placed : EachLine (tableOf w s) (Placed w (tableOf w s))
+  pub labelled : EachLine (tableOf w s) (MayBeLabelled w (tableOf w s))
+  pub labelsFree : EachLine (tableOf w s) (LabelsFree w (tableOf w s))
+  -- 9: words, and the substitute
+  pub notLeftOut : EachLine (tableOf w s) (NotLeftOut w (tableOf w s))
+  pub noFrameSize : EachLine (tableOf w s) (NoFrameSize w (tableOf w s))
   -- 14, limit by limit
-  pub fewStatements : EachLine (tableOf w s) (FewStatements w (tableOf w s) (length s))
-  pub fewLabels : EachLine (tableOf w s) (FewLabels w (tableOf w s) (length s))
-  pub fewLocals : EachLine (tableOf w s) (FewLocals w (tableOf w s) (length s))
-  pub fewBlocks : EachLine (tableOf w s) (FewBlocks w (tableOf w s) (length s))
-  pub fewArguments : EachLine (tableOf w s) (FewArguments w (tableOf w s) (length s))
+  pub fewStatements : EachLine (tableOf w s) (FewStatements w (tableOf w s))
+  pub fewLabels : EachLine (tableOf w s) (FewLabels w (tableOf w s))
+  pub fewLocals : EachLine (tableOf w s) (FewLocals w (tableOf w s))
+  pub fewBlocks : EachLine (tableOf w s) (FewBlocks w (tableOf w s))
+  pub fewArguments : EachLine (tableOf w s) (FewArguments w (tableOf w s))
   -- 10 to 13 and 17
   pub names : NamesUnbroken (sameText s (tableOf w s)) (tableOf w s) (length s)
       (skeletonOf (outlined w s .rows) (statementsIn (outlined w s .answer))) (outlined w s .labels) (labelsIn (outlined w s .answer)) (statementsIn (outlined w s .answer))
