@@ -1,3 +1,2 @@
-pub mod Effects
 pub mod Words
 pub mod Calls

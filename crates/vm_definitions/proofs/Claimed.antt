@@ -23,13 +23,21 @@ use Rattle.vm_definitions.specs.Start.{startOf, startLeaves, startBy, st
 use Rattle.vm_definitions.specs.Causes.{firstCause, meetingsOf, readsOf}
 use Rattle.vm_definitions.specs.Ledger.{Event, started, counted, Entry, Ledger, fed, countedIn, ledgerOf, sumOf, lastOf}
 use Rattle.vm_definitions.specs.Play.{Call, start, step, run, Invocation, CallResult, eventsOf, startEvents, startBroke, calledOn, invokedOn, worldAfter, eventsAfter, refusalsAfter}
-use Rattle.vm_definitions.specs.Claim.{runningWith, causeIn, Listed, StopSound, StepSound, stackFull, StateSound, isFinished, Sound, AllLong, NoneBroken, startedBy, Demand}
+use Rattle.vm_definitions.specs.Claim.{runningWith, causeIn, Listed, isStopped, stoppedBy, StopSound, StepSound, stackFull, StateSound, isFinished, Sound, AllLong, NoneBroken, startedBy, Demand}
 use Rattle.vm_definitions.specs.declared.Broken.{Broken}
 use Rattle.vm_definitions.specs.declared.Broken.the-variants.{No, At, Somewhere}
 use Rattle.vm_definitions.specs.declared.Started.{Started}
 use Rattle.vm_definitions.specs.declared.Started.the-variants.{Begun, Refused, Unsound}
 use Rattle.vm_definitions.proofs.Invariant.{FrameAt, Under, Invariant}
+use Rattle.vm_definitions.proofs.Outcomes.{Fine, effect-fine}
 use Rattle.vm_definitions.proofs.Lists.{Good, runs, stopsAt, ends, Parts, with-state, step-running, effected-stop, effected-machine, effected-stack, effected-memory, effected-count, runs-as, step-whole, run-good}
+
+-- any number; a state that is no stop
+abbrev Any : ℕ → Type 0
+Any k = Unit {0}
+
+abbrev Going : State → Type 0
+Going z = isStopped z ≡ false
 
 -- ---- lists
 
@@ -89,11 +97,25 @@ module _ (w : Width) (t : Tables) (bytes : List ℕ) (p : Parts w t bytes) where
             let b : 0 < k = p .numbered e es x k s i q in omega (arith, a, b, z))
         go (leaves y) q = ap (λ (y : After). y .count) (runs-as w t bytes p e es x s i ∙ ap (effected x) q) ∙ effected-count x y
 
-    stop-effect : 0 < causeIn (programFrom w t) (e ∷ es) x → stepOf (programFrom w t) x ≡ effected x (stops (causeIn (programFrom w t) (e ∷ es) x))
-    unfolding effectStop
+    no-stop : causeIn (programFrom w t) (e ∷ es) x ≡ 0 → isStopped (stepOf (programFrom w t) x .world .machine .state) ≡ false
+    unfolding effectStop effected Fine isStopped
+    no-stop z = go (effectOf (programFrom w t) x) refl
+      where
+        go : (f : Effect) → effectOf (programFrom w t) x ≡ f → isStopped (stepOf (programFrom w t) x .world .machine .state) ≡ false
+        go (stops k) q =
+            absurd
+            (let a : k ≡ causeIn (programFrom w t) (e ∷ es) x = sym (ap effectStop q) ∙ p .cause e es x i in
+            let b : 0 < k = p .numbered e es x k s i q in omega (arith, a, b, z))
+        go (leaves y) q =
+            ap (λ (y : After). isStopped (y .world .machine .state)) (runs-as w t bytes p e es x s i ∙ ap (effected x) q)
+            ∙ subst (Fine Any tt tt tt tt tt Going (λ v. refl)) q
+            (effect-fine Any tt tt tt tt tt Going (λ v. refl) (programFrom w t) x (ap isStopped s))
+
+    stop-effect : 0 < causeIn (programFrom w t) (e ∷ es) x → stepOf (programFrom w t) x ≡ stoppedBy x (causeIn (programFrom w t) (e ∷ es) x)
+    unfolding effectStop effected stoppedBy
     stop-effect z = go (effectOf (programFrom w t) x) refl
       where
-        go : (f : Effect) → effectOf (programFrom w t) x ≡ f → stepOf (programFrom w t) x ≡ effected x (stops (causeIn (programFrom w t) (e ∷ es) x))
+        go : (f : Effect) → effectOf (programFrom w t) x ≡ f → stepOf (programFrom w t) x ≡ stoppedBy x (causeIn (programFrom w t) (e ∷ es) x)
         go (stops k) q = runs-as w t bytes p e es x s i ∙ ap (effected x) (q ∙ ap stops (sym (ap effectStop q) ∙ p .cause e es x i))
         go (leaves y) q = absurd (let a : 0 ≡ causeIn (programFrom w t) (e ∷ es) x = sym (ap effectStop q) ∙ p .cause e es x i in omega (arith, a, z))
 
@@ -102,10 +124,8 @@ module _ (w : Width) (t : Tables) (bytes : List ℕ) (p : Parts w t bytes) where
         record {
           whole = step-whole w t bytes p (length (x .memory)) (e ∷ es) x (runs e es x refl s i);
           counts = counts-one;
-          stops = λ z. ap (λ (y : After). y .world .machine) (stop-effect z) ∙ effected-machine x (causeIn (programFrom w t) (e ∷ es) x);
-          still = λ z. ap (λ (y : After). y .world .stack) (stop-effect z) ∙ effected-stack x (causeIn (programFrom w t) (e ∷ es) x);
-          kept = λ z. ap (λ (y : After). y .world .memory) (stop-effect z) ∙ effected-memory x (causeIn (programFrom w t) (e ∷ es) x);
-          uncounted = λ z. ap (λ (y : After). y .count) (stop-effect z) ∙ effected-stop x (causeIn (programFrom w t) (e ∷ es) x);
+          goes = no-stop;
+          stops = stop-effect;
           listed = p .listed (e ∷ es) x;
           full = p .full e es x i;
           fullOnly = p .fullOnly e es x i;

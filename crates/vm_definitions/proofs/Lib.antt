@@ -16,6 +16,7 @@ pub mod Operators
 pub mod Causes
 pub mod Listed
 pub mod Effects
+pub mod Outcomes
 pub mod Lists
 pub mod Stepped
 pub mod Claimed

@@ -10,7 +10,7 @@ use Rattle.base_limits.specs.declared.State.the-variants.{Running, Finished, St
 use Rattle.base_limits.specs.Record.{stopped, withState}
 use Rattle.prog_tables.specs.Tests.{both}
 use Rattle.prog_tables.specs.Program.{Program}
-use Rattle.vm_definitions.specs.Step.{World, stepOf}
+use Rattle.vm_definitions.specs.Step.{World, After, stepOf}
 use Rattle.vm_definitions.specs.Start.{startOf}
 use Rattle.vm_definitions.specs.Causes.{firstCause, argumentsRead, passesStack}
 use Rattle.vm_definitions.specs.Ledger.{Ledger, ledgerOf, sumOf, lastOf}
@@ -36,6 +36,16 @@ pub record Listed (k : ℕ) : Type 0 where
 unfoldable pub stackFull : Program → Ledger → World → Bool
 stackFull p es x = both (argumentsRead p x) (passesStack p (sumOf (p .rows) es) (lastOf (p .rows) es) x)
 
+unfoldable pub isStopped : State → Bool
+isStopped Running = false
+isStopped (Finished v) = false
+isStopped (Stopped k i) = true
+
+-- "a stopped statement changes only the record's state and is not counted"
+unfoldable pub stoppedBy : World → ℕ → After
+stoppedBy x k =
+    record { world = record { machine = stopped (x .machine) k; stack = x .stack; memory = x .memory }; count = 0; broken = No }
+
 -- a step from a running world
 pub record StepSound (p : Program) (es : Ledger) (x : World) : Type 0 where
   -- "It never meets a jump, name, call or frame it cannot make sense of"
@@ -43,10 +53,8 @@ pub record StepSound (p : Program) (es : Ledger) (x : World) : Type 0 where
   -- "its next step counts one or stops so. A statement stops exactly when such a cause is there, with the number of the first it
   -- meets."
   pub counts : causeIn p es x ≡ 0 → stepOf p x .count ≡ 1
-  pub stops : 0 < causeIn p es x → stepOf p x .world .machine ≡ stopped (x .machine) (causeIn p es x)
-  pub still : 0 < causeIn p es x → stepOf p x .world .stack ≡ x .stack
-  pub kept : 0 < causeIn p es x → stepOf p x .world .memory ≡ x .memory
-  pub uncounted : 0 < causeIn p es x → stepOf p x .count ≡ 0
+  pub goes : causeIn p es x ≡ 0 → isStopped (stepOf p x .world .machine .state) ≡ false
+  pub stops : 0 < causeIn p es x → stepOf p x ≡ stoppedBy x (causeIn p es x)
   pub listed : 0 < causeIn p es x → Listed (causeIn p es x)
   -- "The stack stop comes exactly when a call's or tail call's arguments are read and that sum with the new frame, for a tail call less
   -- the old one, passes the words lent."
