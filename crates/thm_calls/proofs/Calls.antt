@@ -73,7 +73,7 @@ refused k e h = absurd (true-false (sym (eq-eqb k 35 h) ∙ e))
 
 module _ (t : Tables) (bytes : List ℕ) where
   module _ (name args : List ℕ) where
-    answer-not : (x : World) → Not35 (startNumber (startAnswer Bits32 t bytes name args x))
+    answer-not : (x : World) → Not35 (startNumber (startAnswer (programFrom Bits32 t) bytes name args x))
     unfolding startAnswer
     answer-not x =
         either P _ _ _ _
@@ -82,7 +82,7 @@ module _ (t : Tables) (bytes : List ℕ) where
         (λ _. refused 21 refl))
         (λ _. refused 20 refl)
 
-    start-not : (x : World) (b : Broken) → startBroke (startBy Bits32 t bytes name args x b) ≡ No → Not35 (startNumber (startBy Bits32 t bytes name args x b))
+    start-not : (x : World) (b : Broken) → startBroke (startBy (programFrom Bits32 t) bytes name args x b) ≡ No → Not35 (startNumber (startBy (programFrom Bits32 t) bytes name args x b))
     unfolding startBy startBroke
     start-not x No e = answer-not x
     start-not x (At i) e = absurd (true-false (sym (ap isNo e)))
@@ -90,7 +90,7 @@ module _ (t : Tables) (bytes : List ℕ) where
 
     -- a start reads no record
     start-same : (r q : Machine) (st m : List ℕ) (b : Broken)
-        → startBy Bits32 t bytes name args (world r st m) b ≡ startBy Bits32 t bytes name args (world q st m) b
+        → startBy (programFrom Bits32 t) bytes name args (world r st m) b ≡ startBy (programFrom Bits32 t) bytes name args (world q st m) b
     unfolding startBy startAnswer
     start-same r q st m No = refl
     start-same r q st m (At i) = refl
@@ -103,55 +103,55 @@ module _ (t : Tables) (bytes : List ℕ) where
     abbrev heldBy : List ℕ → List ℕ → List ℕ → Started → Held
     heldBy ws st m a =
         record {
-          words = recordBegun a (recordWords (begunBy Bits32 t bytes name args (X st m) a .machine)) ws;
-          stack = begunBy Bits32 t bytes name args (X st m) a .stack;
-          memory = begunBy Bits32 t bytes name args (X st m) a .memory;
+          words = recordBegun a (recordWords (begunBy (programFrom Bits32 t) bytes name args (X st m) a .machine)) ws;
+          stack = begunBy (programFrom Bits32 t) bytes name args (X st m) a .stack;
+          memory = begunBy (programFrom Bits32 t) bytes name args (X st m) a .memory;
         }
 
-    begun-holds : (ws st m : List ℕ) (r : Machine) → recordSize ≤ length ws → Holds (heldBy ws st m Begun) (begunBy Bits32 t bytes name args (world r st m) Begun)
+    begun-holds : (ws st m : List ℕ) (r : Machine) → recordSize ≤ length ws → Holds (heldBy ws st m Begun) (begunBy (programFrom Bits32 t) bytes name args (world r st m) Begun)
     unfolding begunBy startWorld recordBegun freshOf Listed
     begun-holds ws st m r h = record { record-words = record-back _ ws tt h; stack-words = refl; memory-bytes = refl }
 
-    by-holds : (ws st m : List ℕ) (r : Machine) → recordOf ws ≡ Fit r → (a : Started) → Holds (heldBy ws st m a) (begunBy Bits32 t bytes name args (world r st m) a)
+    by-holds : (ws st m : List ℕ) (r : Machine) → recordOf ws ≡ Fit r → (a : Started) → Holds (heldBy ws st m a) (begunBy (programFrom Bits32 t) bytes name args (world r st m) a)
     unfolding begunBy recordBegun
     by-holds ws st m r e Begun = begun-holds ws st m r (record-long ws r e)
     by-holds ws st m r e (Refused k) = record { record-words = e; stack-words = refl; memory-bytes = refl }
     by-holds ws st m r e (Unsound b) = record { record-words = e; stack-words = refl; memory-bytes = refl }
 
     held-start : (ws st m out : List ℕ) → recordSize ≤ length ws
-        → heldIn (startCall ws st m out t bytes name args) ≡ heldBy ws st m (startOf Bits32 t bytes name args (X st m))
+        → heldIn (startCall ws st m out t bytes name args) ≡ heldBy ws st m (startOf (programFrom Bits32 t) bytes name args (X st m))
     unfolding startCall openingAnswer openingReply startLeaves
     held-start ws st m out h = ap heldIn (ifLt-no (unfit ws st m out 35) _ h)
 
     number-start : (ws st m out : List ℕ) → recordSize ≤ length ws
-        → startCall ws st m out t bytes name args .number ≡ startNumber (startOf Bits32 t bytes name args (X st m))
+        → startCall ws st m out t bytes name args .number ≡ startNumber (startOf (programFrom Bits32 t) bytes name args (X st m))
     unfolding startCall openingAnswer openingReply
     number-start ws st m out h = ap (λ (a : Answered). a .number) (ifLt-no (unfit ws st m out 35) _ h)
 
-    same : (r : Machine) (st m : List ℕ) → startOf Bits32 t bytes name args (X st m) ≡ startOf Bits32 t bytes name args (world r st m)
+    same : (r : Machine) (st m : List ℕ) → startOf (programFrom Bits32 t) bytes name args (X st m) ≡ startOf (programFrom Bits32 t) bytes name args (world r st m)
     unfolding startOf
-    same r st m = start-same (freshOf 0 0 0) r st m (startBroken t (length bytes))
+    same r st m = start-same (freshOf 0 0 0) r st m (startBroken (programFrom Bits32 t) (length bytes))
 
     start-holds : (ws st m out : List ℕ) (r : Machine) → recordOf ws ≡ Fit r
-        → Holds (heldIn (startCall ws st m out t bytes name args)) (startLeaves Bits32 t bytes name args (world r st m))
+        → Holds (heldIn (startCall ws st m out t bytes name args)) (startLeaves (programFrom Bits32 t) bytes name args (world r st m))
     unfolding startLeaves
     start-holds ws st m out r e =
-        subst (λ (h : Held). Holds h (begunBy Bits32 t bytes name args (world r st m) (startOf Bits32 t bytes name args (world r st m))))
+        subst (λ (h : Held). Holds h (begunBy (programFrom Bits32 t) bytes name args (world r st m) (startOf (programFrom Bits32 t) bytes name args (world r st m))))
         (sym (held-start ws st m out (record-long ws r e)))
-        (subst (λ (a : Started). Holds (heldBy ws st m (startOf Bits32 t bytes name args (X st m))) (begunBy Bits32 t bytes name args (world r st m) a)) (same r st m)
-        (by-holds ws st m r e (startOf Bits32 t bytes name args (X st m))))
+        (subst (λ (a : Started). Holds (heldBy ws st m (startOf (programFrom Bits32 t) bytes name args (X st m))) (begunBy (programFrom Bits32 t) bytes name args (world r st m) a)) (same r st m)
+        (by-holds ws st m r e (startOf (programFrom Bits32 t) bytes name args (X st m))))
 
-    start-number : (ws st m out : List ℕ) (r : Machine) → recordOf ws ≡ Fit r → startBroke (startOf Bits32 t bytes name args (world r st m)) ≡ No
+    start-number : (ws st m out : List ℕ) (r : Machine) → recordOf ws ≡ Fit r → startBroke (startOf (programFrom Bits32 t) bytes name args (world r st m)) ≡ No
         → Not35 (startCall ws st m out t bytes name args .number)
     unfolding startOf
     start-number ws st m out r e h =
         subst Not35 (sym (number-start ws st m out (record-long ws r e)))
-        (start-not (X st m) (startBroken t (length bytes)) (ap startBroke (same r st m) ∙ h))
+        (start-not (X st m) (startBroken (programFrom Bits32 t) (length bytes)) (ap startBroke (same r st m) ∙ h))
 
   -- ---- a step and a run
 
   module _ (ws st m out : List ℕ) (r : Machine) (e : recordOf ws ≡ Fit r) where
-    step-holds : Holds (heldIn (stepCall ws st m out t)) (stepOf Bits32 t (world r st m) .world)
+    step-holds : Holds (heldIn (stepCall ws st m out t)) (stepOf (programFrom Bits32 t) (world r st m) .world)
     unfolding stepCall stepBy outcomeAnswer
     step-holds =
         record {
@@ -160,13 +160,13 @@ module _ (t : Tables) (bytes : List ℕ) where
           memory-bytes = ap (λ (x : Loaded). stepBy ws st m out t x .memory) e;
         }
 
-    step-number : stepOf Bits32 t (world r st m) .broken ≡ No → Not35 (stepCall ws st m out t .number)
+    step-number : stepOf (programFrom Bits32 t) (world r st m) .broken ≡ No → Not35 (stepCall ws st m out t .number)
     unfolding stepCall stepBy outcomeAnswer outcomeReply outcomeNumber
     step-number h =
         subst (λ (x : Loaded). Not35 (stepBy ws st m out t x .number)) (sym e)
         (broken-not _ _ (step-listed t (world r st m) (record-listed ws r e)) h)
 
-    run-holds : (budget : ℕ) → Holds (heldIn (runCall ws st m out t budget)) (runOf Bits32 t budget (world r st m) .world)
+    run-holds : (budget : ℕ) → Holds (heldIn (runCall ws st m out t budget)) (runOf (programFrom Bits32 t) budget (world r st m) .world)
     unfolding runCall runBy outcomeAnswer
     run-holds budget =
         record {
@@ -175,7 +175,7 @@ module _ (t : Tables) (bytes : List ℕ) where
           memory-bytes = ap (λ (x : Loaded). runBy ws st m out t budget x .memory) e;
         }
 
-    run-number : (budget : ℕ) → runOf Bits32 t budget (world r st m) .broken ≡ No → Not35 (runCall ws st m out t budget .number)
+    run-number : (budget : ℕ) → runOf (programFrom Bits32 t) budget (world r st m) .broken ≡ No → Not35 (runCall ws st m out t budget .number)
     unfolding runCall runBy outcomeAnswer outcomeReply outcomeNumber
     run-number budget h =
         subst (λ (x : Loaded). Not35 (runBy ws st m out t budget x .number)) (sym e)
@@ -183,13 +183,13 @@ module _ (t : Tables) (bytes : List ℕ) where
 
     -- ---- any call
 
-    call-holds : (k : Call) → Holds (heldIn (answerTo t bytes k ws st m out)) (calledOn Bits32 t bytes k (world r st m) .world)
+    call-holds : (k : Call) → Holds (heldIn (answerTo t bytes k ws st m out)) (calledOn (programFrom Bits32 t) bytes k (world r st m) .world)
     unfolding answerTo calledOn
     call-holds (start name args) = start-holds name args ws st m out r e
     call-holds step = step-holds
     call-holds (run budget) = run-holds budget
 
-    call-number : (k : Call) → calledOn Bits32 t bytes k (world r st m) .broken ≡ No → Not35 (answerTo t bytes k ws st m out .number)
+    call-number : (k : Call) → calledOn (programFrom Bits32 t) bytes k (world r st m) .broken ≡ No → Not35 (answerTo t bytes k ws st m out .number)
     unfolding answerTo calledOn
     call-number (start name args) h = start-number name args ws st m out r e h
     call-number step h = step-number h
@@ -199,44 +199,44 @@ module _ (t : Tables) (bytes : List ℕ) where
     abbrev found : List ℕ → World
     found st = world (x .machine) st (c .invocation .memory)
 
-    one-holds : Holds (heldIn (answerOf t bytes c h)) (invokedOn Bits32 t bytes (c .invocation) x .world)
+    one-holds : Holds (heldIn (answerOf t bytes c h)) (invokedOn (programFrom Bits32 t) bytes (c .invocation) x .world)
     unfolding answerOf invokedOn
     one-holds =
-        subst (λ (st : List ℕ). Holds (heldIn (answerTo t bytes (c .invocation .call) (h .words) (h .stack) (c .invocation .memory) (c .result))) (calledOn Bits32 t bytes (c .invocation .call) (found st) .world))
+        subst (λ (st : List ℕ). Holds (heldIn (answerTo t bytes (c .invocation .call) (h .words) (h .stack) (c .invocation .memory) (c .result))) (calledOn (programFrom Bits32 t) bytes (c .invocation .call) (found st) .world))
         (q .stack-words)
         (call-holds (h .words) (h .stack) (c .invocation .memory) (c .result) (x .machine) (q .record-words) (c .invocation .call))
 
-    one-number : invokedOn Bits32 t bytes (c .invocation) x .broken ≡ No → Not35 (answerOf t bytes c h .number)
+    one-number : invokedOn (programFrom Bits32 t) bytes (c .invocation) x .broken ≡ No → Not35 (answerOf t bytes c h .number)
     unfolding answerOf invokedOn
     one-number =
-        subst (λ (st : List ℕ). calledOn Bits32 t bytes (c .invocation .call) (found st) .broken ≡ No → Not35 (answerTo t bytes (c .invocation .call) (h .words) (h .stack) (c .invocation .memory) (c .result) .number))
+        subst (λ (st : List ℕ). calledOn (programFrom Bits32 t) bytes (c .invocation .call) (found st) .broken ≡ No → Not35 (answerTo t bytes (c .invocation .call) (h .words) (h .stack) (c .invocation .memory) (c .result) .number))
         (q .stack-words)
         (call-number (h .words) (h .stack) (c .invocation .memory) (c .result) (x .machine) (q .record-words) (c .invocation .call))
 
   -- ---- lists
 
   after : (h : Held) (x : World) (cs : List HostCall) → Holds h x
-      → Holds (heldAfter t bytes h cs) (worldAfter Bits32 t bytes x (invocations cs))
+      → Holds (heldAfter t bytes h cs) (worldAfter (programFrom Bits32 t) bytes x (invocations cs))
   unfolding heldAfter worldAfter invocations
   after h x [] q = q
-  after h x (c ∷ cs) q = after (heldIn (answerOf t bytes c h)) (invokedOn Bits32 t bytes (c .invocation) x .world) cs (one-holds c h x q)
+  after h x (c ∷ cs) q = after (heldIn (answerOf t bytes c h)) (invokedOn (programFrom Bits32 t) bytes (c .invocation) x .world) cs (one-holds c h x q)
 
-  numbers : (h : Held) (x : World) (cs : List HostCall) → Holds h x → NoneBroken (refusalsAfter Bits32 t bytes x (invocations cs))
+  numbers : (h : Held) (x : World) (cs : List HostCall) → Holds h x → NoneBroken (refusalsAfter (programFrom Bits32 t) bytes x (invocations cs))
       → Without35 (numbersAfter t bytes h cs)
   unfolding numbersAfter refusalsAfter invocations NoneBroken Without35
   numbers h x [] q n = tt
   numbers h x (c ∷ cs) q n =
-      (one-number c h x q (n .0), numbers (heldIn (answerOf t bytes c h)) (invokedOn Bits32 t bytes (c .invocation) x .world) cs (one-holds c h x q) (n .1))
+      (one-number c h x q (n .0), numbers (heldIn (answerOf t bytes c h)) (invokedOn (programFrom Bits32 t) bytes (c .invocation) x .world) cs (one-holds c h x q) (n .1))
 
   -- ---- a list that begins with an accepted start
 
-  module _ (h : Held) (name args out : List ℕ) (long : recordSize ≤ length (h .words)) (e : startOf Bits32 t bytes name args (worldOf h) ≡ Begun) where
-    first-holds : Holds (heldIn (startCall (h .words) (h .stack) (h .memory) out t bytes name args)) (startLeaves Bits32 t bytes name args (worldOf h))
+  module _ (h : Held) (name args out : List ℕ) (long : recordSize ≤ length (h .words)) (e : startOf (programFrom Bits32 t) bytes name args (worldOf h) ≡ Begun) where
+    first-holds : Holds (heldIn (startCall (h .words) (h .stack) (h .memory) out t bytes name args)) (startLeaves (programFrom Bits32 t) bytes name args (worldOf h))
     unfolding startLeaves
     first-holds =
-        subst (λ (g : Held). Holds g (begunBy Bits32 t bytes name args (worldOf h) (startOf Bits32 t bytes name args (worldOf h))))
+        subst (λ (g : Held). Holds g (begunBy (programFrom Bits32 t) bytes name args (worldOf h) (startOf (programFrom Bits32 t) bytes name args (worldOf h))))
         (sym (held-start name args (h .words) (h .stack) (h .memory) out long))
-        (subst (λ (a : Started). Holds (heldBy name args (h .words) (h .stack) (h .memory) a) (begunBy Bits32 t bytes name args (worldOf h) a)) (sym e)
+        (subst (λ (a : Started). Holds (heldBy name args (h .words) (h .stack) (h .memory) a) (begunBy (programFrom Bits32 t) bytes name args (worldOf h) a)) (sym e)
         (begun-holds name args (h .words) (h .stack) (h .memory) (freshOf 0 0 0) long))
 
     first-number : Not35 (startCall (h .words) (h .stack) (h .memory) out t bytes name args .number)
@@ -244,7 +244,7 @@ module _ (t : Tables) (bytes : List ℕ) where
     first-number q =
         absurd (omega (arith, sym (ap startNumber e) ∙ sym (number-start name args (h .words) (h .stack) (h .memory) out long) ∙ q))
 
-  pub host-demand : Demand Bits32 t bytes → HostDemand t bytes
+  pub host-demand : Demand (programFrom Bits32 t) bytes → HostDemand t bytes
   unfolding Demand HostDemand heldAfter numbersAfter answerOf answerTo worldAfter invokedOn calledOn startedBy refusalsAfter NoneBroken Without35
   host-demand d h name args out cs long e all =
       let s = d (worldOf h) name args (invocations cs) e all in (

@@ -28,14 +28,14 @@ use Rattle.vm_definitions.specs.declared.Broken.the-variants.{No, At, Somewhere
 use Rattle.vm_definitions.specs.declared.Started.{Started}
 use Rattle.vm_definitions.specs.declared.Started.the-variants.{Begun}
 use Rattle.vm_definitions.specs.declared.Outcome.{Outcome}
-use Rattle.c_words.specs.Record.{isListed, stateOf, machineOf, recordOf, stateNumber, recordWords}
+use Rattle.c_words.specs.Record.{isStop, isListed, stateOf, machineOf, recordOf, stateNumber, recordWords}
 use Rattle.c_words.specs.Reply.{changes, recordAfter, outcomeReply, recordBegun, openingReply}
 use Rattle.c_words.specs.declared.Loaded.{Loaded}
 use Rattle.c_words.specs.declared.Loaded.the-variants.{Fit, Unfit}
 use Rattle.c_words.specs.Words as word
 use Rattle.c_words.specs.Words.{recordSize}
 use Rattle.c_words.proofs.Laws.{Listed, record-back, record-long, record-state, record-listed}
-use Rattle.thm_calls.proofs.Effects.{Fine, effect-fine}
+use Rattle.vm_definitions.proofs.Outcomes.{Fine, effect-fine}
 use Rattle.c_voodoo.specs.Calls.{Answered, outcomeOf, unfit, outcomeAnswer, openingAnswer, stepBy, stepCall, runBy, runCall, startCall}
 
 -- where nothing is written, the record is as it was
@@ -93,37 +93,67 @@ quiet-run t (suc b) x = by (eqb (stepOf (programFrom Bits32 t) x .count) 0)
 
 -- ---- the state that a step or a run leaves is one that words can hold
 
+abbrev Stop : ℕ → Type 0
+Stop k = isStop k ≡ true
+
+s30 : Stop 30
+unfolding isStop ifLt
+s30 = refl
+
+s31 : Stop 31
+unfolding isStop ifLt
+s31 = refl
+
+s32 : Stop 32
+unfolding isStop ifLt
+s32 = refl
+
+s33 : Stop 33
+unfolding isStop ifLt
+s33 = refl
+
+s34 : Stop 34
+unfolding isStop ifLt
+s34 = refl
+
+finished-listed : (v : ℕ) → Listed (Finished v)
+unfolding Listed
+finished-listed v = tt
+
+abbrev FineEffect : Effect → Type 0
+FineEffect = Fine Stop s30 s31 s32 s33 s34 Listed finished-listed
+
 abbrev LeavesListed : After → Type 0
 LeavesListed y = Listed (y .world .machine .state)
 
-effected-listed : (x : World) (e : Effect) → Fine e → LeavesListed (effected x e)
+effected-listed : (x : World) (e : Effect) → FineEffect e → LeavesListed (effected x e)
 unfolding effected Fine stopped Listed
 effected-listed x (stops k) h = h
 effected-listed x (leaves y) h = h
 
-guarded-listed : (x : World) (e : Effect) (b : Broken) → Listed (x .machine .state) → Fine e → LeavesListed (guarded x e b)
+guarded-listed : (x : World) (e : Effect) (b : Broken) → Listed (x .machine .state) → FineEffect e → LeavesListed (guarded x e b)
 unfolding guarded idle
 guarded-listed x e No l h = effected-listed x e h
 guarded-listed x e (At i) l h = l
 guarded-listed x e Somewhere l h = l
 
-in-listed : (x : World) (s : State) (e : Effect) (b : Broken) → Listed (x .machine .state) → Fine e
+in-listed : (x : World) (s : State) (e : Effect) (b : Broken) → Listed (x .machine .state) → FineEffect e
     → LeavesListed (inState s (guarded x e b) (idle x No))
 unfolding inState idle
 in-listed x Running e b l h = guarded-listed x e b l h
 in-listed x (Finished v) e b l h = l
 in-listed x (Stopped k i) e b l h = l
 
-pub step-listed : (t : Tables) (x : World) → Listed (x .machine .state) → LeavesListed (stepOf Bits32 t x)
+pub step-listed : (t : Tables) (x : World) → Listed (x .machine .state) → LeavesListed (stepOf (programFrom Bits32 t) x)
 unfolding stepOf
-step-listed t x l = in-listed x (x .machine .state) _ _ l (effect-fine Bits32 (rows t) (t .count) x l)
+step-listed t x l = in-listed x (x .machine .state) _ _ l (effect-fine Stop s30 s31 s32 s33 s34 Listed finished-listed (programFrom Bits32 t) x l)
 
-pub run-listed : (t : Tables) (budget : ℕ) (x : World) → Listed (x .machine .state) → LeavesListed (runOf Bits32 t budget x)
+pub run-listed : (t : Tables) (budget : ℕ) (x : World) → Listed (x .machine .state) → LeavesListed (runOf (programFrom Bits32 t) budget x)
 unfolding runOf counting idle
 run-listed t zero x l = l
 run-listed t (suc b) x l =
-    either-eq LeavesListed (stepOf Bits32 t x .count) 0 (stepOf Bits32 t x) (counting 1 (runOf Bits32 t b (stepOf Bits32 t x .world)))
-    (λ _. step-listed t x l) (λ _. run-listed t b (stepOf Bits32 t x .world) (step-listed t x l))
+    either-eq LeavesListed (stepOf (programFrom Bits32 t) x .count) 0 (stepOf (programFrom Bits32 t) x) (counting 1 (runOf (programFrom Bits32 t) b (stepOf (programFrom Bits32 t) x .world)))
+    (λ _. step-listed t x l) (λ _. run-listed t b (stepOf (programFrom Bits32 t) x .world) (step-listed t x l))
 
 -- the record's words behind a step or a run that leaves y
 words-after : (ws : List ℕ) (x : World) (y : After) → recordOf ws ≡ Fit (x .machine) → LeavesListed y → Quiet x y

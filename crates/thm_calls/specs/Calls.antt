@@ -6,6 +6,7 @@ use Prim.Native.Nat.{ℕ, _≤_}
 use lib.ListN.{length}
 use Rattle.base_limits.specs.Record.{freshOf}
 use Rattle.base_limits.specs.declared.Width.the-variants.{Bits32}
+use Rattle.prog_tables.specs.Program.{programFrom}
 use Rattle.prog_tables.specs.Label.{Tables, rows}
 use Rattle.vm_definitions.specs.Step.{World}
 use Rattle.vm_definitions.specs.Start.{startOf}
@@ -80,9 +81,9 @@ pub record Holds (h : Held) (x : World) : Type 0 where
 unfoldable pub HostDemand : Tables → List ℕ → Type 0
 HostDemand t bytes =
     (h : Held) (name args out : List ℕ) (cs : List HostCall) → recordSize ≤ length (h .words)
-    → startOf Bits32 t bytes name args (worldOf h) ≡ Begun → AllLong (length (h .memory)) (invocations cs)
+    → startOf (programFrom Bits32 t) bytes name args (worldOf h) ≡ Begun → AllLong (length (h .memory)) (invocations cs)
     → Holds (heldAfter t bytes h (startedFrom name args out h cs))
-    (worldAfter Bits32 t bytes (worldOf h) (startedBy name args (worldOf h) (invocations cs)))
-    × Sound Bits32 t (ledgerOf (rows t) [] (eventsAfter Bits32 t bytes (worldOf h) (startedBy name args (worldOf h) (invocations cs))))
-    (worldAfter Bits32 t bytes (worldOf h) (startedBy name args (worldOf h) (invocations cs)))
+    (worldAfter (programFrom Bits32 t) bytes (worldOf h) (startedBy name args (worldOf h) (invocations cs)))
+    × Sound (programFrom Bits32 t) (ledgerOf (rows t) [] (eventsAfter (programFrom Bits32 t) bytes (worldOf h) (startedBy name args (worldOf h) (invocations cs))))
+    (worldAfter (programFrom Bits32 t) bytes (worldOf h) (startedBy name args (worldOf h) (invocations cs)))
     × Without35 (numbersAfter t bytes h (startedFrom name args out h cs))
