@@ -54,7 +54,7 @@ next-statement = refl
 
 -- "a frame that doesn't end at the stack in use or lies past the lent stack"
 frame-in-use :
-    (judged 3 0 6 0 (first 0 0) 8 ∷ judged 3 0 5 0 (4294967295 ∷ 4294967295 ∷ 0 ∷ 0 ∷ []) 8 ∷ judged 3 0 5 0 (first 0 0) 8 ∷ [])
+    (judged 3 0 4 0 (first 0 0) 8 ∷ judged 3 0 5 0 (4294967295 ∷ 4294967295 ∷ 0 ∷ 0 ∷ []) 8 ∷ judged 3 0 5 0 (first 0 0) 8 ∷ [])
     ≡ (Somewhere ∷ Somewhere ∷ No ∷ [])
 unfolding opened
 frame-in-use = refl
