@@ -30,5 +30,6 @@ ran t d = runOf (programFrom Bits32 t) 3 (startLeaves (programFrom Bits32 t) d (
 -- "`top` with 30 gives 42 in 3 steps; 6 stack words suffice, 5 give 23"
 abbrev pub CaseTwo : Tables → List ℕ → Type 0
 CaseTwo t d =
-    (startOf (programFrom Bits32 t) d (116 ∷ 111 ∷ 112 ∷ []) (30 ∷ []) (lentStack 6) ≡ Begun) × (ran t d .world .machine .state ≡ Finished 42) × (ran t d .count ≡ 3)
+    (startOf (programFrom Bits32 t) d (116 ∷ 111 ∷ 112 ∷ []) (30 ∷ []) (lentStack 6) ≡ Begun)
+    × (ran t d .world .machine .state ≡ Finished 42) × (ran t d .count ≡ 3)
     × (startOf (programFrom Bits32 t) d (116 ∷ 111 ∷ 112 ∷ []) (30 ∷ []) (lentStack 5) ≡ Refused 23)

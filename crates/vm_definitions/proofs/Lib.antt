@@ -1,6 +1,7 @@
 pub mod Opened
 pub mod Seen
 pub mod Answers
+pub mod Refused
 pub mod Invariant
 pub mod Chain
 pub mod Guard

@@ -97,7 +97,7 @@ module _ (p : Program) (m : ℕ) (r : Machine) (st : List ℕ) where
   unfoldable pub recordFault : Bool
   recordFault = some (nextPast ∷ frameFault ∷ topFault ∷ limitFault ∷ headFault ∷ [])
 
--- 35 of a step. "a label row or count past its table": without statements no row can be judged
+-- 35 of a step: "a label row or count past its table" too, and where that is the count of statements no row can be judged
 unfoldable pub stepBroken : Program → Machine → List ℕ → ℕ → Broken
 stepBroken p r st m =
     ifTrue (p .statementsPast) Somewhere
@@ -111,7 +111,7 @@ unfoldable pub numbersBelow : ℕ → List ℕ
 numbersBelow zero = []
 numbersBelow (suc n) = n ∷ numbersBelow n
 
--- 35 of a start, d bytes of data being lent
+-- 35 of a start, d bytes of data being lent; the counts as in a step
 unfoldable pub startBroken : Program → ℕ → Broken
 startBroken p d =
     ifTrue (p .statementsPast) Somewhere

@@ -87,7 +87,8 @@ callTransfer t c lw lc d size st s m n at call below top =
     ifLt operandSlots (rowAt t n .count) (transferred Stays st)
     (ifLt (rowAt t n .callee) c
     (ifEq (calleeSize (lentProgram t c lw lc d) (rowAt t n .callee) (rowAt t n .count)) 0 (transferred Stays st)
-    (entered t d size st s m n at call below top (rowAt t n .callee) (rowAt t n .count) (calleeSize (lentProgram t c lw lc d) (rowAt t n .callee) (rowAt t n .count))))
+    (entered t d size st s m n at call below top (rowAt t n .callee) (rowAt t n .count)
+    (calleeSize (lentProgram t c lw lc d) (rowAt t n .callee) (rowAt t n .count))))
     (transferred Stays st))
 
 -- `tail-call` at row n: the new frame has the head of the frame in use, and its auto top of entry is restored

@@ -36,8 +36,11 @@ module _ (t : List ℕ) (c : ℕ) (lw : List ℕ) (lc d : ℕ) where
   -- a call or a return of function g, whose frame has this size; else nothing, or the exact step where k is 0
   unfoldable pub plainRunEnd : ℕ → ℕ → ℕ → World → After
   plainRunEnd g size k x =
-      endBy k x (transferOf t c lw lc g d size (x .stack) (x .machine .frame) (x .machine .used) (x .memory) (x .machine .next) (x .machine .top) .move)
-      (transferOf t c lw lc g d size (x .stack) (x .machine .frame) (x .machine .used) (x .memory) (x .machine .next) (x .machine .top) .stack)
+      endBy k x
+      (transferOf t c lw lc g d size (x .stack) (x .machine .frame) (x .machine .used) (x .memory) (x .machine .next)
+      (x .machine .top) .move)
+      (transferOf t c lw lc g d size (x .stack) (x .machine .frame) (x .machine .used) (x .memory) (x .machine .next)
+      (x .machine .top) .stack)
 
   -- the world that a plain run ends in
   abbrev pub ends : Machine → Ended → World

@@ -31,11 +31,14 @@ isRunning (Stopped k i) = false
 module _ (t : List ℕ) (c : ℕ) (lw : List ℕ) (lc d : ℕ) where
   -- 35 of a step where a count is past its table: "lowest such statement, else none"; with the count of statements no row is judged
   unfoldable pub countsBroken : Machine → List ℕ → ℕ → Broken
-  countsBroken r st m = ifTrue (ltb (length t) (c * statementRow)) Somewhere (orElse (withinBroken (lentProgram t c lw lc d) r st m) Somewhere)
+  countsBroken r st m =
+      ifTrue (ltb (length t) (c * statementRow)) Somewhere (orElse (withinBroken (lentProgram t c lw lc d) r st m) Somewhere)
 
   -- a running record's step
   unfoldable pub takenStep : World → After
-  takenStep x = guarded x (effectOf (lentProgram t c lw lc d) x) (withinBroken (lentProgram t c lw lc d) (x .machine) (x .stack) (length (x .memory)))
+  takenStep x =
+      guarded x (effectOf (lentProgram t c lw lc d) x)
+      (withinBroken (lentProgram t c lw lc d) (x .machine) (x .stack) (length (x .memory)))
 
   unfoldable pub withinStep : World → After
   withinStep x = ifTrue (isRunning (x .machine .state)) (takenStep x) (idle x No)
