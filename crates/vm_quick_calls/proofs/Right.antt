@@ -38,6 +38,7 @@ use Rattle.vm_quick_operands.specs.Fast.{goodRead, readEach, goodWork, sizeOf}
 use Rattle.vm_quick_operands.proofs.Good.{good-read, Valued, good-work, stop-value, no-fault, Function, function-good, row-within, row-size, size-function}
 use Rattle.vm_quick_operands.proofs.Reading.{next-slot, no-slots}
 use Rattle.vm_quick_statements.proofs.Right.{InFrame}
+use Rattle.vm_quick_statements.proofs.Kinds.{Sets, let-sets, set-sets}
 use Rattle.vm_quick_statements.proofs.Unbroken.{frame-fine, record-fine, call-fine, return-fine}
 use Rattle.vm_quick_calls.specs.declared.Transfer.{Transfer}
 use Rattle.vm_quick_calls.specs.declared.Transfer.the-variants.{To, Stays}
@@ -137,48 +138,27 @@ module _ (t : List ℕ) (c : ℕ) (lw : List ℕ) (lc d n size : ℕ) (sized : s
         tail = rw q;
       }
 
-  row-5 : row .kind ≡ 5 → row .expr ≡ 2 → row .a < size → Calling
-  unfolding kindFault targetFault hasTarget sizeFault wordFault addressFault isListed hasExpression expressionListed expressionUses isTest isCall isReturn isCalling hasWord ownWord usedBy ifLt ifEq ifTrue
-  row-5 q e l =
+  row-set : (k : ℕ) → Sets k → row .kind ≡ k → row .expr ≡ 2 → row .a < size → Calling
+  unfolding kindFault targetFault sizeFault wordFault addressFault expressionListed expressionUses isCall isReturn isCalling ownWord usedBy ifLt ifEq ifTrue
+  row-set k y q e l =
+      let i = y .inner in
       record {
         call =
             record {
-              kinds = rw (q, e);
-              targets = rw q;
-              sizes = rw q;
-              words = rw (q, sized) (lt-leb size (row .a) l);
-              address = rw q;
-              calls = rw (q, e);
-              used = rw (q, e);
-              line = rw q;
-              block = rw q;
-              at = rw q;
-              returns = rw q;
+              kinds = rw (q, e, i .listed, i .row, i .has);
+              targets = rw (q, y .aimless);
+              sizes = rw (q, i .function);
+              words = rw (q, i .own, i .block, sized) (lt-leb size (row .a) l);
+              address = rw (q, i .at);
+              calls = rw (q, e, i .bare, i .tail, i .has);
+              used = rw (q, e, i .has);
+              line = rw (q, i .function);
+              block = rw (q, i .leaves);
+              at = rw (q, i .at);
+              returns = rw (q, i .end, i .returns);
             };
-        calling = rw (q, e);
-        tail = rw q;
-      }
-
-  row-6 : row .kind ≡ 6 → row .expr ≡ 2 → row .a < size → Calling
-  unfolding kindFault targetFault hasTarget sizeFault wordFault addressFault isListed hasExpression expressionListed expressionUses isTest isCall isReturn isCalling hasWord ownWord usedBy ifLt ifEq ifTrue
-  row-6 q e l =
-      record {
-        call =
-            record {
-              kinds = rw (q, e);
-              targets = rw q;
-              sizes = rw q;
-              words = rw (q, sized) (lt-leb size (row .a) l);
-              address = rw q;
-              calls = rw (q, e);
-              used = rw (q, e);
-              line = rw q;
-              block = rw q;
-              at = rw q;
-              returns = rw q;
-            };
-        calling = rw (q, e);
-        tail = rw q;
+        calling = rw (q, e, i .bare, i .has);
+        tail = rw (q, i .tail);
       }
 
   row-13 : row .kind ≡ 13 → row .expr ≡ 2 → Calling
@@ -231,9 +211,9 @@ module _ (t : List ℕ) (c : ℕ) (lw : List ℕ) (lc d n size : ℕ) (sized : s
       either-eq (λ (b : Bool). b ≡ true → LocalRow) (row .expr) 2 _ false
       (λ x. either-eq (λ (b : Bool). b ≡ true → LocalRow) (row .kind) 11 true _ (λ q e. record { call = row-11 q x; stays = rw q })
       (λ n11. either-eq (λ (b : Bool). b ≡ true → LocalRow) (row .kind) 5 (ltb (row .a) size) _
-      (λ q e. record { call = row-5 q x (ltb-true (row .a) size e); stays = rw q })
+      (λ q e. record { call = row-set 5 let-sets q x (ltb-true (row .a) size e); stays = rw q })
       (λ n5. either-eq (λ (b : Bool). b ≡ true → LocalRow) (row .kind) 6 (ltb (row .a) size) false
-      (λ q e. record { call = row-6 q x (ltb-true (row .a) size e); stays = rw q })
+      (λ q e. record { call = row-set 6 set-sets q x (ltb-true (row .a) size e); stays = rw q })
       (λ n6 e. true-false (sym e)))))
       (λ x e. true-false (sym e))
 

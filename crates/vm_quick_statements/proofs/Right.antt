@@ -43,6 +43,7 @@ use Rattle.vm_quick_statements.specs.declared.Move.the-variants.{To, Sta
 use Rattle.vm_quick_statements.specs.declared.Three.{Three}
 use Rattle.vm_quick_statements.specs.declared.Three.the-variants.{All, Unread}
 use Rattle.vm_quick_statements.specs.PlainRun.{Taken, taken, aimed, quickJump, quickBlock, quickEnd, threeRead, assignedBy, quickAssign, byteBy, quickByte, wordBy, quickWord, storedBy, storedAt, quickAt, quickTest, quickJumps, quickStores, quickKind, quickForm, quickStep}
+use Rattle.vm_quick_statements.proofs.Kinds.{Sets, Jumps, let-sets, set-sets, goto-jumps, else-jumps, else-if-jumps, one-of-two, all-three}
 use Rattle.prog_tables.proofs.CallRows.{quiet-row}
 use Rattle.prog_tables.proofs.Each.{both-false}
 use Rattle.prog_tables.proofs.Ranges.{test-least, test-most}
@@ -158,59 +159,24 @@ module _ (t : List ℕ) (c : ℕ) (lw : List ℕ) (lc g d size : ℕ) (r : Machi
 
     -- ---- `goto`, `else`, `end if`
 
-    went-10 : row .kind ≡ 10 → aimed t c g a ≡ true → Went a (r .top) st m
-    unfolding kindFault calleeFault sizeFault wordFault operandsFault addressFault isListed hasExpression isTest isCall isReturn isCalling hasWord usedBy ifLt ifEq ifTrue someOf effectOf goesTo
-    went-10 q e =
+    went-jump : (k : ℕ) → Jumps k → row .kind ≡ k → aimed t c g a ≡ true → Went a (r .top) st m
+    unfolding kindFault calleeFault sizeFault wordFault operandsFault addressFault isCall isReturn isCalling usedBy ifLt ifEq ifTrue someOf effectOf goesTo
+    went-jump k x q e =
+        let i = x .inner in
         record {
           below = below;
           own = own;
-          good = no-fault prog n (rw q) (aims-good e) (rw q) (rw q) (rw q) (rw (used, q)) (rw q);
-          line = rw q;
-          tail = rw q;
-          calls = rw q;
-          returns = rw q;
-          block = rw q;
-          effect = rw (q, fields-a);
-          stack = refl;
-          memory = refl;
-          first = refl;
-          second = refl;
-          top = h .top;
-        }
-
-    went-20 : row .kind ≡ 20 → aimed t c g a ≡ true → Went a (r .top) st m
-    unfolding kindFault calleeFault sizeFault wordFault operandsFault addressFault isListed hasExpression isTest isCall isReturn isCalling hasWord usedBy ifLt ifEq ifTrue someOf effectOf goesTo
-    went-20 q e =
-        record {
-          below = below;
-          own = own;
-          good = no-fault prog n (rw q) (aims-good e) (rw q) (rw q) (rw q) (rw (used, q)) (rw q);
-          line = rw q;
-          tail = rw q;
-          calls = rw q;
-          returns = rw q;
-          block = rw q;
-          effect = rw (q, fields-a);
-          stack = refl;
-          memory = refl;
-          first = refl;
-          second = refl;
-          top = h .top;
-        }
-
-    went-21 : row .kind ≡ 21 → aimed t c g a ≡ true → Went a (r .top) st m
-    unfolding kindFault calleeFault sizeFault wordFault operandsFault addressFault isListed hasExpression isTest isCall isReturn isCalling hasWord usedBy ifLt ifEq ifTrue someOf effectOf goesTo
-    went-21 q e =
-        record {
-          below = below;
-          own = own;
-          good = no-fault prog n (rw q) (aims-good e) (rw q) (rw q) (rw q) (rw (used, q)) (rw q);
-          line = rw q;
-          tail = rw q;
-          calls = rw q;
-          returns = rw q;
-          block = rw q;
-          effect = rw (q, fields-a);
+          good =
+              no-fault prog n (rw (q, i .listed, i .row, i .has)) (aims-good e) (rw (q, i .bare, i .tail, i .has)) (rw (q, i .function)) (rw (q, i .own))
+              (rw (used, q, i .has, i .bare, i .tail, i .test, i .byte, i .word)) (rw (q, i .at));
+          line = rw (q, i .function);
+          tail = rw (q, i .tail);
+          calls = rw (q, i .bare, i .tail, i .has);
+          returns = rw (q, i .end, i .returns);
+          block = rw (q, i .leaves);
+          effect =
+              rw (q, i .bare, i .has, i .end, i .returns, i .test, i .block, i .leaves, x .no-let, x .no-set, i .at, i .byte, i .word, i .tail, i .close, fields-a)
+              (all-three (eqb k 10) (eqb k 20) (eqb k 21) _);
           stack = refl;
           memory = refl;
           first = refl;
@@ -334,41 +300,23 @@ module _ (t : List ℕ) (c : ℕ) (lw : List ℕ) (lc g d size : ℕ) (r : Machi
 
     -- ---- `let` and `set` of a local
 
-    went-5 : row .kind ≡ 5 → 3 ≤ a → a < size → (v end : ℕ) → Told v end → Went (suc n) end (set st (s + a) v) m
-    unfolding kindFault targetFault hasTarget calleeFault sizeFault wordFault operandsFault addressFault isListed hasExpression isTest isCall isReturn isCalling hasWord ownWord usedBy ifLt ifEq ifTrue
-        someOf effectOf workedOf assigned keeps storeFrom
-    went-5 q l b v end x =
+    went-set : (k : ℕ) → Sets k → row .kind ≡ k → 3 ≤ a → a < size → (v end : ℕ) → Told v end → Went (suc n) end (set st (s + a) v) m
+    unfolding kindFault targetFault calleeFault sizeFault wordFault operandsFault addressFault isCall isReturn isCalling ownWord usedBy ifLt ifEq ifTrue someOf effectOf workedOf assigned keeps storeFrom
+    went-set k y q l b v end x =
+        let i = y .inner in
         record {
           below = below;
           own = own;
-          good = no-fault prog n (rw (q, x .listed 5)) (rw q) (rw (q, x .bare)) (rw q) (rw (q, sized, fields-a) (lt-leb size a b)) (rw (used, q, sized) (x .operands)) (rw q);
-          line = rw q;
-          tail = rw q;
-          calls = rw (q, x .bare);
-          returns = rw q;
-          block = rw q;
-          effect = rw (used, q, x .bare, x .worked, fields-a);
-          stack = length-set st (s + a) v;
-          memory = refl;
-          first = store-before st (s + a) (v ∷ []) s (omega (arith, l));
-          second = store-before st (s + a) (v ∷ []) (s + 1) (omega (arith, l));
-          top = x .low;
-        }
-
-    went-6 : row .kind ≡ 6 → 3 ≤ a → a < size → (v end : ℕ) → Told v end → Went (suc n) end (set st (s + a) v) m
-    unfolding kindFault targetFault hasTarget calleeFault sizeFault wordFault operandsFault addressFault isListed hasExpression isTest isCall isReturn isCalling hasWord ownWord usedBy ifLt ifEq ifTrue
-        someOf effectOf workedOf assigned keeps storeFrom
-    went-6 q l b v end x =
-        record {
-          below = below;
-          own = own;
-          good = no-fault prog n (rw (q, x .listed 6)) (rw q) (rw (q, x .bare)) (rw q) (rw (q, sized, fields-a) (lt-leb size a b)) (rw (used, q, sized) (x .operands)) (rw q);
-          line = rw q;
-          tail = rw q;
-          calls = rw (q, x .bare);
-          returns = rw q;
-          block = rw q;
-          effect = rw (used, q, x .bare, x .worked, fields-a);
+          good =
+              no-fault prog n (rw (q, i .listed, i .row, i .has, x .listed k)) (rw (q, y .aimless)) (rw (q, i .bare, i .tail, i .has, x .bare)) (rw (q, i .function))
+              (rw (q, i .own, i .block, sized, fields-a) (lt-leb size a b)) (rw (used, q, i .has, sized) (x .operands)) (rw (q, i .at));
+          line = rw (q, i .function);
+          tail = rw (q, i .tail);
+          calls = rw (q, i .bare, i .tail, i .has, x .bare);
+          returns = rw (q, i .end, i .returns);
+          block = rw (q, i .leaves);
+          effect =
+              rw (used, q, i .bare, i .has, x .bare, i .end, i .returns, i .test, i .block, i .leaves, x .worked, fields-a) (one-of-two (eqb k 5) (eqb k 6) _ _ (y .sets));
           stack = length-set st (s + a) v;
           memory = refl;
           first = store-before st (s + a) (v ∷ []) s (omega (arith, l));
@@ -603,9 +551,9 @@ module _ (t : List ℕ) (c : ℕ) (lw : List ℕ) (lc g d size : ℕ) (r : Machi
     right-jumps : (k : ℕ) → row .kind ≡ k → Right (quickJumps t c g d size st s m n (r .top) k)
     unfolding quickJumps
     right-jumps k q =
-        either-eq Right k 10 _ _ (λ z. right-jump (went-10 (q ∙ z)))
-        (λ i10. either-eq Right k 20 _ _ (λ z. right-jump (went-20 (q ∙ z)))
-        (λ i20. either-eq Right k 21 _ _ (λ z. right-jump (went-21 (q ∙ z)))
+        either-eq Right k 10 _ _ (λ z. right-jump (went-jump 10 goto-jumps (q ∙ z)))
+        (λ i10. either-eq Right k 20 _ _ (λ z. right-jump (went-jump 20 else-jumps (q ∙ z)))
+        (λ i20. either-eq Right k 21 _ _ (λ z. right-jump (went-jump 21 else-if-jumps (q ∙ z)))
         (λ i21. either-eq Right k 22 _ _ (λ z. right-22 (q ∙ z)) (λ i22. stays))))
 
     right-stores : (k : ℕ) → row .kind ≡ k → Right (quickStores t c g d size st s m n (r .top) k)
@@ -620,8 +568,8 @@ module _ (t : List ℕ) (c : ℕ) (lw : List ℕ) (lc g d size : ℕ) (r : Machi
         either-true Right (isTest k) _ _ (right-test k q)
         (λ e. either-eq Right k 3 _ _ (λ z. right-block (q ∙ z))
         (λ i3. either-eq Right k 4 _ _ (λ z. right-end (q ∙ z))
-        (λ i4. either-eq Right k 5 _ _ (λ z. right-assign (went-5 (q ∙ z)))
-        (λ i5. either-eq Right k 6 _ _ (λ z. right-assign (went-6 (q ∙ z))) (λ i6. right-stores k q)))))
+        (λ i4. either-eq Right k 5 _ _ (λ z. right-assign (went-set 5 let-sets (q ∙ z)))
+        (λ i5. either-eq Right k 6 _ _ (λ z. right-assign (went-set 6 set-sets (q ∙ z))) (λ i6. right-stores k q)))))
 
     right-form : Right (quickForm t c g d size st s m n (r .top))
     unfolding quickForm
