@@ -17,6 +17,7 @@ use Rattle.parse_lines.specs.Lines.{lineKind}
 use Rattle.parse_lines.specs.declared.Span.{Span}
 use Rattle.parse_units.proofs.Bounds.{unit-order, unit-near, unit-next, line-some}
 use Rattle.res_exports.specs.Fits.{UnitFits}
+use Rattle.res_exports.proofs.Lists.{ends-by}
 use Rattle.res_exports.specs.Exports.{isDefinition, endsSearch, nowhere, seekOn, seekStep, sought, definitionFrom, Exported, exported, World, world, exports, flagged, judgedBy, exportPart, exportOn, exportStep, going, exportsFrom, exportsOf}
 use Rattle.res_exports.specs.declared.Exports.{Exports}
 use Rattle.res_exports.specs.declared.Seek.{Seek}
@@ -49,8 +50,7 @@ SeekGood t at (go b) = UnitFits t b × (at < b)
 SeekGood t at (stop u) = Unit {0}
 
 zero-ends : (k : ℕ) → k ≡ 0 → endsSearch k ≡ true
-unfolding endsSearch
-zero-ends k h = ifEq-yes _ _ h
+zero-ends k h = sym (ends-by k true (sym (ifEq-yes _ _ h)))
 
 seek-good : (t : List ℕ) (at : ℕ) → UnitFits t at → SeekGood t at (seekStep t at)
 unfolding seekStep seekOn

@@ -5,7 +5,6 @@
 use Prim.Native.Nat.{ℕ, zero, suc, _+_, _-_, min}
 use mathlib.Core.Bool.{Bool, true, false}
 use mathlib.Core.List.{List, [], _∷_}
-use lib.Dec.{ltb}
 use lib.ListN.{length, getD, set}
 use Rattle.base_prelude.specs.Choice.{ifLt, ifEq, ifTrue}
 use Rattle.base_prelude.specs.Fault.{none}
@@ -29,12 +28,18 @@ use Rattle.res_exports.specs.declared.Going.the-variants.{On, Over}
 -- ---- the definition behind an export
 
 -- "data definition, group or function": `align` and exports are passed over
+abbrev pub definitions : List ℕ
+definitions = kind.byte ∷ kind.word ∷ kind.string ∷ kind.group ∷ kind.function ∷ []
+
 unfoldable pub isDefinition : ℕ → Bool
-isDefinition k = ifEq k kind.function true (ifLt k kind.byte false (ltb k kind.endGroup))
+isDefinition k = isAmong k definitions
 
 -- the source's end, or a `section`
+abbrev pub searchEnds : List ℕ
+searchEnds = kind.edge ∷ kind.sectionData ∷ kind.sectionFunctions ∷ []
+
 unfoldable pub endsSearch : ℕ → Bool
-endsSearch k = ifEq k kind.edge true (ifLt k kind.sectionData false (ltb k kind.export))
+endsSearch k = isAmong k searchEnds
 
 -- no unit: it has no labels
 abbrev pub nowhere : Span

@@ -384,7 +384,7 @@ fn put_slots(
     out: &mut [u32],
     at: usize,
 )
-    requires { ⌜ (first + count < 4294967296) × (at + 16 ≤ length (now out)) ⌝ }
+    requires { ⌜ (first + count < 4294967296) × (at + limits.parameters * 2 ≤ length (now out)) ⌝ }
     ensures { λ _. ⌜ now (out .exit) ≡ putWords (now (out .entry)) at (slotWords limits.parameters (operandsFrom (min count limits.parameters) (sameNumber (now (t .entry))) (now (t .entry)) (now (k .entry)) (now (y .entry)) l (now (w .entry)) (now (z .entry)) r first)) ⌝ }
 {
     let mut j: u32 = 0;

@@ -28,6 +28,7 @@ use Rattle.thm_acceptance.specs.Lines.{Line, linesFrom, linesOf, EachFro
 use Rattle.thm_acceptance.specs.Faults.{labelFaults, declaredFaults, headFaults, calleeFaults, operandFaults, bodyFaults, statementFaults, statementsFaults, allNameFaults, lineFaults, exportFaultsFrom, exportFaults}
 use Rattle.thm_acceptance.specs.Accepts.{namesIn}
 use Rattle.thm_acceptance.specs.Unbroken.{NamesUnbroken}
+use Rattle.thm_acceptance.proofs.Shared.{DeclaredOnce, declared-by, by-declared, labels-by, by-labels}
 use Rattle.thm_acceptance.proofs.Paged.{lines-more}
 use Rattle.thm_acceptance.proofs.Page.{each-map, each-both}
 
@@ -240,10 +241,14 @@ module _ (same : ℕ → ℕ → Bool) (t : List ℕ) (n : ℕ) (k y : List ℕ)
       let out = exportFaultsFrom (suc (length t)) same t n y l uses 0 in
       let a : Clean names = clean-left names out h in
       let b : Clean (statementsFaults c same t n k y l 0) = clean-right (labelFaults l same t n y l 0) (statementsFaults c same t n k y l 0) a in
+      let once : (r : ℕ) → r < c → DeclaredOnce same t n k r =
+      λ r g. declared-by same t n k r (statement-parts same t n y l k r (statements-each same t n y l k c 0 b r (omega arith) (omega arith)) .0 .0) in
       let e : EachLine t (Both same t n y l uses) = faults-each same t n y l uses (suc (length t)) 0 [] (clean-right names out h) in
       record {
-        locals = λ r g. statement-parts same t n y l k r (statements-each same t n y l k c 0 b r (omega arith) (omega arith)) .0 .0;
-        labels = λ j g. labels-each same t n y l l 0 (clean-left (labelFaults l same t n y l 0) (statementsFaults c same t n k y l 0) a) j (omega arith) (omega arith);
+        parameters = λ r g. once r g .parameters;
+        lets = λ r g. once r g .lets;
+        letsAndParameters = λ r g. once r g .letsAndParameters;
+        labels = labels-by same t n y l (λ j g. labels-each same t n y l l 0 (clean-left (labelFaults l same t n y l 0) (statementsFaults c same t n k y l 0) a) j (omega arith) (omega arith));
         targets = λ r g. statement-parts same t n y l k r (statements-each same t n y l k c 0 b r (omega arith) (omega arith)) .0 .1;
         callees = λ r g p q. subst (λ (z : Parts). Called same t n y l k r z) (sym q) (statement-parts same t n y l k r (statements-each same t n y l k c 0 b r (omega arith) (omega arith)) .1 .0);
         values = λ r g p q. subst (λ (z : Parts). Valued same t n y l k r z) (sym q) (statement-parts same t n y l k r (statements-each same t n y l k c 0 b r (omega arith) (omega arith)) .1 .1);
@@ -258,8 +263,8 @@ module _ (same : ℕ → ℕ → Bool) (t : List ℕ) (n : ℕ) (k y : List ℕ)
       let out = exportFaultsFrom (suc (length t)) same t n y l uses 0 in
       clean-join names out
       (clean-join (labelFaults l same t n y l 0) (statementsFaults c same t n k y l 0)
-      (each-labels same t n y l l 0 (λ j a b. u .labels j (omega arith)))
+      (each-labels same t n y l l 0 (λ j a b. by-labels same t n y l (u .labels) j (omega arith)))
       (each-statements same t n y l k c 0 (λ r a b.
-      parts-statement same t n y l k r (u .locals r (omega arith)) (u .targets r (omega arith)) (u .callees r (omega arith) (parts same t n y l k r) refl) (u .values r (omega arith) (parts same t n y l k r) refl))))
+      parts-statement same t n y l k r (by-declared same t n k r (record { parameters = u .parameters r (omega arith); lets = u .lets r (omega arith); letsAndParameters = u .letsAndParameters r (omega arith) })) (u .targets r (omega arith)) (u .callees r (omega arith) (parts same t n y l k r) refl) (u .values r (omega arith) (parts same t n y l k r) refl))))
       (each-faults same t n y l uses (suc (length t)) 0 []
       (each-map (λ before x. Ex before x × Fi before x) (Both same t n y l uses) first-both [] (linesOf t) (each-both Ex Fi [] (linesOf t) (u .exports) (u .exportsFirst))))

@@ -3,7 +3,7 @@
 -- Assumes nothing.
 use Prim.Native.Nat.{ℕ, _+_, _-_, _≤_, _<_}
 use mathlib.Core.Path.{_≡_}
-use mathlib.Core.Bool.{Bool}
+use mathlib.Core.Bool.{Bool, false}
 use mathlib.Core.List.{List}
 use lib.ListN.{length}
 use Rattle.base_limits.specs.Limits.{sourceBytes}
@@ -12,10 +12,10 @@ use Rattle.lang_kinds.specs.Kinds as kind
 use Rattle.lex_source.specs.Faults.{loneRule, escapeRule, openRule, rangeRule, lengthRule, limitRule, followRule}
 use Rattle.prog_tables.specs.Statement.{rowAt}
 use Rattle.res_skeleton.specs.Skeleton.{skeletonOf}
-use Rattle.res_scope.specs.Lines.{firstToken, endToken}
+use Rattle.res_scope.specs.Lines.{firstToken, endToken, labelToken}
+use Rattle.res_scope.specs.Names.{letHere}
 use Rattle.res_scope.specs.Parts.{partsOf}
 use Rattle.res_scope.specs.declared.Parts.{Parts}
-use Rattle.res_names.specs.Naming.{labelFault}
 use Rattle.res_names.specs.Uses.{firstUse}
 use Rattle.res_exports.specs.Exports.{carriedIn}
 use Rattle.res_data.specs.Sizes.{bigRule}
@@ -24,16 +24,21 @@ use Rattle.parse_verdict.specs.Verdict.{Clean}
 use Rattle.thm_acceptance.specs.Reads.{EachRead}
 use Rattle.thm_acceptance.specs.Lines.{Line, EachLine}
 use Rattle.thm_acceptance.specs.LineRules.{Silent, Shaped, SubstitutesKnown, NamesFree, Placed, MayBeLabelled, LabelsFree, NotLeftOut, NoFrameSize, FewStatements, FewLabels, FewLocals, FewBlocks, FewArguments}
-use Rattle.thm_acceptance.specs.Faults.{declaredFaults, headFaults, calleeFaults, operandFaults}
+use Rattle.thm_acceptance.specs.Faults.{headFaults, calleeFaults, operandFaults}
 use Rattle.thm_acceptance.specs.Accepts.{tableOf, outlined, statementsIn, labelsIn}
 
 -- 10 to 13 and 17: the rules of 'Names', in a table t of the tokens of a source of n bytes with c rows k and l label rows y; `same` says
 -- whether two tokens have one name
 pub record NamesUnbroken (same : ℕ → ℕ → Bool) (t : List ℕ) (n : ℕ) (k y : List ℕ) (l c : ℕ) : Type 0 where
-  -- 12: "Two locals of one frame, parameters included, may not share a name"
-  pub locals : (r : ℕ) → r < c → Clean (declaredFaults same t n k r (rowAt k r .kind))
+  -- 12: "Two locals of one frame, parameters included, may not share a name": two parameters, two lets, a let and a parameter
+  pub parameters : (r : ℕ) → r < c → rowAt k r .kind ≡ kind.function
+      → (p q : ℕ) → firstToken k r < p → p < q → q < endToken k r → same p q ≡ false
+  pub lets : (r : ℕ) → r < c → rowAt k r .kind ≡ kind.letLocal
+      → (m : ℕ) → rowAt k r .scope ≤ m → m < r → letHere same k (rowAt k r .scope) (firstToken k r + 1) m ≡ false
+  pub letsAndParameters : (r : ℕ) → r < c → rowAt k r .kind ≡ kind.letLocal → rowAt k (rowAt k r .scope) .kind ≡ kind.function
+      → (q : ℕ) → firstToken k (rowAt k r .scope) < q → q < endToken k (rowAt k r .scope) → same q (firstToken k r + 1) ≡ false
   -- 12: "nor may two labels"
-  pub labels : (j : ℕ) → j < l → Silent (labelFault same t n y l j)
+  pub labels : (i j : ℕ) → i < j → j < l → same (labelToken y i) (labelToken y j) ≡ false
   -- 10 and 11: "`goto` takes a statement's label in the same function and innermost block. `set` takes a local."
   pub targets : (r : ℕ) → r < c → Clean (headFaults same t n k y l r (rowAt k r .kind) (firstToken k r + 1))
   -- 10, 11 and 13: "`call` and `tail-call` take a function label with its parameter count"
