@@ -81,27 +81,64 @@ module _ (N : ℕ → Type 0) (n30 : N 30) (n31 : N 31) (n32 : N 32) (n33 : N 33
 
   table-numbered : AllNumbered operators
   unfolding AllNumbered operators
-  table-numbered =
-      (λ w m top x y. valued _ _,
-      (λ w m top x y. valued _ _,
-      (λ w m top x y. answer-numbered top _,
-      (λ w m top x y. reserve-numbered w _ _ _,
-      (λ w m top x y. reserve-numbered w _ _ _,
-      (λ w m top x y. answer-numbered top _,
-      (λ w m top x y. answer-numbered top _,
-      (λ w m top x y. byte-numbered m top _,
-      (λ w m top x y. fetch-numbered top _,
-      (λ w m top x y. answer-numbered top _,
-      (λ w m top x y. valued _ _,
-      (λ w m top x y. valued _ _,
-      (λ w m top x y. valued _ _,
-      (λ w m top x y. answer-numbered top _,
-      (λ w m top x y. answer-numbered top _,
-      (λ w m top x y. answer-numbered top _,
-      (λ w m top x y. answer-numbered top _,
-      (λ w m top x y. valued _ _,
-      (λ w m top x y. valued _ _,
-      tt)))))))))))))))))))
+  table-numbered = (
+    λ w m top x y. valued _ _,
+    (
+      λ w m top x y. valued _ _,
+      (
+        λ w m top x y. answer-numbered top _,
+        (
+          λ w m top x y. reserve-numbered w _ _ _,
+          (
+            λ w m top x y. reserve-numbered w _ _ _,
+            (
+              λ w m top x y. answer-numbered top _,
+              (
+                λ w m top x y. answer-numbered top _,
+                (
+                  λ w m top x y. byte-numbered m top _,
+                  (
+                    λ w m top x y. fetch-numbered top _,
+                    (
+                      λ w m top x y. answer-numbered top _,
+                      (
+                        λ w m top x y. valued _ _,
+                        (
+                          λ w m top x y. valued _ _,
+                          (
+                            λ w m top x y. valued _ _,
+                            (
+                              λ w m top x y. answer-numbered top _,
+                              (
+                                λ w m top x y. answer-numbered top _,
+                                (
+                                  λ w m top x y. answer-numbered top _,
+                                  (
+                                    λ w m top x y. answer-numbered top _,
+                                    (
+                                      λ w m top x y. valued _ _,
+                                      (
+                                        λ w m top x y. valued _ _,
+                                        tt,
+                                      ),
+                                    ),
+                                  ),
+                                ),
+                              ),
+                            ),
+                          ),
+                        ),
+                      ),
+                    ),
+                  ),
+                ),
+              ),
+            ),
+          ),
+        ),
+      ),
+    ),
+  )
 
   apply-numbered : (w : Width) (m : List ℕ) (top e x y : ℕ) → Numbered (applied w m top e x y)
   unfolding applied operatorOf
