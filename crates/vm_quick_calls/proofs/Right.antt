@@ -38,7 +38,7 @@ use Rattle.vm_quick_operands.specs.Fast.{goodRead, readEach, goodWork, sizeOf}
 use Rattle.vm_quick_operands.proofs.Good.{good-read, Valued, good-work, stop-value, no-fault, Function, function-good, row-within, row-size, size-function}
 use Rattle.vm_quick_operands.proofs.Reading.{next-slot, no-slots}
 use Rattle.vm_quick_statements.proofs.Right.{InFrame}
-use Rattle.vm_quick_statements.proofs.Kinds.{Sets, let-sets, set-sets}
+use Rattle.vm_quick_statements.proofs.ByKind.{Sets, let-sets, set-sets}
 use Rattle.vm_quick_statements.proofs.Unbroken.{frame-fine, record-fine, call-fine, return-fine}
 use Rattle.vm_quick_calls.specs.declared.Transfer.{Transfer}
 use Rattle.vm_quick_calls.specs.declared.Transfer.the-variants.{To, Stays}

@@ -43,7 +43,7 @@ use Rattle.vm_quick_statements.specs.declared.Move.the-variants.{To, Sta
 use Rattle.vm_quick_statements.specs.declared.Three.{Three}
 use Rattle.vm_quick_statements.specs.declared.Three.the-variants.{All, Unread}
 use Rattle.vm_quick_statements.specs.PlainRun.{Taken, taken, aimed, quickJump, quickBlock, quickEnd, threeRead, assignedBy, quickAssign, byteBy, quickByte, wordBy, quickWord, storedBy, storedAt, quickAt, quickTest, quickJumps, quickStores, quickKind, quickForm, quickStep}
-use Rattle.vm_quick_statements.proofs.Kinds.{Sets, Jumps, let-sets, set-sets, goto-jumps, else-jumps, else-if-jumps, one-of-two, all-three}
+use Rattle.vm_quick_statements.proofs.ByKind.{Sets, Jumps, let-sets, set-sets, goto-jumps, else-jumps, else-if-jumps, one-of-two, all-three}
 use Rattle.prog_tables.proofs.CallRows.{quiet-row}
 use Rattle.prog_tables.proofs.Each.{both-false}
 use Rattle.prog_tables.proofs.Ranges.{test-least, test-most}
