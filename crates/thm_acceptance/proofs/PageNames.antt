@@ -250,8 +250,8 @@ module _ (same : ℕ → ℕ → Bool) (t : List ℕ) (n : ℕ) (k y : List ℕ)
         letsAndParameters = λ r g. once r g .letsAndParameters;
         labels = labels-by same t n y l (λ j g. labels-each same t n y l l 0 (clean-left (labelFaults l same t n y l 0) (statementsFaults c same t n k y l 0) a) j (omega arith) (omega arith));
         targets = λ r g. statement-parts same t n y l k r (statements-each same t n y l k c 0 b r (omega arith) (omega arith)) .0 .1;
-        callees = λ r g p q. subst (λ (z : Parts). Called same t n y l k r z) (sym q) (statement-parts same t n y l k r (statements-each same t n y l k c 0 b r (omega arith) (omega arith)) .1 .0);
-        values = λ r g p q. subst (λ (z : Parts). Valued same t n y l k r z) (sym q) (statement-parts same t n y l k r (statements-each same t n y l k c 0 b r (omega arith) (omega arith)) .1 .1);
+        callees = λ r g. statement-parts same t n y l k r (statements-each same t n y l k c 0 b r (omega arith) (omega arith)) .1 .0;
+        values = λ r g. statement-parts same t n y l k r (statements-each same t n y l k c 0 b r (omega arith) (omega arith)) .1 .1;
         exports = each-map (Both same t n y l uses) Ex (λ before x z. z .0) [] (linesOf t) e;
         exportsFirst = each-map (Both same t n y l uses) Fi both-first [] (linesOf t) e;
       }
@@ -265,6 +265,6 @@ module _ (same : ℕ → ℕ → Bool) (t : List ℕ) (n : ℕ) (k y : List ℕ)
       (clean-join (labelFaults l same t n y l 0) (statementsFaults c same t n k y l 0)
       (each-labels same t n y l l 0 (λ j a b. by-labels same t n y l (u .labels) j (omega arith)))
       (each-statements same t n y l k c 0 (λ r a b.
-      parts-statement same t n y l k r (by-declared same t n k r (record { parameters = u .parameters r (omega arith); lets = u .lets r (omega arith); letsAndParameters = u .letsAndParameters r (omega arith) })) (u .targets r (omega arith)) (u .callees r (omega arith) (parts same t n y l k r) refl) (u .values r (omega arith) (parts same t n y l k r) refl))))
+      parts-statement same t n y l k r (by-declared same t n k r (record { parameters = u .parameters r (omega arith); lets = u .lets r (omega arith); letsAndParameters = u .letsAndParameters r (omega arith) })) (u .targets r (omega arith)) (u .callees r (omega arith)) (u .values r (omega arith)))))
       (each-faults same t n y l uses (suc (length t)) 0 []
       (each-map (λ before x. Ex before x × Fi before x) (Both same t n y l uses) first-both [] (linesOf t) (each-both Ex Fi [] (linesOf t) (u .exports) (u .exportsFirst))))
