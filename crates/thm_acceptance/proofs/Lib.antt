@@ -3,6 +3,7 @@ pub mod LineRules
 pub mod Paged
 pub mod Page
 pub mod Order
+pub mod Rising
 pub mod Shared
 pub mod PageNames
 pub mod Least
