@@ -3,7 +3,7 @@
 -- Assumes nothing.
 use Prim.Native.Nat.{ℕ, _+_, _-_, _≤_, _<_}
 use mathlib.Core.Path.{_≡_}
-use mathlib.Core.Bool.{Bool, false}
+use mathlib.Core.Bool.{Bool, true, false}
 use mathlib.Core.List.{List}
 use lib.ListN.{length}
 use Rattle.base_limits.specs.Limits.{sourceBytes}
@@ -16,11 +16,11 @@ use Rattle.res_scope.specs.Lines.{firstToken, endToken, labelToken}
 use Rattle.res_scope.specs.Names.{letHere}
 use Rattle.res_scope.specs.Parts.{partsOf}
 use Rattle.res_scope.specs.declared.Parts.{Parts}
-use Rattle.res_names.specs.Uses.{firstUse}
+use Rattle.res_names.specs.Uses.{usesIn, meansLabel}
 use Rattle.res_exports.specs.Exports.{carriedIn}
 use Rattle.res_data.specs.Sizes.{bigRule}
 use Rattle.res_text.specs.Same.{sameText}
-use Rattle.parse_verdict.specs.Verdict.{Clean}
+use Rattle.parse_verdict.specs.Verdict.{All, Clean}
 use Rattle.thm_acceptance.specs.Reads.{EachRead}
 use Rattle.thm_acceptance.specs.Lines.{Line, EachLine}
 use Rattle.thm_acceptance.specs.LineRules.{Silent}
@@ -35,10 +35,6 @@ partsAt t k r = partsOf t (rowAt k r .kind) (firstToken k r) (endToken k r)
 -- its operand tokens
 abbrev pub operandsAt : List ℕ → List ℕ → ℕ → ℕ
 operandsAt t k r = endToken k r - partsAt t k r .first
-
--- token i stands before token q; q is 0 where there is none
-abbrev pub Before : ℕ → ℕ → Type 0
-Before i q = (q ≡ 0 → ⊥) → i ≤ q
 
 -- 10 to 13 and 17: the rules of 'Names', in a table t of the tokens of a source of n bytes with c rows k and l label rows y; `same` says
 -- whether two tokens have one name
@@ -61,9 +57,9 @@ pub record NamesUnbroken (same : ℕ → ℕ → Bool) (t : List ℕ) (n : ℕ) 
   -- 10 and 11: "`export n`: the first data definition, group or function after it carries label n, with no `section` between; else 10
   -- if no label is n, 11 if one is"
   pub exports : EachLine t (λ before x. x .kind ≡ kind.export → carriedIn same t y l (x .unit) < l)
-  -- 17: "An export stands before the first operand or target that means its label", if there is one
-  pub exportsFirst : EachLine t (λ before x. x .kind ≡ kind.export
-      → Before (x .unit .word + 1) (firstUse same t k y l c (carriedIn same t y l (x .unit))))
+  -- 17: "An export stands before the first operand or target that means its label": before each of them
+  pub exportsFirst : EachLine t (λ before x. x .kind ≡ kind.export → (r : ℕ) → r < c
+      → All (λ i. meansLabel same k y l r (carriedIn same t y l (x .unit)) i ≡ true → x .unit .word + 1 ≤ i) (usesIn t k r))
 
 -- the rows and labels that the lines of a source make
 abbrev pub statementCount : Width → List ℕ → ℕ
