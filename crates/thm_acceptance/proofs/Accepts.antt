@@ -49,6 +49,7 @@ use Rattle.thm_acceptance.specs.Accepts.{tokensIn, tokensOf, tableOf, ou
 use Rattle.thm_acceptance.specs.Unbroken.{NamesUnbroken, Unbroken}
 use Rattle.thm_acceptance.proofs.Least.{append-least, names-least, exports-least}
 use Rattle.thm_acceptance.proofs.Paged.{lines-fine}
+use Rattle.thm_acceptance.proofs.Rising.{InOrder, outline-order}
 use Rattle.thm_acceptance.proofs.Page.{ReadsUnbroken, clean-reads, reads-clean, LinesUnbroken, fine-lines, lines-join}
 use Rattle.thm_acceptance.proofs.PageNames.{clean-names, names-clean}
 
@@ -259,6 +260,21 @@ few-labels w t n e = by (outlineOf w t n .answer) refl
     by (parsed.Accepted c l) q = counts.accepted-counts w t n c l e q .1
     by (parsed.Refused number place) q = omega arith
 
+rows-in-order : (w : Width) (t : List ℕ) (n : ℕ) → length t ≡ 32768
+    → InOrder t (skeletonOf (outlineOf w t n .rows) (statementsIn (outlineOf w t n .answer))) (statementsIn (outlineOf w t n .answer))
+unfolding statementsIn
+rows-in-order w t n e = by (outlineOf w t n .answer) refl
+  where
+    by : (a : Parsed) → outlineOf w t n .answer ≡ a → InOrder t (skeletonOf (outlineOf w t n .rows) (statementsIn a)) (statementsIn a)
+    by (parsed.Accepted c l) q =
+        outline-order w t n c l (outlineOf w t n .rows) (outlineOf w t n .labels) e (ap (λ (v : Parsed). outline.parsed v (outlineOf w t n .rows) (outlineOf w t n .labels)) q)
+    by (parsed.Refused number place) q =
+        record {
+          runs = λ r g. let z : ⊥ = omega arith in absurd z;
+          rows = λ r g. let z : ⊥ = omega arith in absurd z;
+          steps = λ r g. let z : ⊥ = omega arith in absurd z;
+        }
+
 module _ (w : Width) (s : List ℕ) where
   -- no fault in any group
   record Faultless : Type 0 where
@@ -274,7 +290,7 @@ module _ (w : Width) (s : List ℕ) where
   page-names : Clean (nameFaults s (tableOf w s) (outlined w s))
       → NamesUnbroken (sameText s (tableOf w s)) (tableOf w s) (length s) (skeletonOf (outlined w s .rows) (statementsIn (outlined w s .answer))) (outlined w s .labels) (labelsIn (outlined w s .answer)) (statementsIn (outlined w s .answer))
   unfolding nameFaults
-  page-names h = clean-names _ _ _ _ _ _ _ few h
+  page-names h = clean-names _ _ _ _ _ _ _ few (rows-in-order w (tableOf w s) (length s) (table-size w s)) h
 
   names-page : NamesUnbroken (sameText s (tableOf w s)) (tableOf w s) (length s) (skeletonOf (outlined w s .rows) (statementsIn (outlined w s .answer))) (outlined w s .labels) (labelsIn (outlined w s .answer)) (statementsIn (outlined w s .answer))
       → Clean (nameFaults s (tableOf w s) (outlined w s))

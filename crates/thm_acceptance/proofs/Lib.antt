@@ -2,6 +2,8 @@ pub mod Opens
 pub mod LineRules
 pub mod Paged
 pub mod Page
+pub mod Order
+pub mod Rising
 pub mod Shared
 pub mod PageNames
 pub mod Least

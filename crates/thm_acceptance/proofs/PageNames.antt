@@ -30,6 +30,7 @@ use Rattle.thm_acceptance.specs.Accepts.{namesIn}
 use Rattle.thm_acceptance.specs.Unbroken.{NamesUnbroken}
 use Rattle.thm_acceptance.proofs.Shared.{DeclaredOnce, declared-by, by-declared, labels-by, by-labels}
 use Rattle.thm_acceptance.proofs.Paged.{lines-more}
+use Rattle.thm_acceptance.proofs.Rising.{InOrder, NoneBelow, first-least, least-first}
 use Rattle.thm_acceptance.proofs.Page.{each-map, each-both}
 
 key-low : (t : List ℕ) (n i number : ℕ) → number < 64 → keyAt t n i number < none
@@ -222,21 +223,23 @@ module _ (same : ℕ → ℕ → Bool) (t : List ℕ) (n : ℕ) (k y : List ℕ)
   Ex before x = x .kind ≡ 27 → carriedIn same t y l (x .unit) < l
 
   abbrev Fi : List Line → Line → Type 0
-  Fi before x = x .kind ≡ 27 → (firstUse same t k y l c (carriedIn same t y l (x .unit)) ≡ 0 → ⊥) → x .unit .word + 1 ≤ firstUse same t k y l c (carriedIn same t y l (x .unit))
+  Fi before x = x .kind ≡ 27 → (r : ℕ) → r < c → NoneBelow same t k y l c (carriedIn same t y l (x .unit)) (x .unit .word + 1) r
 
   use-is : (j : ℕ) → j < l → getD uses j 0 ≡ firstUse same t k y l c j
   use-is j h = uses-first same t n k y l c j (omega arith)
 
-  both-first : (before : List Line) (x : Line) → Both same t n y l uses before x → Fi before x
-  both-first before x b e d =
-      let q = use-is (carriedIn same t y l (x .unit)) (b .0 e) in omega (arith, b .1 e (λ z. d (sym q ∙ z)), q)
+  both-first : InOrder t k c → (before : List Line) (x : Line) → Both same t n y l uses before x → Fi before x
+  both-first o before x b e =
+      let q = use-is (carriedIn same t y l (x .unit)) (b .0 e) in
+      first-least same t k y l c (carriedIn same t y l (x .unit)) (x .unit .word + 1) o (λ d. omega (arith, b .1 e (λ z. d (sym q ∙ z)), q))
 
   first-both : (before : List Line) (x : Line) → Ex before x × Fi before x → Both same t n y l uses before x
-  first-both before x b = (b .0, λ e d. let q = use-is (carriedIn same t y l (x .unit)) (b .0 e) in omega (arith, b .1 e (λ z. d (q ∙ z)), q))
+  first-both before x b =
+      (b .0, λ e d. (let q = use-is (carriedIn same t y l (x .unit)) (b .0 e) in omega (arith, q, least-first same t k y l c (carriedIn same t y l (x .unit)) (x .unit .word + 1) (b .1 e) (λ z. d (q ∙ z)))))
 
-  pub clean-names : Clean (namesIn same t n k y l c) → NamesUnbroken same t n k y l c
+  pub clean-names : InOrder t k c → Clean (namesIn same t n k y l c) → NamesUnbroken same t n k y l c
   unfolding namesIn allNameFaults exportFaults linesOf
-  clean-names h =
+  clean-names o h =
       let names = labelFaults l same t n y l 0 ++ statementsFaults c same t n k y l 0 in
       let out = exportFaultsFrom (suc (length t)) same t n y l uses 0 in
       let a : Clean names = clean-left names out h in
@@ -250,10 +253,10 @@ module _ (same : ℕ → ℕ → Bool) (t : List ℕ) (n : ℕ) (k y : List ℕ)
         letsAndParameters = λ r g. once r g .letsAndParameters;
         labels = labels-by same t n y l (λ j g. labels-each same t n y l l 0 (clean-left (labelFaults l same t n y l 0) (statementsFaults c same t n k y l 0) a) j (omega arith) (omega arith));
         targets = λ r g. statement-parts same t n y l k r (statements-each same t n y l k c 0 b r (omega arith) (omega arith)) .0 .1;
-        callees = λ r g p q. subst (λ (z : Parts). Called same t n y l k r z) (sym q) (statement-parts same t n y l k r (statements-each same t n y l k c 0 b r (omega arith) (omega arith)) .1 .0);
-        values = λ r g p q. subst (λ (z : Parts). Valued same t n y l k r z) (sym q) (statement-parts same t n y l k r (statements-each same t n y l k c 0 b r (omega arith) (omega arith)) .1 .1);
+        callees = λ r g. statement-parts same t n y l k r (statements-each same t n y l k c 0 b r (omega arith) (omega arith)) .1 .0;
+        values = λ r g. statement-parts same t n y l k r (statements-each same t n y l k c 0 b r (omega arith) (omega arith)) .1 .1;
         exports = each-map (Both same t n y l uses) Ex (λ before x z. z .0) [] (linesOf t) e;
-        exportsFirst = each-map (Both same t n y l uses) Fi both-first [] (linesOf t) e;
+        exportsFirst = each-map (Both same t n y l uses) Fi (both-first o) [] (linesOf t) e;
       }
 
   pub names-clean : NamesUnbroken same t n k y l c → Clean (namesIn same t n k y l c)
@@ -265,6 +268,6 @@ module _ (same : ℕ → ℕ → Bool) (t : List ℕ) (n : ℕ) (k y : List ℕ)
       (clean-join (labelFaults l same t n y l 0) (statementsFaults c same t n k y l 0)
       (each-labels same t n y l l 0 (λ j a b. by-labels same t n y l (u .labels) j (omega arith)))
       (each-statements same t n y l k c 0 (λ r a b.
-      parts-statement same t n y l k r (by-declared same t n k r (record { parameters = u .parameters r (omega arith); lets = u .lets r (omega arith); letsAndParameters = u .letsAndParameters r (omega arith) })) (u .targets r (omega arith)) (u .callees r (omega arith) (parts same t n y l k r) refl) (u .values r (omega arith) (parts same t n y l k r) refl))))
+      parts-statement same t n y l k r (by-declared same t n k r (record { parameters = u .parameters r (omega arith); lets = u .lets r (omega arith); letsAndParameters = u .letsAndParameters r (omega arith) })) (u .targets r (omega arith)) (u .callees r (omega arith)) (u .values r (omega arith)))))
       (each-faults same t n y l uses (suc (length t)) 0 []
       (each-map (λ before x. Ex before x × Fi before x) (Both same t n y l uses) first-both [] (linesOf t) (each-both Ex Fi [] (linesOf t) (u .exports) (u .exportsFirst))))

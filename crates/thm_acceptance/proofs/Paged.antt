@@ -329,7 +329,8 @@ pub record LineFine (w : Width) (t : List ℕ) (before : List Line) (x : Line) :
   pub blocks : FewBlocks w t before x
   pub arguments : FewArguments w t before x
 
-record Agree (t : List ℕ) (before : List Line) (y : World) : Type 0 where
+-- the parser's state is what the lines before it say: what is open, its rows, the section, locals and blocks, statements and labels
+pub record Agree (t : List ℕ) (before : List Line) (y : World) : Type 0 where
   pub long : length (y .table) ≡ 8200
   pub low : y .state .top < y .state .count
   pub chain : Chain (y .table) (y .state .top) (openBefore t before)
@@ -357,7 +358,7 @@ ground-some rows m section os (somewhere o bs r e k ch) =
     ifEq-no _ _ (λ z. let y : ⊥ = omega (arith, k .some) in y) ∙ ap (λ (x : Row). groundOf (x .kind)) e ∙ k .ground
 
 module _ (t : List ℕ) (before : List Line) (y : World) (a : Agree t before y) where
-  ground-is : groundIn (y .state) (openRow y) ≡ groundBefore t before
+  pub ground-is : groundIn (y .state) (openRow y) ≡ groundBefore t before
   unfolding groundIn openRow groundBefore
   ground-is =
       ap (λ (g : ℕ). ifEq (y .state .top) 0 g (groundOf (rowAt (y .table) (y .state .top) .kind))) (a .section)
@@ -764,7 +765,8 @@ module _ (w : Width) (t : List ℕ) (n : ℕ) (before : List Line) (y : World) (
         held = record { long = a .long; low = a .low; chain = a .chain };
       }
 
-  agree-next : LineFine w t before x → (k ≡ 0 → ⊥) → Agree t (x ∷ before) (nextWorld t n y)
+  -- and stays so behind a line that breaks no rule
+  pub agree-next : LineFine w t before x → (k ≡ 0 → ⊥) → Agree t (x ∷ before) (nextWorld t n y)
   unfolding nextWorld kindIn advance joinState stateBehind openBefore statementsBefore labelsBefore sectionBefore sectionBehind
   agree-next f d =
       let h = here-is f d in
@@ -833,7 +835,7 @@ module _ (w : Width) (t : List ℕ) (n : ℕ) where
         )
       ])
 
-  begin-agree : Agree t [] (world begin (zeros 8200))
+  pub begin-agree : Agree t [] (world begin (zeros 8200))
   unfolding openBefore statementsBefore sectionBefore labelsBefore blocksIn
   begin-agree =
       record {

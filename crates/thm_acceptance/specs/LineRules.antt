@@ -40,6 +40,10 @@ Operands t kinds P x = (i : ℕ) → x .unit .word < i → i < x .unit .next →
 abbrev pub names : List ℕ
 names = token.symbol ∷ token.atSymbol ∷ []
 
+-- the two that are integers, and the one left out
+abbrev pub knownSubstitutes : List ℕ
+knownSubstitutes = substitute.bitsPerWord ∷ substitute.bytesPerWord ∷ substitute.savedFrameSize ∷ []
+
 abbrev pub substitutes : List ℕ
 substitutes = token.substitute ∷ token.atSubstitute ∷ []
 
@@ -51,7 +55,7 @@ module _ (w : Width) (t : List ℕ) where
   -- 7: "any other substitute is refusal 7"
   abbrev pub SubstitutesKnown : List Line → Line → Type 0
   SubstitutesKnown before x =
-      Operands t substitutes (λ i. isAmong (wordAt t i) (substitute.bitsPerWord ∷ substitute.bytesPerWord ∷ substitute.savedFrameSize ∷ []) ≡ true) x
+      Operands t substitutes (λ i. isAmong (wordAt t i) knownSubstitutes ≡ true) x
 
   -- 8: reserved words, "as a name each is refusal 8, at it"; a line's own word is no name
   abbrev pub NamesFree : List Line → Line → Type 0
