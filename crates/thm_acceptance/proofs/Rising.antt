@@ -19,6 +19,7 @@ use Rattle.parse_outline.specs.Outline.{outlineOf}
 use Rattle.parse_outline.specs.Outline as outline
 use Rattle.parse_outline.specs.declared.Parsed.the-variants as answer
 use Rattle.parse_verdict.specs.Verdict.{All}
+use Rattle.prog_tables.specs.Layout.{callExpression}
 use Rattle.prog_tables.specs.Statement.{rowAt}
 use Rattle.res_skeleton.specs.Skeleton.{skeletonOf}
 use Rattle.res_scope.specs.Lines.{firstToken, endToken}
@@ -237,7 +238,7 @@ module _ (t : List ℕ) (k i e : ℕ) where
   unfolding plainParts
   plain-none h a b = ifTrue-no _ _ h ∙ ifEq-no _ _ a ∙ ifEq-no _ _ b
 
-  plain-call : listsOperands k ≡ false → 11 ≤ k → k < 13 → plainParts k i e ≡ parts 0 (i + 1) (i + 2)
+  plain-call : listsOperands k ≡ false → 11 ≤ k → k < 13 → plainParts k i e ≡ parts callExpression (i + 1) (i + 2)
   unfolding plainParts
   plain-call h a b =
       ifTrue-no _ _ h ∙ elim (ℕ-discrete k 11) [

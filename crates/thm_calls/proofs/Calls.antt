@@ -15,6 +15,7 @@ use Rattle.base_limits.specs.declared.Width.the-variants.{Bits32}
 use Rattle.base_limits.specs.declared.State.{State}
 use Rattle.base_limits.specs.declared.State.the-variants.{Running, Finished, Stopped}
 use Rattle.base_limits.specs.declared.Machine.{Machine}
+use Rattle.prog_tables.specs.Program.{programFrom}
 use Rattle.prog_tables.specs.Label.{Tables, rows}
 use Rattle.check_source.specs.Check.{Lent, checkOf}
 use Rattle.thm_acceptance.specs.Accepts.{isAccepted}
