@@ -22,15 +22,15 @@ use Rattle.thm_acceptance.specs.Lines.{Level, level, outer, withLocal, c
 
 -- ---- facts of kinds, computed
 
-abbrev implies : Bool → Bool → Bool
+abbrev pub implies : Bool → Bool → Bool
 implies true b = b
 implies false b = true
 
-true-is : (b : Bool) → T b → b ≡ true
+pub true-is : (b : Bool) → T b → b ≡ true
 true-is true t = refl
 true-is false t = absurd t
 
-imply : (a b : Bool) → T (implies a b) → a ≡ true → b ≡ true
+pub imply : (a b : Bool) → T (implies a b) → a ≡ true → b ≡ true
 imply true b t e = true-is b t
 imply false b t e = true-false (sym e)
 

@@ -43,7 +43,7 @@ use Rattle.thm_label_rows.proofs.Unit.{line-low}
 use Rattle.thm_acceptance.specs.Lines.{Line, lineFrom, linesFrom, linesOf, EachFrom, EachLine, statementKinds, statementsBefore, labelsAmong, labelCount, labelsBefore, Level, level, openedBy, openedByAll, openBefore, localsIn, blocksIn, sectionBefore, groundAmong, groundBefore}
 use Rattle.thm_acceptance.specs.LineRules.{isReserved, Shaped, SubstitutesKnown, NamesFree, Placed, MayBeLabelled, LabelsFree, NotLeftOut, NoFrameSize, FewStatements, FewLabels, FewLocals, FewBlocks, FewArguments}
 use Rattle.thm_acceptance.proofs.LineRules.{reserved-by, by-reserved, shape-by, by-shape, TokensFree, tokens-by, by-tokens, list-by, by-list}
-use Rattle.thm_acceptance.proofs.Opens.{leaves-high, Link, Chain, closed, within, Somewhere, nowhere, somewhere, where-is, Frame, LocalsAre, Needs, chain-more, Counted, Head, Fit, next-counted, else-if-counted}
+use Rattle.thm_acceptance.proofs.Opens.{implies, imply, leaves-high, Link, Chain, closed, within, Somewhere, nowhere, somewhere, where-is, Frame, LocalsAre, Needs, chain-more, Counted, Head, Fit, next-counted, else-if-counted}
 
 -- ---- a rule that finds nothing
 
@@ -384,18 +384,6 @@ stands-4 = (refl, refl)
 stands-5 : (standsIn 5 .lo ≡ 4) × (standsIn 5 .hi ≡ 6)
 unfolding standsIn statementIn ifEq ifLt
 stands-5 = (refl, refl)
-
-abbrev implies : Bool → Bool → Bool
-implies true b = b
-implies false b = true
-
-true-is : (b : Bool) → T b → b ≡ true
-true-is true t = refl
-true-is false t = absurd t
-
-imply : (a b : Bool) → T (implies a b) → a ≡ true → b ≡ true
-imply true b t e = true-is b t
-imply false b t e = true-false (sym e)
 
 rowHigh : ℕ → Bool
 rowHigh k = implies (leb 2 k) (leb 4 (standsIn k .lo))
