@@ -10,5 +10,6 @@ pub mod Words
 pub mod Whole
 pub mod Unbroken
 pub mod Strong
+pub mod AtLimits
 pub mod Samples
 pub mod Values

@@ -174,6 +174,8 @@ pub record Strong : Type 0 where
   pub goto-scope : wellFormed (at32 (statement frames 13 4 9)) ≡ false
   -- a call to a row that is no function
   pub callee : wellFormed (at32 (statement frames 5 7 2)) ≡ false
+  -- a call to a function without a label: its label moved to the row behind
+  pub callee-label : wellFormed (at32 (label (label frames 0 0 5) 0 1 1)) ≡ false
   -- a call with an argument more
   pub arguments : wellFormed (at32 (statement frames 5 8 2)) ≡ false
   -- an operator with an operand too few
@@ -212,6 +214,10 @@ pub record Strong : Type 0 where
   pub label-function : wellFormed (at32 (label page 1 1 1)) ≡ false
   -- a place label on the `function` row
   pub label-place : wellFormed (at32 (label frames 1 1 0)) ≡ false
+  -- a place label on an else-if jump is good
+  pub label-jump : wellFormed (at32 (label (label arms 0 0 5) 0 1 3)) ≡ true
+  -- and not on the test behind it
+  pub label-test : wellFormed (at32 (label (label arms 0 0 5) 0 1 4)) ≡ false
   -- a data label past the data's end
   pub label-address : wellFormed (at32 (label page 0 1 5)) ≡ false
   -- an empty name
@@ -263,4 +269,4 @@ pub record Strong : Type 0 where
 
 pub strong : Strong
 unfolding ifLt ifEq ifTrue sameList words firstOf isSpelled isNumber entryNamed entryOf numberOf leastOperands statementIn standsIn enters leaves groundOf isFrame all some allOf someOf allBelow someBelow countBelow greatestBelow firstFrom operandOf operandKind operandNumber hasExpression isTest isOperator isCall expressionUses usedBy operandAt slots rowFrom rowAt slotWords encode labelAt isData isFunctionLabel behind openBefore groundIn funcIn scopeIn upIn isListed mayStand followsJump stands allClosed isArm isEndIf nextArm endIfOf pastArm targetOf hasTarget depthOf encloses isIn letsBefore blockNeed needOf frameSize firstLet blockWord letWord letSeen isParameter seenAt inScope localsAt expressionListed inFunction sizeAt operandFault addressListed kindFault targetFault calleeFault sizeFault ownWord hasWord wordFault operandsFault addressFault rowFault labelFault countFault tablesFault shallow aimed labelled jumps calls hasOperands shaped operandGood operandsGood addressGood setsLocal framed fewLocals rowTests names nameGood nameNew labelTests countsGood wellFormed usesWord unusedZero labelUnusedZero zeroFrom canonical
-strong = record { page-good = refl; page-canonical = refl; page-sound = refl; arms-good = refl; arms-canonical = refl; arms-sound = refl; frames-good = refl; frames-canonical = refl; frames-sound = refl; kind = refl; func = refl; scope = refl; up = refl; cut = refl; let-in-if = refl; jump-test = refl; false-test = refl; false-else = refl; else-past = refl; jump = refl; goto-place = refl; goto-scope = refl; callee = refl; arguments = refl; operands = refl; operand-kind = refl; expression = refl; own-word = refl; header = refl; later-let = refl; address = refl; address-slot = refl; let-word = refl; base = refl; end-base = refl; own-lets = refl; before = refl; size = refl; size-small = refl; label-kind = refl; label-function = refl; label-place = refl; label-address = refl; label-empty = refl; label-long = refl; label-reserved = refl; label-twice = refl; fault-word = refl; fault-header = refl; fault-address = refl; fault-address-end = refl; fault-block = refl; fault-size = refl; fault-target = refl; fault-else = refl; fault-goto = refl; fault-callee = refl; fault-arguments = refl; fault-kind = refl; fault-unused = refl; fault-label = refl; fault-label-end = refl; fault-place = refl; fault-name = refl; fault-count = refl; unused = refl }
+strong = record { page-good = refl; page-canonical = refl; page-sound = refl; arms-good = refl; arms-canonical = refl; arms-sound = refl; frames-good = refl; frames-canonical = refl; frames-sound = refl; kind = refl; func = refl; scope = refl; up = refl; cut = refl; let-in-if = refl; jump-test = refl; false-test = refl; false-else = refl; else-past = refl; jump = refl; goto-place = refl; goto-scope = refl; callee = refl; callee-label = refl; arguments = refl; operands = refl; operand-kind = refl; expression = refl; own-word = refl; header = refl; later-let = refl; address = refl; address-slot = refl; let-word = refl; base = refl; end-base = refl; own-lets = refl; before = refl; size = refl; size-small = refl; label-kind = refl; label-function = refl; label-place = refl; label-jump = refl; label-test = refl; label-address = refl; label-empty = refl; label-long = refl; label-reserved = refl; label-twice = refl; fault-word = refl; fault-header = refl; fault-address = refl; fault-address-end = refl; fault-block = refl; fault-size = refl; fault-target = refl; fault-else = refl; fault-goto = refl; fault-callee = refl; fault-arguments = refl; fault-kind = refl; fault-unused = refl; fault-label = refl; fault-label-end = refl; fault-place = refl; fault-name = refl; fault-count = refl; unused = refl }

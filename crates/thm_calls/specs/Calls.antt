@@ -12,7 +12,7 @@ use Rattle.vm_definitions.specs.Step.{World}
 use Rattle.vm_definitions.specs.Start.{startOf}
 use Rattle.vm_definitions.specs.Ledger.{ledgerOf}
 use Rattle.vm_definitions.specs.Play.{Call, start, step, run, Invocation, worldAfter, eventsAfter}
-use Rattle.vm_definitions.specs.Claim.{Sound, AllLong, startedBy}
+use Rattle.vm_definitions.specs.Claim.{Sound, stopMemory, AllLong, startedBy}
 use Rattle.vm_definitions.specs.Lent.{world}
 use Rattle.vm_definitions.specs.declared.Started.the-variants.{Begun}
 use Rattle.c_words.specs.Words.{recordSize}
@@ -85,5 +85,6 @@ HostDemand t bytes =
     → Holds (heldAfter t bytes h (startedFrom name args out h cs))
     (worldAfter (programFrom Bits32 t) bytes (worldOf h) (startedBy name args (worldOf h) (invocations cs)))
     × Sound (programFrom Bits32 t) (ledgerOf (rows t) [] (eventsAfter (programFrom Bits32 t) bytes (worldOf h) (startedBy name args (worldOf h) (invocations cs))))
+    (stopMemory (programFrom Bits32 t) bytes (h .memory) (worldOf h) (startedBy name args (worldOf h) (invocations cs)))
     (worldAfter (programFrom Bits32 t) bytes (worldOf h) (startedBy name args (worldOf h) (invocations cs)))
     × Without35 (numbersAfter t bytes h (startedFrom name args out h cs))

@@ -44,7 +44,7 @@ use Rattle.vm_definitions.proofs.Stores.{store-length}
 use Rattle.vm_definitions.proofs.Causes.{effect-cause}
 use Rattle.vm_definitions.proofs.Listed.{step-listed, step-full, step-full-only}
 use Rattle.vm_definitions.proofs.Begun as start
-use Rattle.vm_definitions.proofs.Lists.{Good, runs, Parts}
+use Rattle.vm_definitions.proofs.Lists.{Good, GoodNow, runs, Parts}
 use Rattle.vm_definitions.proofs.Stepped.{Leads, leads}
 use Rattle.vm_definitions.proofs.Claimed.{demand-holds}
 
@@ -114,9 +114,9 @@ module _ (w : Width) (t : Tables) (good : WellFormed (programFrom w t)) (bytes :
 
     -- an accepted start leaves a good world
     begins : startOf (programFrom w t) bytes name args x ≡ Begun
-        → Good w t (length (x .memory)) (record { func = startedFunction (programFrom w t) bytes name args x; call = none } ∷ []) (startLeaves (programFrom w t) bytes name args x)
+        → (s : List ℕ) → Good w t (length (x .memory)) s (record { func = startedFunction (programFrom w t) bytes name args x; call = none } ∷ []) (startLeaves (programFrom w t) bytes name args x)
     unfolding startLeaves begunBy startWorld freshOf
-    begins q =
+    begins q s =
         runs _ [] (startLeaves (programFrom w t) bytes name args x)
         (ap (λ (a : Started). length (begunBy (programFrom w t) bytes name args x a .memory)) q ∙ store-length (x .memory) 0 _)
         (ap (λ (a : Started). begunBy (programFrom w t) bytes name args x a .machine .state) q)
@@ -130,7 +130,7 @@ module _ (w : Width) (t : Tables) (good : WellFormed (programFrom w t)) (bytes :
         (invariant-sum w t e es x i) (invariant-frame w t e es x i) (λ v r. hand-safe w t good e es x i v)
 
     leads-on : (s : x .machine .state ≡ Running) (y : World) → effectOf (programFrom w t) x ≡ leaves y
-        → Good w t (length (x .memory)) (countedIn (rows t) (x .machine .next) (e ∷ es)) y
+        → GoodNow w t (length (x .memory)) (countedIn (rows t) (x .machine .next) (e ∷ es)) y
     unfolding Leads
     leads-on s y q = subst (Leads w t good e es x s i) q (leads w t good e es x s i)
 

@@ -51,13 +51,17 @@ module _ (w : Width) (t : Tables) (x : World) where
   step-stopped k i e =
       ap (λ (s : State). inState s (guarded x (effectOf (programFrom w t) x) (stepBroken (programFrom w t) (x .machine) (x .stack) (length (x .memory)))) (idle x No)) e
 
--- ---- good worlds: m bytes of memory
+-- ---- good worlds: m bytes of memory; where the world is stopped, the stopped step had the memory s
 
-pub data Good (w : Width) (t : Tables) (m : ℕ) : Ledger → World → Type 0 where
-  runs : (e : Entry) (es : Ledger) (x : World) → length (x .memory) ≡ m → x .machine .state ≡ Running → Invariant w t e es x → Good w t m (e ∷ es) x
+pub data Good (w : Width) (t : Tables) (m : ℕ) (s : List ℕ) : Ledger → World → Type 0 where
+  runs : (e : Entry) (es : Ledger) (x : World) → length (x .memory) ≡ m → x .machine .state ≡ Running → Invariant w t e es x → Good w t m s (e ∷ es) x
   stopsAt : (e : Entry) (es : Ledger) (x : World) (k i : ℕ) → length (x .memory) ≡ m → x .machine .state ≡ Stopped k i → Invariant w t e es x
-      → StopSound (programFrom w t) (e ∷ es) x k i → Good w t m (e ∷ es) x
-  ends : (x : World) (v : ℕ) → length (x .memory) ≡ m → x .machine .state ≡ Finished v → x .machine .used ≡ 0 → Good w t m [] x
+      → StopSound (programFrom w t) (e ∷ es) s x k i → Good w t m s (e ∷ es) x
+  ends : (x : World) (v : ℕ) → length (x .memory) ≡ m → x .machine .state ≡ Finished v → x .machine .used ≡ 0 → Good w t m s [] x
+
+-- a good world with its own memory
+abbrev pub GoodNow : Width → Tables → ℕ → Ledger → World → Type 0
+GoodNow w t m es x = Good w t m (x .memory) es x
 
 -- what is proved of single statements and starts
 pub record Parts (w : Width) (t : Tables) (bytes : List ℕ) : Type 0 where
@@ -67,10 +71,10 @@ pub record Parts (w : Width) (t : Tables) (bytes : List ℕ) : Type 0 where
   pub full : (e : Entry) (es : Ledger) (x : World) → Invariant w t e es x → stackFull (programFrom w t) (e ∷ es) x ≡ true → causeIn (programFrom w t) (e ∷ es) x ≡ 33
   pub fullOnly : (e : Entry) (es : Ledger) (x : World) → Invariant w t e es x → causeIn (programFrom w t) (e ∷ es) x ≡ 33 → stackFull (programFrom w t) (e ∷ es) x ≡ true
   pub kept : (e : Entry) (es : Ledger) (x y : World) → x .machine .state ≡ Running → Invariant w t e es x → effectOf (programFrom w t) x ≡ leaves y
-      → Good w t (length (x .memory)) (countedIn (rows t) (x .machine .next) (e ∷ es)) y
+      → GoodNow w t (length (x .memory)) (countedIn (rows t) (x .machine .next) (e ∷ es)) y
   pub sums : (e : Entry) (es : Ledger) (x : World) → Invariant w t e es x → x .machine .used ≡ sumOf (rows t) (e ∷ es)
   pub begun : (name args : List ℕ) (x : World) → startOf (programFrom w t) bytes name args x ≡ Begun
-      → Good w t (length (x .memory)) (record { func = startedFunction (programFrom w t) bytes name args x; call = none } ∷ []) (startLeaves (programFrom w t) bytes name args x)
+      → (s : List ℕ) → Good w t (length (x .memory)) s (record { func = startedFunction (programFrom w t) bytes name args x; call = none } ∷ []) (startLeaves (programFrom w t) bytes name args x)
   pub unbroken : (name args : List ℕ) (x : World) (b : Broken) → startOf (programFrom w t) bytes name args x ≡ Unsound b → ⊥
   -- a stop's number is no 0
   pub numbered : (e : Entry) (es : Ledger) (x : World) (k : ℕ) → x .machine .state ≡ Running → Invariant w t e es x → effectOf (programFrom w t) x ≡ stops k → 0 < k
@@ -138,14 +142,13 @@ module _ (w : Width) (t : Tables) (bytes : List ℕ) (p : Parts w t bytes) where
 
   -- a stopped statement leaves a good world
   stop-good : (m : ℕ) (e : Entry) (es : Ledger) (x : World) (k : ℕ) → length (x .memory) ≡ m → x .machine .state ≡ Running → Invariant w t e es x
-      → effectOf (programFrom w t) x ≡ stops k → Good w t m (e ∷ es) (effected x (stops k) .world)
+      → effectOf (programFrom w t) x ≡ stops k → GoodNow w t m (e ∷ es) (effected x (stops k) .world)
   unfolding effected stopped runningWith withState causeIn firstCause meetingsOf readsOf effectStop
   stop-good m e es x k l s i q =
       stopsAt e es (effected x (stops k) .world) k (x .machine .next) l refl (with-state w t e es x i (Stopped k (x .machine .next)) (x .memory) refl)
       (record {
         listed = subst Listed (sym met) (p .listed (e ∷ es) x (subst (λ (n : ℕ). 0 < n) met (p .numbered e es x k s i q)));
         at = refl;
-        then = x .memory;
         long = refl;
         met = sym met;
       })
@@ -154,58 +157,58 @@ module _ (w : Width) (t : Tables) (bytes : List ℕ) (p : Parts w t bytes) where
       met = sym (ap effectStop q) ∙ p .cause e es x i
 
   module _ (m : ℕ) where
-    pub step-whole : (es : Ledger) (x : World) → Good w t m es x → stepOf (programFrom w t) x .broken ≡ No
+    pub step-whole : (s : List ℕ) (es : Ledger) (x : World) → Good w t m s es x → stepOf (programFrom w t) x .broken ≡ No
     unfolding idle
-    step-whole _ _ (runs e es x l s i) = ap (λ (y : After). y .broken) (runs-as e es x s i) ∙ effected-whole x (effectOf (programFrom w t) x)
-    step-whole _ _ (stopsAt e es x k n l s i g) = ap (λ (y : After). y .broken) (step-stopped w t x k n s)
-    step-whole _ _ (ends x v l s u) = ap (λ (y : After). y .broken) (step-finished w t x v s)
+    step-whole _ _ _ (runs e es x l s i) = ap (λ (y : After). y .broken) (runs-as e es x s i) ∙ effected-whole x (effectOf (programFrom w t) x)
+    step-whole _ _ _ (stopsAt e es x k n l s i g) = ap (λ (y : After). y .broken) (step-stopped w t x k n s)
+    step-whole _ _ _ (ends x v l s u) = ap (λ (y : After). y .broken) (step-finished w t x v s)
 
     -- a step that counts nothing
-    pub step-zero : (es : Ledger) (x : World) → Good w t m es x → stepOf (programFrom w t) x .count ≡ 0 → Good w t m es (stepOf (programFrom w t) x .world)
+    pub step-zero : (es : Ledger) (x : World) → GoodNow w t m es x → stepOf (programFrom w t) x .count ≡ 0 → GoodNow w t m es (stepOf (programFrom w t) x .world)
     unfolding idle
     step-zero _ _ (runs e es x l s i) z = go (effectOf (programFrom w t) x) refl
       where
-        go : (f : Effect) → effectOf (programFrom w t) x ≡ f → Good w t m (e ∷ es) (stepOf (programFrom w t) x .world)
+        go : (f : Effect) → effectOf (programFrom w t) x ≡ f → GoodNow w t m (e ∷ es) (stepOf (programFrom w t) x .world)
         go (stops k) q =
-            subst (λ (y : After). Good w t m (e ∷ es) (y .world)) (sym (runs-as e es x s i ∙ ap (effected x) q)) (stop-good m e es x k l s i q)
+            subst (λ (y : After). GoodNow w t m (e ∷ es) (y .world)) (sym (runs-as e es x s i ∙ ap (effected x) q)) (stop-good m e es x k l s i q)
         go (leaves y) q =
             absurd
             (let c : stepOf (programFrom w t) x .count ≡ 1 = ap (λ (y : After). y .count) (runs-as e es x s i ∙ ap (effected x) q) ∙ effected-count x y in omega (arith, c, z))
     step-zero _ _ (stopsAt e es x k n l s i g) z =
-        subst (λ (y : After). Good w t m (e ∷ es) (y .world)) (sym (step-stopped w t x k n s)) (stopsAt e es x k n l s i g)
-    step-zero _ _ (ends x v l s u) z = subst (λ (y : After). Good w t m [] (y .world)) (sym (step-finished w t x v s)) (ends x v l s u)
+        subst (λ (y : After). GoodNow w t m (e ∷ es) (y .world)) (sym (step-stopped w t x k n s)) (stopsAt e es x k n l s i g)
+    step-zero _ _ (ends x v l s u) z = subst (λ (y : After). GoodNow w t m [] (y .world)) (sym (step-finished w t x v s)) (ends x v l s u)
 
     -- a step that counts
-    pub step-one : (es : Ledger) (x : World) → Good w t m es x → (stepOf (programFrom w t) x .count ≡ 0 → ⊥)
-        → Good w t m (countedIn (rows t) (x .machine .next) es) (stepOf (programFrom w t) x .world)
+    pub step-one : (es : Ledger) (x : World) → GoodNow w t m es x → (stepOf (programFrom w t) x .count ≡ 0 → ⊥)
+        → GoodNow w t m (countedIn (rows t) (x .machine .next) es) (stepOf (programFrom w t) x .world)
     unfolding idle
     step-one _ _ (runs e es x l s i) z = go (effectOf (programFrom w t) x) refl
       where
-        go : (f : Effect) → effectOf (programFrom w t) x ≡ f → Good w t m (countedIn (rows t) (x .machine .next) (e ∷ es)) (stepOf (programFrom w t) x .world)
+        go : (f : Effect) → effectOf (programFrom w t) x ≡ f → GoodNow w t m (countedIn (rows t) (x .machine .next) (e ∷ es)) (stepOf (programFrom w t) x .world)
         go (stops k) q = absurd (z (ap (λ (y : After). y .count) (runs-as e es x s i ∙ ap (effected x) q) ∙ effected-stop x k))
         go (leaves y) q =
-            subst (λ (y : World). Good w t m (countedIn (rows t) (x .machine .next) (e ∷ es)) y)
+            subst (λ (y : World). GoodNow w t m (countedIn (rows t) (x .machine .next) (e ∷ es)) y)
             (sym (ap (λ (y : After). y .world) (runs-as e es x s i ∙ ap (effected x) q) ∙ effected-world x y))
-            (subst (λ (n : ℕ). Good w t n (countedIn (rows t) (x .machine .next) (e ∷ es)) y) l (p .kept e es x y s i q))
+            (subst (λ (n : ℕ). GoodNow w t n (countedIn (rows t) (x .machine .next) (e ∷ es)) y) l (p .kept e es x y s i q))
     step-one _ _ (stopsAt e es x k n l s i g) z = absurd (z (ap (λ (y : After). y .count) (step-stopped w t x k n s)))
     step-one _ _ (ends x v l s u) z = absurd (z (ap (λ (y : After). y .count) (step-finished w t x v s)))
 
     -- ---- runs
 
     pub record RunGood (b : ℕ) (es : Ledger) (x : World) : Type 0 where
-      pub good : Good w t m (ledgerOf (rows t) es (eventsOf (programFrom w t) b x)) (runOf (programFrom w t) b x .world)
+      pub good : GoodNow w t m (ledgerOf (rows t) es (eventsOf (programFrom w t) b x)) (runOf (programFrom w t) b x .world)
       pub whole : runOf (programFrom w t) b x .broken ≡ No
 
-    pub run-good : (b : ℕ) (es : Ledger) (x : World) → Good w t m es x → RunGood b es x
+    pub run-good : (b : ℕ) (es : Ledger) (x : World) → GoodNow w t m es x → RunGood b es x
     unfolding runOf eventsOf ledgerOf idle counting fed
     run-good zero es x g = record { good = g; whole = refl }
     run-good (suc b) es x g =
         elim (ℕ-discrete (stepOf (programFrom w t) x .count) 0) [
           | yes z ↦ record {
             good =
-                subst (λ (vs : List Event). Good w t m (ledgerOf (rows t) es vs) (runOf (programFrom w t) (suc b) x .world)) (sym (ifEq-yes [] (counted (x .machine .next) ∷ eventsOf (programFrom w t) b (stepOf (programFrom w t) x .world)) z))
-                (subst (λ (y : After). Good w t m es (y .world)) (sym (ifEq-yes (stepOf (programFrom w t) x) (counting 1 (runOf (programFrom w t) b (stepOf (programFrom w t) x .world))) z)) (step-zero es x g z));
-            whole = ap (λ (y : After). y .broken) (ifEq-yes (stepOf (programFrom w t) x) (counting 1 (runOf (programFrom w t) b (stepOf (programFrom w t) x .world))) z) ∙ step-whole es x g;
+                subst (λ (vs : List Event). GoodNow w t m (ledgerOf (rows t) es vs) (runOf (programFrom w t) (suc b) x .world)) (sym (ifEq-yes [] (counted (x .machine .next) ∷ eventsOf (programFrom w t) b (stepOf (programFrom w t) x .world)) z))
+                (subst (λ (y : After). GoodNow w t m es (y .world)) (sym (ifEq-yes (stepOf (programFrom w t) x) (counting 1 (runOf (programFrom w t) b (stepOf (programFrom w t) x .world))) z)) (step-zero es x g z));
+            whole = ap (λ (y : After). y .broken) (ifEq-yes (stepOf (programFrom w t) x) (counting 1 (runOf (programFrom w t) b (stepOf (programFrom w t) x .world))) z) ∙ step-whole (x .memory) es x g;
           }
           | no z ↦ onward z (run-good b (countedIn (rows t) (x .machine .next) es) (stepOf (programFrom w t) x .world) (step-one es x g z))
         ]
@@ -214,8 +217,8 @@ module _ (w : Width) (t : Tables) (bytes : List ℕ) (p : Parts w t bytes) where
         onward z r =
             record {
               good =
-                  subst (λ (vs : List Event). Good w t m (ledgerOf (rows t) es vs) (runOf (programFrom w t) (suc b) x .world)) (sym (ifEq-no [] (counted (x .machine .next) ∷ eventsOf (programFrom w t) b (stepOf (programFrom w t) x .world)) z))
-                  (subst (λ (y : After). Good w t m (ledgerOf (rows t) (countedIn (rows t) (x .machine .next) es) (eventsOf (programFrom w t) b (stepOf (programFrom w t) x .world))) (y .world))
+                  subst (λ (vs : List Event). GoodNow w t m (ledgerOf (rows t) es vs) (runOf (programFrom w t) (suc b) x .world)) (sym (ifEq-no [] (counted (x .machine .next) ∷ eventsOf (programFrom w t) b (stepOf (programFrom w t) x .world)) z))
+                  (subst (λ (y : After). GoodNow w t m (ledgerOf (rows t) (countedIn (rows t) (x .machine .next) es) (eventsOf (programFrom w t) b (stepOf (programFrom w t) x .world))) (y .world))
                   (sym (ifEq-no (stepOf (programFrom w t) x) (counting 1 (runOf (programFrom w t) b (stepOf (programFrom w t) x .world))) z)) (r .good));
               whole = ap (λ (y : After). y .broken) (ifEq-no (stepOf (programFrom w t) x) (counting 1 (runOf (programFrom w t) b (stepOf (programFrom w t) x .world))) z) ∙ r .whole;
             }

@@ -32,7 +32,7 @@ use Rattle.vm_definitions.proofs.Kept.{Kept, kept-next, kept-goto, kept
 use Rattle.vm_definitions.proofs.Called.{kept-call, kept-tail-call}
 use Rattle.vm_definitions.proofs.Returned.{Back, finishing, goingBack, Returns, return-ledger, returns-of}
 use Rattle.vm_definitions.proofs.Effects.{Fine, Numbered, fine-numbered, fine-goes, fine-block, fine-end-block, fine-test, fine-assigned, some-worked, fine-set-at, fine-set-byte, fine-set-word, fine-call, fine-tail-call, numbered-return}
-use Rattle.vm_definitions.proofs.Lists.{Good, runs, ends}
+use Rattle.vm_definitions.proofs.Lists.{Good, GoodNow, runs, ends}
 
 -- ---- kinds
 
@@ -86,20 +86,20 @@ module _ (w : Width) (t : Tables) (good : WellFormed (programFrom w t)) (e : Ent
   -- it stops with a number, or leaves a good world
   unfoldable pub Leads : Effect → Type 0
   Leads (stops k) = 0 < k
-  Leads (leaves y) = Good w t (length (x .memory)) (countedIn (rows t) (x .machine .next) (e ∷ es)) y
+  Leads (leaves y) = GoodNow w t (length (x .memory)) (countedIn (rows t) (x .machine .next) (e ∷ es)) y
 
   leads-kept : (d : Entry) (ds : Ledger) → countedIn (rows t) (x .machine .next) (e ∷ es) ≡ d ∷ ds → (f : Effect) → Kept w t d ds f → Fine x f → Leads f
   unfolding Leads Kept Fine
   leads-kept d ds q (stops k) a b = b
-  leads-kept d ds q (leaves y) a (u, v) = subst (λ (p : Ledger). Good w t (length (x .memory)) p y) (sym q) (runs d ds y v (u ∙ s) a)
+  leads-kept d ds q (leaves y) a (u, v) = subst (λ (p : Ledger). GoodNow w t (length (x .memory)) p y) (sym q) (runs d ds y v (u ∙ s) a)
 
   leads-back : isReturn row ≡ true → (f : Effect) → Returns w t (popped (rows t) (e ∷ es)) x f → Numbered f → Leads f
   unfolding Leads Returns Numbered
   leads-back b (stops k) a n = n
   leads-back b (leaves y) (finishing v q u z m) n =
-      subst (λ (p : Ledger). Good w t (length (x .memory)) p y) (sym (return-ledger (rows t) (x .machine .next) (e ∷ es) b ∙ q)) (ends y v m u z)
+      subst (λ (p : Ledger). GoodNow w t (length (x .memory)) p y) (sym (return-ledger (rows t) (x .machine .next) (e ∷ es) b ∙ q)) (ends y v m u z)
   leads-back b (leaves y) (goingBack d ds q j u m) n =
-      subst (λ (p : Ledger). Good w t (length (x .memory)) p y) (sym (return-ledger (rows t) (x .machine .next) (e ∷ es) b ∙ q)) (runs d ds y m (u ∙ s) j)
+      subst (λ (p : Ledger). GoodNow w t (length (x .memory)) p y) (sym (return-ledger (rows t) (x .machine .next) (e ∷ es) b ∙ q)) (runs d ds y m (u ∙ s) j)
 
   -- the ledger stays
   same : isCalling row ≡ false → isReturn row ≡ false → (row .kind ≡ 12 → ⊥) → countedIn (rows t) (x .machine .next) (e ∷ es) ≡ e ∷ es

@@ -5,6 +5,7 @@ use Prim.Native.Nat.{ℕ, _≤_, _<_}
 use mathlib.Core.Bool.{Bool, true, false}
 use mathlib.Core.List.{List, [], _∷_}
 use lib.ListN.{length}
+use Rattle.base_prelude.specs.Choice.{ifTrue}
 use Rattle.base_limits.specs.declared.State.{State}
 use Rattle.base_limits.specs.declared.State.the-variants.{Running, Finished, Stopped}
 use Rattle.base_limits.specs.Record.{stopped, withState}
@@ -14,7 +15,7 @@ use Rattle.vm_definitions.specs.Step.{World, After, stepOf}
 use Rattle.vm_definitions.specs.Start.{startOf}
 use Rattle.vm_definitions.specs.Causes.{firstCause, argumentsRead, passesStack}
 use Rattle.vm_definitions.specs.Ledger.{Ledger, ledgerOf, sumOf, lastOf}
-use Rattle.vm_definitions.specs.Play.{Invocation, start, worldAfter, eventsAfter, refusalsAfter}
+use Rattle.vm_definitions.specs.Play.{Invocation, start, invokedOn, worldAfter, eventsAfter, refusalsAfter}
 use Rattle.vm_definitions.specs.declared.Broken.{Broken}
 use Rattle.vm_definitions.specs.declared.Broken.the-variants.{No}
 use Rattle.vm_definitions.specs.declared.Started.the-variants.{Begun}
@@ -61,32 +62,44 @@ pub record StepSound (p : Program) (es : Ledger) (x : World) : Type 0 where
   pub full : stackFull p es x ≡ true → causeIn p es x ≡ 33
   pub fullOnly : causeIn p es x ≡ 33 → stackFull p es x ≡ true
 
--- "or has stopped for one of the five listed causes": at its statement, for the first cause it met with the memory of that time
-pub record StopSound (p : Program) (es : Ledger) (x : World) (k i : ℕ) : Type 0 where
+-- "or has stopped for one of the five listed causes": at its statement, for the first cause it met with s, the memory that the
+-- stopped step had
+pub record StopSound (p : Program) (es : Ledger) (s : List ℕ) (x : World) (k i : ℕ) : Type 0 where
   pub listed : Listed k
   pub at : i ≡ x .machine .next
-  pub then : List ℕ
-  pub long : length then ≡ length (x .memory)
-  pub met : causeIn p es (runningWith x then) ≡ k
+  pub long : length s ≡ length (x .memory)
+  pub met : causeIn p es (runningWith x s) ≡ k
 
 -- what a state promises: "for any memory of that length" where it runs
-unfoldable pub StateSound : Program → Ledger → World → State → Type 0
-StateSound p es x Running = (m : List ℕ) → length m ≡ length (x .memory) → StepSound p es (runningWith x m)
-StateSound p es x (Finished v) = es ≡ []
-StateSound p es x (Stopped k i) = StopSound p es x k i
+unfoldable pub StateSound : Program → Ledger → List ℕ → World → State → Type 0
+StateSound p es s x Running = (m : List ℕ) → length m ≡ length (x .memory) → StepSound p es (runningWith x m)
+StateSound p es s x (Finished v) = es ≡ []
+StateSound p es s x (Stopped k i) = StopSound p es s x k i
 
 unfoldable pub isFinished : State → Bool
 isFinished Running = false
 isFinished (Finished v) = true
 isFinished (Stopped k i) = false
 
--- the demand of one world
-pub record Sound (p : Program) (es : Ledger) (x : World) : Type 0 where
+-- the demand of one world, s being the memory that its stopped step had
+pub record Sound (p : Program) (es : Ledger) (s : List ℕ) (x : World) : Type 0 where
   -- "the machine has finished, exactly when no function is open in the ledger of 01": one half is in its state
   pub finished : es ≡ [] → isFinished (x .machine .state) ≡ true
-  pub state : StateSound p es x (x .machine .state)
+  pub state : StateSound p es s x (x .machine .state)
   -- "The stack in use is the sum of the frame sizes of the functions open in the ledger."
   pub used : x .machine .used ≡ sumOf (p .rows) es
+
+-- The memory that a stopped step had, after a call that leaves world y of world x, s being that memory before the call. A stop
+-- changes no memory, so a call that stops leaves it in y. A call that finds the record stopped and leaves it stopped has no step:
+-- the memory stays s, whatever memory the call finds.
+unfoldable pub stopMemoryIn : List ℕ → World → World → List ℕ
+stopMemoryIn s x y = ifTrue (both (isStopped (x .machine .state)) (isStopped (y .machine .state))) s (y .memory)
+
+-- the same after a list of invocations from world x
+unfoldable pub stopMemory : Program → List ℕ → List ℕ → World → List Invocation → List ℕ
+stopMemory p bytes s x [] = s
+stopMemory p bytes s x (c ∷ cs) =
+    stopMemory p bytes (stopMemoryIn s x (invokedOn p bytes c x .world)) (invokedOn p bytes c x .world) cs
 
 -- "its length stays": every memory of some invocations has n bytes
 unfoldable pub AllLong : ℕ → List Invocation → Type 0
@@ -107,5 +120,6 @@ startedBy name args x cs = record { call = start name args; memory = x .memory }
 unfoldable pub Demand : Program → List ℕ → Type 0
 Demand p bytes =
     (x : World) (name args : List ℕ) (cs : List Invocation) → startOf p bytes name args x ≡ Begun → AllLong (length (x .memory)) cs
-    → Sound p (ledgerOf (p .rows) [] (eventsAfter p bytes x (startedBy name args x cs))) (worldAfter p bytes x (startedBy name args x cs))
+    → Sound p (ledgerOf (p .rows) [] (eventsAfter p bytes x (startedBy name args x cs)))
+    (stopMemory p bytes (x .memory) x (startedBy name args x cs)) (worldAfter p bytes x (startedBy name args x cs))
     × NoneBroken (refusalsAfter p bytes x (startedBy name args x cs))
