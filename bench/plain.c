@@ -118,7 +118,7 @@ static bool row_good(const struct program *p, const uint32_t *row, uint32_t size
         return target_good(p, row);
     case 11:
     case 12:
-        return call_good(p, row, size);
+        return row[6] == 2 && call_good(p, row, size);
     case 13:
         return row[6] == 0 || expression_good(p, row, size);
     case 14:

@@ -203,7 +203,7 @@ pub fn bits_of(w: Width) -> u32
     ensures { λ r. ⌜ r ≡ bitsOf w ⌝ }
 {
     match w {
-        Width::Bits32 => 32,
+        Width::Bits32 => Machine::WORD_BITS,
         Width::Bits16 => 16,
     }
 }
