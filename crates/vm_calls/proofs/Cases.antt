@@ -107,7 +107,7 @@ module _ (t : List ℕ) (c : ℕ) (r : Machine) (st m : List ℕ) where
 
   -- ---- `set @` with a call
 
-  module _ (y : Operand) (a : ℕ) (b : Bool) (e : y ≡ rowAt t (r .next) .address) (d : a ≡ numberIn st (r .frame) y) (i : b ≡ wordGood Bits32 (length m) a) where
+  module _ (y : Operand) (a : ℕ) (b : Bool) (e : y ≡ rowAt t (r .next) .address) (d : a ≡ numberIn Bits32 st (r .frame) y) (i : b ≡ wordGood Bits32 (length m) a) where
     pub at-good : (o : Outcome) (st′ : List ℕ) → b ≡ true → left o st′ m ≡ after calling t c r st m → left o st′ m ≡ after atCalling t c r st m
     unfolding ifTrue
     at-good o st′ h q = rw (← e, ← d, ← i, h) q
@@ -119,7 +119,7 @@ module _ (t : List ℕ) (c : ℕ) (r : Machine) (st m : List ℕ) where
   -- ---- a value handed to the call at row i, whose frame is at s
 
   module _ (v i s k : ℕ) (q : Machine) (o : Outcome) (e : k ≡ rowAt t i .kind) where
-    module _ (y : Operand) (a : ℕ) (b : Bool) (z : k ≡ 7) (d : y ≡ rowAt t i .address) (j : a ≡ numberIn st s y) (g : b ≡ wordGood Bits32 (length m) a) where
+    module _ (y : Operand) (a : ℕ) (b : Bool) (z : k ≡ 7) (d : y ≡ rowAt t i .address) (j : a ≡ numberIn Bits32 st s y) (g : b ≡ wordGood Bits32 (length m) a) where
       pub to-memory : (m′ : List ℕ) → b ≡ true → m′ ≡ storeFrom m a (wordBytes 4 v) → o ≡ oneStep q → left o st m′ ≡ after (handingTo v i s q) t c r st m
       unfolding handedTo effected ifEq ifTrue
       to-memory m′ h x w = rw (← e, eq-eqb _ _ z, ← d, ← j, ← g, h, x, w)

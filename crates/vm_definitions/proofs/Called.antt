@@ -121,10 +121,10 @@ module _ (w : Width) (t : Tables) (good : WellFormed (programFrom w t)) (e : Ent
       own = ap (λ (y : ℕ). rows t y .a) (i .frame .func)
 
       number : rows t (x .machine .next) .kind ≡ 7
-          → numberIn (calledStack vs) (callerFrame (calledStack vs) (x .machine .used)) (rows t (x .machine .next) .address) ≡ numberIn (x .stack) (x .machine .frame) (rows t (x .machine .next) .address)
+          → numberIn w (calledStack vs) (callerFrame (calledStack vs) (x .machine .used)) (rows t (x .machine .next) .address) ≡ numberIn w (x .stack) (x .machine .frame) (rows t (x .machine .next) .address)
       number k =
-          ap (λ (y : ℕ). numberIn (calledStack vs) y (rows t (x .machine .next) .address)) caller
-          ∙ number-same (x .stack) (calledStack vs) (x .machine .frame) (rows t (rows t (x .machine .next) .func) .a) (t .dataLength) (x .machine .used) (rows t (x .machine .next) .address)
+          ap (λ (y : ℕ). numberIn w (calledStack vs) y (rows t (x .machine .next) .address)) caller
+          ∙ number-same w (x .stack) (calledStack vs) (x .machine .frame) (rows t (rows t (x .machine .next) .func) .a) (t .dataLength) (x .machine .used) (rows t (x .machine .next) .address)
           (address-words w t good (x .machine .next) (i .frame .within) k .whole) (omega (arith, own, i .ends)) below
 
       head : Head w t (length (x .memory)) (calledStack vs) (x .machine .next) (e .func) (x .machine .used)
