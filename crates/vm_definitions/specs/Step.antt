@@ -156,7 +156,7 @@ module _ (p : Program) (x : World) where
       (leaves
       (record {
         machine = movedTo (x .machine) (suc (rowOf .callee)) (x .machine .used) (x .machine .used + calleeSize) (x .machine .top);
-        stack = storeFrom (x .stack) (x .machine .used) (frameWords (x .machine .next) frameOf (x .machine .top) vs calleeSize);
+        stack = storeFrom (x .stack) (x .machine .used) (frameWords w (x .machine .next) frameOf (x .machine .top) vs calleeSize);
         memory = x .memory;
       }))
   callBy bad = stops 32
@@ -176,7 +176,7 @@ module _ (p : Program) (x : World) where
         machine = movedTo (x .machine) (suc (rowOf .callee)) frameOf (frameOf + calleeSize) (topAtEntry (x .stack) frameOf);
         stack =
             storeFrom (x .stack) frameOf
-            (frameWords (returnsTo (x .stack) frameOf) (callerFrame (x .stack) frameOf) (topAtEntry (x .stack) frameOf) vs calleeSize);
+            (frameWords w (returnsTo (x .stack) frameOf) (callerFrame (x .stack) frameOf) (topAtEntry (x .stack) frameOf) vs calleeSize);
         memory = x .memory;
       }))
   tailCallBy bad = stops 32
