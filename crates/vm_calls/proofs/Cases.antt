@@ -34,10 +34,10 @@ pub entered : (r q : Machine) (o : Outcome) (g at used top : ℕ) → q ≡ move
 entered r q o g at used top e d = d ∙ ap oneStep (e ∙ ap (λ (n : ℕ). movedTo r n at used top) (one-more g))
 
 -- the part of the words from 0 on
-pub built : (st st′ ws : List ℕ) (k at back below top size : ℕ) → st′ ≡ storeFrom st at (frameWords back below top (take (k - 0) ws) size)
-    → st′ ≡ storeFrom st at (frameWords back below top (take k ws) size)
+pub built : (st st′ ws : List ℕ) (k at back below top size : ℕ) → st′ ≡ storeFrom st at (frameWords Bits32 back below top (take (k - 0) ws) size)
+    → st′ ≡ storeFrom st at (frameWords Bits32 back below top (take k ws) size)
 built st st′ ws k at back below top size e =
-    let z : k - 0 ≡ k = omega arith in e ∙ ap (λ (n : ℕ). storeFrom st at (frameWords back below top (take n ws) size)) z
+    let z : k - 0 ≡ k = omega arith in e ∙ ap (λ (n : ℕ). storeFrom st at (frameWords Bits32 back below top (take n ws) size)) z
 
 -- a return of which all frames are good resumes below the last row
 pub resumed-low : (t : List ℕ) (c m : ℕ) (st : List ℕ) (a : ℕ) (l : Resumption) (i s used top : ℕ) → leavesGood Bits32 (rowAt t) c m st (suc a) a ≡ true
@@ -51,8 +51,8 @@ module _ (r : Machine) (st : List ℕ) (g size top : ℕ) (q : top ≡ getD st (
   kept-top o p = p ∙ ap (λ (z : ℕ). oneStep (movedTo r (suc g) (r .frame) (r .frame + size) z)) q
 
   pub kept-head : (st′ ws : List ℕ) (back below : ℕ) → back ≡ getD st (r .frame) 0 → below ≡ getD st (r .frame + 1) 0
-      → st′ ≡ storeFrom st (r .frame) (frameWords back below top ws size)
-      → st′ ≡ storeFrom st (r .frame) (frameWords (returnsTo st (r .frame)) (callerFrame st (r .frame)) (topAtEntry st (r .frame)) ws size)
+      → st′ ≡ storeFrom st (r .frame) (frameWords Bits32 back below top ws size)
+      → st′ ≡ storeFrom st (r .frame) (frameWords Bits32 (returnsTo st (r .frame)) (callerFrame st (r .frame)) (topAtEntry st (r .frame)) ws size)
   kept-head st′ ws back below e d p = rw (← e, ← d, ← q) p
 
 module _ (t : List ℕ) (c : ℕ) (r : Machine) (st m : List ℕ) where
@@ -67,7 +67,7 @@ module _ (t : List ℕ) (c : ℕ) (r : Machine) (st m : List ℕ) where
     push-full h q = rw (← size-is, lt-ltb _ _ h, q)
 
     pub push-fits : (st′ : List ℕ) → r .used + size ≤ length st → o ≡ oneStep (movedTo r (suc g) (r .used) (r .used + size) (r .top))
-        → st′ ≡ storeFrom st (r .used) (frameWords (r .next) (r .frame) (r .top) (take k ws) size)
+        → st′ ≡ storeFrom st (r .used) (frameWords Bits32 (r .next) (r .frame) (r .top) (take k ws) size)
         → left o st′ m ≡ after (callingWith (wordsIn true ws k)) t c r st m
     unfolding callBy effected ifLt ifTrue
     push-fits st′ h j s = rw (← size-is, ← e, le-ltb _ _ h, j, s)
@@ -77,7 +77,7 @@ module _ (t : List ℕ) (c : ℕ) (r : Machine) (st m : List ℕ) where
     replace-full h q = rw (← size-is, lt-ltb _ _ h, q)
 
     pub replace-fits : (st′ : List ℕ) → r .frame + size ≤ length st → o ≡ oneStep (movedTo r (suc g) (r .frame) (r .frame + size) (topAtEntry st (r .frame)))
-        → st′ ≡ storeFrom st (r .frame) (frameWords (returnsTo st (r .frame)) (callerFrame st (r .frame)) (topAtEntry st (r .frame)) (take k ws) size)
+        → st′ ≡ storeFrom st (r .frame) (frameWords Bits32 (returnsTo st (r .frame)) (callerFrame st (r .frame)) (topAtEntry st (r .frame)) (take k ws) size)
         → left o st′ m ≡ after (tailCallingWith (wordsIn true ws k)) t c r st m
     unfolding tailCallBy effected ifLt ifTrue
     replace-fits st′ h j s = rw (← size-is, ← e, le-ltb _ _ h, j, s)
@@ -107,7 +107,7 @@ module _ (t : List ℕ) (c : ℕ) (r : Machine) (st m : List ℕ) where
 
   -- ---- `set @` with a call
 
-  module _ (y : Operand) (a : ℕ) (b : Bool) (e : y ≡ rowAt t (r .next) .address) (d : a ≡ numberIn st (r .frame) y) (i : b ≡ wordGood Bits32 (length m) a) where
+  module _ (y : Operand) (a : ℕ) (b : Bool) (e : y ≡ rowAt t (r .next) .address) (d : a ≡ numberIn Bits32 st (r .frame) y) (i : b ≡ wordGood Bits32 (length m) a) where
     pub at-good : (o : Outcome) (st′ : List ℕ) → b ≡ true → left o st′ m ≡ after calling t c r st m → left o st′ m ≡ after atCalling t c r st m
     unfolding ifTrue
     at-good o st′ h q = rw (← e, ← d, ← i, h) q
@@ -119,7 +119,7 @@ module _ (t : List ℕ) (c : ℕ) (r : Machine) (st m : List ℕ) where
   -- ---- a value handed to the call at row i, whose frame is at s
 
   module _ (v i s k : ℕ) (q : Machine) (o : Outcome) (e : k ≡ rowAt t i .kind) where
-    module _ (y : Operand) (a : ℕ) (b : Bool) (z : k ≡ 7) (d : y ≡ rowAt t i .address) (j : a ≡ numberIn st s y) (g : b ≡ wordGood Bits32 (length m) a) where
+    module _ (y : Operand) (a : ℕ) (b : Bool) (z : k ≡ 7) (d : y ≡ rowAt t i .address) (j : a ≡ numberIn Bits32 st s y) (g : b ≡ wordGood Bits32 (length m) a) where
       pub to-memory : (m′ : List ℕ) → b ≡ true → m′ ≡ storeFrom m a (wordBytes 4 v) → o ≡ oneStep q → left o st m′ ≡ after (handingTo v i s q) t c r st m
       unfolding handedTo effected ifEq ifTrue
       to-memory m′ h x w = rw (← e, eq-eqb _ _ z, ← d, ← j, ← g, h, x, w)

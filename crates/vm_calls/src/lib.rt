@@ -151,7 +151,7 @@ fn enter(
     st: &mut [u32],
 ) -> Outcome
     requires { ⌜ (k ≤ operandSlots) × (g < greatestWord) × (at + size ≤ stackWords) ⌝ }
-    ensures { λ o. ⌜ (o ≡ oneStep (movedTo r (suc g) at (at + size) top)) × (now (st .exit) ≡ storeFrom (now (st .entry)) at (frameWords back below top (take k words) size)) ⌝ }
+    ensures { λ o. ⌜ (o ≡ oneStep (movedTo r (suc g) at (at + size) top)) × (now (st .exit) ≡ storeFrom (now (st .entry)) at (frameWords Bits32 back below top (take k words) size)) ⌝ }
 {
     let to = k as usize;
     vm_memory::build_frame(st, at, back, below, top, &words[0..to], size);
@@ -224,7 +224,7 @@ fn enter_again(
     st: &mut [u32],
 ) -> Outcome
     requires { ⌜ (k ≤ operandSlots) × (g < greatestWord) × (r .frame + size ≤ stackWords) ⌝ }
-    ensures { λ o. ⌜ (o ≡ oneStep (movedTo r (suc g) (r .frame) (r .frame + size) (topAtEntry (now (st .entry)) (r .frame)))) × (now (st .exit) ≡ storeFrom (now (st .entry)) (r .frame) (frameWords (returnsTo (now (st .entry)) (r .frame)) (callerFrame (now (st .entry)) (r .frame)) (topAtEntry (now (st .entry)) (r .frame)) (take k words) size)) ⌝ }
+    ensures { λ o. ⌜ (o ≡ oneStep (movedTo r (suc g) (r .frame) (r .frame + size) (topAtEntry (now (st .entry)) (r .frame)))) × (now (st .exit) ≡ storeFrom (now (st .entry)) (r .frame) (frameWords Bits32 (returnsTo (now (st .entry)) (r .frame)) (callerFrame (now (st .entry)) (r .frame)) (topAtEntry (now (st .entry)) (r .frame)) (take k words) size)) ⌝ }
 {
     let s = r.frame;
     let at = s as usize;

@@ -4,7 +4,7 @@ use mathlib.Core.Path.{_≡_, refl}
 use Prim.Native.Nat.{ℕ, zero, suc}
 use mathlib.Core.List.{List, [], _∷_, _++_}
 use lib.ListN.{length, replicate}
-use Rattle.base_limits.specs.declared.Width.the-variants.{Bits32}
+use Rattle.base_limits.specs.declared.Width.the-variants.{Bits32, Bits16}
 use Rattle.base_limits.specs.declared.State.the-variants.{Running, Finished, Stopped}
 use Rattle.prog_tables.specs.Label.{Tables, rows}
 use Rattle.prog_tables.specs.Program.{programFrom}
@@ -16,6 +16,10 @@ use Rattle.base_limits.specs.Record.{freshOf}
 use Rattle.vm_definitions.specs.declared.Started.the-variants.{Begun, Refused, Unsound}
 use Rattle.base_prelude.specs.Choice as m1
 use Rattle.prog_tables.specs.Statement as m10
+use Rattle.prog_tables.specs.declared.Operand.the-variants.{Constant}
+use Rattle.vm_definitions.specs.Access.{asWord}
+use Rattle.vm_definitions.specs.Operands.{numberIn}
+use Rattle.vm_definitions.specs.Frames.{frameWords}
 use Rattle.vm_definitions.specs.Frames as m15
 use Rattle.vm_definitions.specs.Step.{World, After, runOf}
 use Rattle.vm_definitions.specs.Start.{startOf, startLeaves}
@@ -669,3 +673,15 @@ tail-sum = refl
 mod-least : firstOf Bits32 8 8 (operatorMeets Bits32 0 42 2147483648 4294967295) ≡ 0
 unfolding firstOf operatorMeets operatorOf lineIn operators causeOf m1.ifEq m1.ifTrue
 mod-least = refl
+
+-- ---- numbers past 2^w
+
+-- a row's constant 65,537 at 16 bits
+constant-word : numberIn Bits16 [] 0 (Constant 65537) ≡ 1
+unfolding numberIn asWord
+constant-word = refl
+
+-- a frame of 5 words with one parameter, of numbers past 65,535
+frame-word : frameWords Bits16 65537 65538 65539 (9 ∷ []) 5 ≡ 1 ∷ 2 ∷ 3 ∷ 9 ∷ 0 ∷ []
+unfolding frameWords asWord
+frame-word = refl

@@ -38,6 +38,7 @@ use Rattle.vm_definitions.specs.declared.Started.{Started}
 use Rattle.vm_definitions.specs.declared.Started.the-variants.{Begun, Refused, Unsound}
 use Rattle.vm_definitions.proofs.Invariant.{FrameAt, FirstHead, Under, Invariant}
 use Rattle.vm_definitions.proofs.Stores.{store-length, store-at}
+use Rattle.vm_definitions.proofs.Words.{memory-word, mark-word}
 use Rattle.vm_definitions.proofs.Places.{around-function}
 
 -- ---- the first row of a function
@@ -181,8 +182,8 @@ module _ (w : Width) (t : Tables) (good : WellFormed (programFrom w t)) (bytes n
   unfolding startWorld freshOf frameWords Under
   start-kept a =
       record {
-        frame = first-frame w t good _ _ (labelsOf t (exportOf (programFrom w t) name) .number) 0 (g .within) (g .is-function) (omega (arith, memory, a .data-fits, word 2 (omega arith)));
-        under = record { at = refl; place = word 0 (omega arith); caller = word 1 (omega arith) };
+        frame = first-frame w t good _ _ (labelsOf t (exportOf (programFrom w t) name) .number) 0 (g .within) (g .is-function) (omega (arith, memory, a .data-fits, word 2 (omega arith), memory-word w (t .dataLength) (omega (arith, a .data-fits, a .short))));
+        under = record { at = refl; place = word 0 (omega arith) ∙ mark-word w; caller = word 1 (omega arith) ∙ mark-word w };
         ends = omega arith;
         lent = omega (arith, stack, a .room);
         few = omega (arith, stack, a .few);
@@ -195,7 +196,7 @@ module _ (w : Width) (t : Tables) (good : WellFormed (programFrom w t)) (bytes n
       g = export-function w t good name (a .label)
 
       written : List ℕ
-      written = frameWords (mark w) (mark w) (t .dataLength) args (rows t (labelsOf t (exportOf (programFrom w t) name) .number) .a)
+      written = frameWords w (mark w) (mark w) (t .dataLength) args (rows t (labelsOf t (exportOf (programFrom w t) name) .number) .a)
 
       memory : length (storeFrom (x .memory) 0 (take (t .dataLength) bytes)) ≡ length (x .memory)
       memory = store-length (x .memory) 0 (take (t .dataLength) bytes)

@@ -21,14 +21,15 @@ use Rattle.prog_tables.specs.Label.{Tables, rows}
 use Rattle.prog_tables.specs.Program.{programFrom}
 use Rattle.prog_tables.specs.WellFormed.{WellFormed}
 use Rattle.prog_tables.proofs.Each.{both-left, both-right}
-use Rattle.prog_laws.proofs.Rows.{Callee, callee-facts, marks, size-at, address-words}
-use Rattle.vm_definitions.specs.Access.{wordGood, storeFrom}
+use Rattle.prog_laws.proofs.Rows.{Callee, callee-facts, few-rows, marks, size-at, address-words}
+use Rattle.vm_definitions.specs.Access.{asWord, wordGood, storeFrom}
 use Rattle.vm_definitions.specs.Operands.{Words, words, bad, numberIn}
 use Rattle.vm_definitions.specs.Frames.{frameWords, returnsTo, callerFrame, topAtEntry, isCalling}
 use Rattle.vm_definitions.specs.Step.{World, Effect, stops, leaves, callBy, callOf, tailCallBy, argumentsOf, addressOf}
 use Rattle.vm_definitions.specs.Ledger.{Entry, Ledger}
 use Rattle.vm_definitions.proofs.Invariant.{FrameAt, Head, Under, Invariant}
 use Rattle.vm_definitions.proofs.Stores.{store-length, store-before, store-at}
+use Rattle.vm_definitions.proofs.Words.{small-word, memory-word, mark-word}
 use Rattle.vm_definitions.proofs.Carried.{Agree, number-same, frame-same, under-same}
 use Rattle.vm_definitions.proofs.Kept.{Kept}
 use Rattle.vm_definitions.proofs.Begun.{first-frame}
@@ -54,24 +55,45 @@ tail-call r k =
     ∙ ifEq-yes true (ifTrue (hasExpression (r .kind)) (eqb (r .expr) callExpression) false) k
 
 -- the three words of a frame's head, written where they fit
-head-word : (st : List ℕ) (s call frame top : ℕ) (vs : List ℕ) (size j : ℕ) → j < 3 → s + 3 ≤ length st
-    → getD (storeFrom st s (frameWords call frame top vs size)) (s + j) 0 ≡ getD (frameWords call frame top vs size) j 0
-unfolding frameWords
-head-word st s call frame top vs size j l h = store-at st s (frameWords call frame top vs size) j (omega arith) (omega arith)
+module _ (w : Width) (st : List ℕ) (s call frame top : ℕ) (vs : List ℕ) (size : ℕ) (h : s + 3 ≤ length st) where
+  head-word : (j : ℕ) → j < 3 → getD (storeFrom st s (frameWords w call frame top vs size)) (s + j) 0 ≡ getD (frameWords w call frame top vs size) j 0
+  unfolding frameWords
+  head-word j l = store-at st s (frameWords w call frame top vs size) j (omega arith) (omega arith)
 
-head-place : (st : List ℕ) (s call frame top : ℕ) (vs : List ℕ) (size : ℕ) → s + 3 ≤ length st → returnsTo (storeFrom st s (frameWords call frame top vs size)) s ≡ call
-unfolding frameWords
-head-place st s call frame top vs size h =
-    let z : s ≡ s + 0 = omega arith in
-    ap (λ (y : ℕ). getD (storeFrom st s (frameWords call frame top vs size)) y 0) z ∙ head-word st s call frame top vs size 0 (omega arith) h
+  head-place : asWord w call ≡ call → returnsTo (storeFrom st s (frameWords w call frame top vs size)) s ≡ call
+  unfolding frameWords
+  head-place q =
+      let z : s ≡ s + 0 = omega arith in
+      ap (λ (y : ℕ). getD (storeFrom st s (frameWords w call frame top vs size)) y 0) z ∙ head-word 0 (omega arith) ∙ q
 
-head-caller : (st : List ℕ) (s call frame top : ℕ) (vs : List ℕ) (size : ℕ) → s + 3 ≤ length st → callerFrame (storeFrom st s (frameWords call frame top vs size)) s ≡ frame
-unfolding frameWords
-head-caller st s call frame top vs size h = head-word st s call frame top vs size 1 (omega arith) h
+  head-caller : asWord w frame ≡ frame → callerFrame (storeFrom st s (frameWords w call frame top vs size)) s ≡ frame
+  unfolding frameWords
+  head-caller q = head-word 1 (omega arith) ∙ q
 
-head-top : (st : List ℕ) (s call frame top : ℕ) (vs : List ℕ) (size : ℕ) → s + 3 ≤ length st → topAtEntry (storeFrom st s (frameWords call frame top vs size)) s ≡ top
-unfolding frameWords
-head-top st s call frame top vs size h = head-word st s call frame top vs size 2 (omega arith) h
+  head-top : asWord w top ≡ top → topAtEntry (storeFrom st s (frameWords w call frame top vs size)) s ≡ top
+  unfolding frameWords
+  head-top q = head-word 2 (omega arith) ∙ q
+
+-- the place to return to and the caller's frame of a frame on the stack are words
+record HeadWords (w : Width) (st : List ℕ) (s : ℕ) : Type 0 where
+  place : asWord w (returnsTo st s) ≡ returnsTo st s
+  caller : asWord w (callerFrame st s) ≡ callerFrame st s
+
+head-words : (w : Width) (t : Tables) (m : ℕ) (st : List ℕ) (call : Option ℕ) (es : Ledger) (s : ℕ) → t .count ≤ 1024 → s ≤ 16384 → Under w t m st call es s
+    → HeadWords w st s
+unfolding Under
+head-words w t m st none [] s c h u =
+    record {
+      place = ap (asWord w) (u .place) ∙ mark-word w ∙ sym (u .place);
+      caller = ap (asWord w) (u .caller) ∙ mark-word w ∙ sym (u .caller);
+    }
+head-words w t m st none (d ∷ es) s c h u = absurd u
+head-words w t m st (some i) [] s c h u = absurd u
+head-words w t m st (some i) (d ∷ es) s c h u =
+    record {
+      place = small-word w (returnsTo st s) (omega (arith, u .0 .place, u .0 .frame .within));
+      caller = small-word w (callerFrame st s) (omega (arith, u .0 .ends));
+    }
 
 module _ (w : Width) (t : Tables) (good : WellFormed (programFrom w t)) (e : Entry) (es : Ledger) (x : World) (i : Invariant w t e es x) where
   -- ---- calls
@@ -87,7 +109,7 @@ module _ (w : Width) (t : Tables) (good : WellFormed (programFrom w t)) (e : Ent
     unfoldable pub calledStack : List ℕ → List ℕ
     calledStack vs =
         storeFrom (x .stack) (x .machine .used)
-        (frameWords (x .machine .next) (x .machine .frame) (x .machine .top) vs (rows t (rows t (x .machine .next) .callee) .a))
+        (frameWords w (x .machine .next) (x .machine .frame) (x .machine .top) vs (rows t (rows t (x .machine .next) .callee) .a))
 
     module _ (vs : List ℕ) (h : x .machine .used + rows t (rows t (x .machine .next) .callee) .a ≤ length (x .stack)) where
       long : x .machine .used + 3 ≤ length (x .stack)
@@ -95,36 +117,42 @@ module _ (w : Width) (t : Tables) (good : WellFormed (programFrom w t)) (e : Ent
 
       caller : callerFrame (calledStack vs) (x .machine .used) ≡ x .machine .frame
       unfolding calledStack
-      caller = head-caller (x .stack) (x .machine .used) (x .machine .next) (x .machine .frame) (x .machine .top) vs (rows t (rows t (x .machine .next) .callee) .a) long
+      caller =
+          head-caller w (x .stack) (x .machine .used) (x .machine .next) (x .machine .frame) (x .machine .top) vs (rows t (rows t (x .machine .next) .callee) .a) long
+          (small-word w (x .machine .frame) (omega (arith, i .ends, i .lent, i .few)))
 
       place : returnsTo (calledStack vs) (x .machine .used) ≡ x .machine .next
       unfolding calledStack
-      place = head-place (x .stack) (x .machine .used) (x .machine .next) (x .machine .frame) (x .machine .top) vs (rows t (rows t (x .machine .next) .callee) .a) long
+      place =
+          head-place w (x .stack) (x .machine .used) (x .machine .next) (x .machine .frame) (x .machine .top) vs (rows t (rows t (x .machine .next) .callee) .a) long
+          (small-word w (x .machine .next) (omega (arith, i .frame .within, few-rows w t good)))
 
       top : topAtEntry (calledStack vs) (x .machine .used) ≡ x .machine .top
       unfolding calledStack
-      top = head-top (x .stack) (x .machine .used) (x .machine .next) (x .machine .frame) (x .machine .top) vs (rows t (rows t (x .machine .next) .callee) .a) long
+      top =
+          head-top w (x .stack) (x .machine .used) (x .machine .next) (x .machine .frame) (x .machine .top) vs (rows t (rows t (x .machine .next) .callee) .a) long
+          (memory-word w (x .machine .top) (omega (arith, i .top, i .short)))
 
       below : Agree (calledStack vs) (x .stack) (x .machine .used)
       unfolding calledStack
       below j l =
           store-before (x .stack) (x .machine .used)
-          (frameWords (x .machine .next) (x .machine .frame) (x .machine .top) vs (rows t (rows t (x .machine .next) .callee) .a)) j l
+          (frameWords w (x .machine .next) (x .machine .frame) (x .machine .top) vs (rows t (rows t (x .machine .next) .callee) .a)) j l
 
       same-length : length (calledStack vs) ≡ length (x .stack)
       unfolding calledStack
       same-length =
           store-length (x .stack) (x .machine .used)
-          (frameWords (x .machine .next) (x .machine .frame) (x .machine .top) vs (rows t (rows t (x .machine .next) .callee) .a))
+          (frameWords w (x .machine .next) (x .machine .frame) (x .machine .top) vs (rows t (rows t (x .machine .next) .callee) .a))
 
       own : rows t (rows t (x .machine .next) .func) .a ≡ rows t (e .func) .a
       own = ap (λ (y : ℕ). rows t y .a) (i .frame .func)
 
       number : rows t (x .machine .next) .kind ≡ 7
-          → numberIn (calledStack vs) (callerFrame (calledStack vs) (x .machine .used)) (rows t (x .machine .next) .address) ≡ numberIn (x .stack) (x .machine .frame) (rows t (x .machine .next) .address)
+          → numberIn w (calledStack vs) (callerFrame (calledStack vs) (x .machine .used)) (rows t (x .machine .next) .address) ≡ numberIn w (x .stack) (x .machine .frame) (rows t (x .machine .next) .address)
       number k =
-          ap (λ (y : ℕ). numberIn (calledStack vs) y (rows t (x .machine .next) .address)) caller
-          ∙ number-same (x .stack) (calledStack vs) (x .machine .frame) (rows t (rows t (x .machine .next) .func) .a) (t .dataLength) (x .machine .used) (rows t (x .machine .next) .address)
+          ap (λ (y : ℕ). numberIn w (calledStack vs) y (rows t (x .machine .next) .address)) caller
+          ∙ number-same w (x .stack) (calledStack vs) (x .machine .frame) (rows t (rows t (x .machine .next) .func) .a) (t .dataLength) (x .machine .used) (rows t (x .machine .next) .address)
           (address-words w t good (x .machine .next) (i .frame .within) k .whole) (omega (arith, own, i .ends)) below
 
       head : Head w t (length (x .memory)) (calledStack vs) (x .machine .next) (e .func) (x .machine .used)
@@ -207,24 +235,30 @@ module _ (w : Width) (t : Tables) (good : WellFormed (programFrom w t)) (e : Ent
     unfoldable pub tailStack : List ℕ → List ℕ
     tailStack vs =
         storeFrom (x .stack) (x .machine .frame)
-        (frameWords (returnsTo (x .stack) (x .machine .frame)) (callerFrame (x .stack) (x .machine .frame)) (topAtEntry (x .stack) (x .machine .frame)) vs
+        (frameWords w (returnsTo (x .stack) (x .machine .frame)) (callerFrame (x .stack) (x .machine .frame)) (topAtEntry (x .stack) (x .machine .frame)) vs
         (rows t (rows t (x .machine .next) .callee) .a))
 
     module _ (vs : List ℕ) (h : x .machine .frame + rows t (rows t (x .machine .next) .callee) .a ≤ length (x .stack)) where
       tail-long : x .machine .frame + 3 ≤ length (x .stack)
       tail-long = omega (arith, tail-size)
 
+      tail-head : HeadWords w (x .stack) (x .machine .frame)
+      tail-head =
+          head-words w t (length (x .memory)) (x .stack) (e .call) es (x .machine .frame) (few-rows w t good) (omega (arith, i .ends, i .lent, i .few))
+          (i .under)
+
       tail-top : topAtEntry (tailStack vs) (x .machine .frame) ≡ topAtEntry (x .stack) (x .machine .frame)
       unfolding tailStack
       tail-top =
-          head-top (x .stack) (x .machine .frame) (returnsTo (x .stack) (x .machine .frame)) (callerFrame (x .stack) (x .machine .frame)) (topAtEntry (x .stack) (x .machine .frame)) vs
+          head-top w (x .stack) (x .machine .frame) (returnsTo (x .stack) (x .machine .frame)) (callerFrame (x .stack) (x .machine .frame)) (topAtEntry (x .stack) (x .machine .frame)) vs
           (rows t (rows t (x .machine .next) .callee) .a) tail-long
+          (memory-word w (topAtEntry (x .stack) (x .machine .frame)) (omega (arith, i .frame .top, i .short)))
 
       tail-length : length (tailStack vs) ≡ length (x .stack)
       unfolding tailStack
       tail-length =
           store-length (x .stack) (x .machine .frame)
-          (frameWords (returnsTo (x .stack) (x .machine .frame)) (callerFrame (x .stack) (x .machine .frame)) (topAtEntry (x .stack) (x .machine .frame)) vs
+          (frameWords w (returnsTo (x .stack) (x .machine .frame)) (callerFrame (x .stack) (x .machine .frame)) (topAtEntry (x .stack) (x .machine .frame)) vs
           (rows t (rows t (x .machine .next) .callee) .a))
 
       -- the place to return to and the caller's frame are those that were there
@@ -233,16 +267,16 @@ module _ (w : Width) (t : Tables) (good : WellFormed (programFrom w t)) (e : Ent
       tail-below j l =
           elim (ℕ-discrete j (x .machine .frame)) [
             | yes d ↦ ap (λ (y : ℕ). getD (tailStack vs) y 0) d
-                ∙ head-place (x .stack) (x .machine .frame) (returnsTo (x .stack) (x .machine .frame)) (callerFrame (x .stack) (x .machine .frame)) (topAtEntry (x .stack) (x .machine .frame)) vs
-                (rows t (rows t (x .machine .next) .callee) .a) tail-long
+                ∙ head-place w (x .stack) (x .machine .frame) (returnsTo (x .stack) (x .machine .frame)) (callerFrame (x .stack) (x .machine .frame)) (topAtEntry (x .stack) (x .machine .frame)) vs
+                (rows t (rows t (x .machine .next) .callee) .a) tail-long (tail-head .place)
                 ∙ ap (λ (y : ℕ). getD (x .stack) y 0) (sym d)
             | no d ↦ elim (ℕ-discrete j (x .machine .frame + 1)) [
               | yes q ↦ ap (λ (y : ℕ). getD (tailStack vs) y 0) q
-                  ∙ head-caller (x .stack) (x .machine .frame) (returnsTo (x .stack) (x .machine .frame)) (callerFrame (x .stack) (x .machine .frame)) (topAtEntry (x .stack) (x .machine .frame)) vs
-                  (rows t (rows t (x .machine .next) .callee) .a) tail-long
+                  ∙ head-caller w (x .stack) (x .machine .frame) (returnsTo (x .stack) (x .machine .frame)) (callerFrame (x .stack) (x .machine .frame)) (topAtEntry (x .stack) (x .machine .frame)) vs
+                  (rows t (rows t (x .machine .next) .callee) .a) tail-long (tail-head .caller)
                   ∙ ap (λ (y : ℕ). getD (x .stack) y 0) (sym q)
               | no q ↦ store-before (x .stack) (x .machine .frame)
-                  (frameWords (returnsTo (x .stack) (x .machine .frame)) (callerFrame (x .stack) (x .machine .frame)) (topAtEntry (x .stack) (x .machine .frame)) vs
+                  (frameWords w (returnsTo (x .stack) (x .machine .frame)) (callerFrame (x .stack) (x .machine .frame)) (topAtEntry (x .stack) (x .machine .frame)) vs
                   (rows t (rows t (x .machine .next) .callee) .a)) j (omega arith)
             ]
           ]

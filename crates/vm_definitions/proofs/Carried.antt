@@ -34,15 +34,15 @@ abbrev pub Agree : List ℕ → List ℕ → ℕ → Type 0
 Agree st′ st n = (i : ℕ) → i < n → getD st′ i 0 ≡ getD st i 0
 
 -- an operand that is not broken reads its own frame
-pub number-same : (st st′ : List ℕ) (s size d n : ℕ) (o : Operand) → operandFault size d o ≡ false → s + size ≤ n → Agree st′ st n → numberIn st′ s o ≡ numberIn st s o
+pub number-same : (w : Width) (st st′ : List ℕ) (s size d n : ℕ) (o : Operand) → operandFault size d o ≡ false → s + size ≤ n → Agree st′ st n → numberIn w st′ s o ≡ numberIn w st s o
 unfolding numberIn
-number-same st st′ s size d n (Constant v) e h same = refl
-number-same st st′ s size d n (Local v) e h same = same (s + v) (omega (arith, local-word size d v e))
-number-same st st′ s size d n (Address v) e h same = refl
-number-same st st′ s size d n (AtConstant v) e h same = refl
-number-same st st′ s size d n (AtLocal v) e h same = same (s + v) (omega (arith, at-local-word size d v e))
-number-same st st′ s size d n (AtAddress v) e h same = refl
-number-same st st′ s size d n Unlisted e h same = refl
+number-same w st st′ s size d n (Constant v) e h same = refl
+number-same w st st′ s size d n (Local v) e h same = same (s + v) (omega (arith, local-word size d v e))
+number-same w st st′ s size d n (Address v) e h same = refl
+number-same w st st′ s size d n (AtConstant v) e h same = refl
+number-same w st st′ s size d n (AtLocal v) e h same = same (s + v) (omega (arith, at-local-word size d v e))
+number-same w st st′ s size d n (AtAddress v) e h same = refl
+number-same w st st′ s size d n Unlisted e h same = refl
 
 module _ (w : Width) (t : Tables) (good : WellFormed (programFrom w t)) where
   -- the word of a block that is open at row p is in the frame of p's function
@@ -103,10 +103,10 @@ module _ (w : Width) (t : Tables) (good : WellFormed (programFrom w t)) where
       below : Agree st′ st s
       below i l = same i (omega arith)
 
-      number : rows t c .kind ≡ 7 → numberIn st′ (callerFrame st′ s) (rows t c .address) ≡ numberIn st (callerFrame st s) (rows t c .address)
+      number : rows t c .kind ≡ 7 → numberIn w st′ (callerFrame st′ s) (rows t c .address) ≡ numberIn w st (callerFrame st s) (rows t c .address)
       number k =
-          ap (λ (y : ℕ). numberIn st′ y (rows t c .address)) z
-          ∙ number-same st st′ (callerFrame st s) (rows t (rows t c .func) .a) (t .dataLength) s (rows t c .address)
+          ap (λ (y : ℕ). numberIn w st′ y (rows t c .address)) z
+          ∙ number-same w st st′ (callerFrame st s) (rows t (rows t c .func) .a) (t .dataLength) s (rows t c .address)
           (address-words w t good c (u .0 .frame .within) k .whole) (omega (arith, own, u .0 .ends)) below
 
       head : Head w t m st′ c (d .func) s

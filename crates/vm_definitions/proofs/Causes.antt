@@ -119,7 +119,7 @@ module _ (prog : Program) (x : World) (sum last : ℕ) where
   valueOf os i = wordOf w st s m (operandNo os i)
 
   abbrev addressAt : ℕ
-  addressAt = numberIn st s (r .address)
+  addressAt = numberIn w st s (r .address)
 
   -- what a row of kind k with expression kind e and some operands meets
   unfoldable behindBy : ℕ → ℕ → List Operand → List Meeting
@@ -130,7 +130,7 @@ module _ (prog : Program) (x : World) (sum last : ℕ) where
       (ifEq k 9 (wordAt (wordAddress w (valueOf os 0) (valueOf os 1)) ∷ []) [])))
 
   unfoldable metBy : ℕ → ℕ → List Operand → List Meeting
-  metBy k e os = (ifEq k 7 (wordAt addressAt ∷ []) [] ++ touched st s os) ++ behindBy k e os
+  metBy k e os = (ifEq k 7 (wordAt addressAt ∷ []) [] ++ touched w st s os) ++ behindBy k e os
 
   met-is : firstCause prog sum last x ≡ first (metBy (r .kind) (r .expr) (r .operands))
   unfolding firstCause meetingsOf readsOf behindOperands withFrame metBy behindBy
@@ -197,7 +197,7 @@ module _ (prog : Program) (x : World) (sum last : ℕ) where
   value-at os i = List·getD-map (wordOf w st s m) os i Unlisted
 
   byte-stop : effectStop (setByteBy prog x (argumentsOf prog x))
-      ≡ first (touched st s (r .operands) ++ (byteAt (byteAddress w (valueOf (r .operands) 0) (valueOf (r .operands) 1)) ∷ []))
+      ≡ first (touched w st s (r .operands) ++ (byteAt (byteAddress w (valueOf (r .operands) 0) (valueOf (r .operands) 1)) ∷ []))
   unfolding argumentsOf setByteBy effectStop stores causeOf byteGood
   byte-stop =
       all-cause w st s m effectStop (setByteBy prog x) (r .operands) (byteAt (byteAddress w (valueOf (r .operands) 0) (valueOf (r .operands) 1)) ∷ []) (length st) refl
@@ -210,7 +210,7 @@ module _ (prog : Program) (x : World) (sum last : ℕ) where
       vs = map (wordOf w st s m) (r .operands)
 
   word-stop : effectStop (setWordBy prog x (argumentsOf prog x))
-      ≡ first (touched st s (r .operands) ++ (wordAt (wordAddress w (valueOf (r .operands) 0) (valueOf (r .operands) 1)) ∷ []))
+      ≡ first (touched w st s (r .operands) ++ (wordAt (wordAddress w (valueOf (r .operands) 0) (valueOf (r .operands) 1)) ∷ []))
   unfolding argumentsOf setWordBy effectStop stores causeOf wordGood
   word-stop =
       all-cause w st s m effectStop (setWordBy prog x) (r .operands) (wordAt (wordAddress w (valueOf (r .operands) 0) (valueOf (r .operands) 1)) ∷ []) (length st) refl
@@ -230,29 +230,29 @@ module _ (prog : Program) (x : World) (sum last : ℕ) where
       ∙ sym (first-one w (length m) (length st) (stacksTo b))
 
   module _ (used-is : x .machine .used ≡ sum) (frame-is : x .machine .frame ≡ sum - last) where
-    call-stop : effectStop (callBy prog x (argumentsOf prog x)) ≡ first (touched st s (r .operands) ++ (stacksTo (sum + size) ∷ []))
+    call-stop : effectStop (callBy prog x (argumentsOf prog x)) ≡ first (touched w st s (r .operands) ++ (stacksTo (sum + size) ∷ []))
     unfolding argumentsOf callBy effectStop
     call-stop =
         all-cause w st s m effectStop (callBy prog x) (r .operands) (stacksTo (sum + size) ∷ []) (length st) refl
         (stack-stop _ (x .machine .used + size) (sum + size) (ap (λ (i : ℕ). i + size) used-is))
 
-    tail-stop : effectStop (tailCallBy prog x (argumentsOf prog x)) ≡ first (touched st s (r .operands) ++ (stacksTo (sum - last + size) ∷ []))
+    tail-stop : effectStop (tailCallBy prog x (argumentsOf prog x)) ≡ first (touched w st s (r .operands) ++ (stacksTo (sum - last + size) ∷ []))
     unfolding argumentsOf tailCallBy effectStop
     tail-stop =
         all-cause w st s m effectStop (tailCallBy prog x) (r .operands) (stacksTo (sum - last + size) ∷ []) (length st) refl
         (stack-stop _ (x .machine .frame + size) (sum - last + size) (ap (λ (i : ℕ). i + size) frame-is))
 
-    plain-call : (r .kind ≡ 7 → ⊥) → effectStop (callOf prog x) ≡ first (touched st s (r .operands) ++ (stacksTo (sum + size) ∷ []))
+    plain-call : (r .kind ≡ 7 → ⊥) → effectStop (callOf prog x) ≡ first (touched w st s (r .operands) ++ (stacksTo (sum + size) ∷ []))
     unfolding callOf
     plain-call h =
         ap effectStop (ifEq-no (ifTrue (wordGood w (length m) addressAt) (callBy prog x (argumentsOf prog x)) (stops 32)) (callBy prog x (argumentsOf prog x)) h)
         ∙ call-stop
 
-    at-call : r .kind ≡ 7 → effectStop (callOf prog x) ≡ first (wordAt addressAt ∷ (touched st s (r .operands) ++ (stacksTo (sum + size) ∷ [])))
+    at-call : r .kind ≡ 7 → effectStop (callOf prog x) ≡ first (wordAt addressAt ∷ (touched w st s (r .operands) ++ (stacksTo (sum + size) ∷ [])))
     unfolding callOf
     at-call h =
         ap effectStop (ifEq-yes (ifTrue (wordGood w (length m) addressAt) (callBy prog x (argumentsOf prog x)) (stops 32)) (callBy prog x (argumentsOf prog x)) h)
-        ∙ at-first (callBy prog x (argumentsOf prog x)) (touched st s (r .operands) ++ (stacksTo (sum + size) ∷ [])) call-stop
+        ∙ at-first (callBy prog x (argumentsOf prog x)) (touched w st s (r .operands) ++ (stacksTo (sum + size) ∷ [])) call-stop
 
     module _ (o p : Operand) (rest : List Operand) (shape : r .operands ≡ take (usedBy (r .kind) (r .expr) (r .count)) (o ∷ p ∷ rest)) where
       operands-as : (k : ℕ) → r .kind ≡ k → r .operands ≡ take (usedBy k (r .expr) (r .count)) (o ∷ p ∷ rest)
@@ -292,7 +292,7 @@ module _ (prog : Program) (x : World) (sum last : ℕ) where
           (λ a. onRead (readOf w st s m (operandNo os 1)) (stops 32)
           (λ b. goesTo prog x (ifTrue (testHolds w (r .kind) a b) (suc (x .machine .next)) (r .a))))
 
-      test-stop : r .operands ≡ o ∷ p ∷ [] → effectStop (testOf prog x) ≡ first (touched st s (o ∷ p ∷ []) ++ [])
+      test-stop : r .operands ≡ o ∷ p ∷ [] → effectStop (testOf prog x) ≡ first (touched w st s (o ∷ p ∷ []) ++ [])
       unfolding testOf tested effectStop goesTo touched firstOf
       test-stop q =
           ap (λ (i : List Operand). effectStop (tested i)) q
@@ -352,7 +352,7 @@ module _ (prog : Program) (x : World) (sum last : ℕ) where
       call-5 h q =
           ap effectStop (call-as 5 h q)
           ∙ plain-call (λ d. omega (arith, d, h))
-          ∙ ap (λ (i : List Meeting). first (touched st s (r .operands) ++ i)) (sym (ifTrue-yes (stacksTo (sum + size) ∷ []) operates (eq-eqb (r .expr) 2 q)))
+          ∙ ap (λ (i : List Meeting). first (touched w st s (r .operands) ++ i)) (sym (ifTrue-yes (stacksTo (sum + size) ∷ []) operates (eq-eqb (r .expr) 2 q)))
           ∙ sym (cause-as 5 (r .operands) h refl)
 
       call-6 : r .kind ≡ 6 → r .expr ≡ 2 → Caused
@@ -360,7 +360,7 @@ module _ (prog : Program) (x : World) (sum last : ℕ) where
       call-6 h q =
           ap effectStop (call-as 6 h q)
           ∙ plain-call (λ d. omega (arith, d, h))
-          ∙ ap (λ (i : List Meeting). first (touched st s (r .operands) ++ i)) (sym (ifTrue-yes (stacksTo (sum + size) ∷ []) operates (eq-eqb (r .expr) 2 q)))
+          ∙ ap (λ (i : List Meeting). first (touched w st s (r .operands) ++ i)) (sym (ifTrue-yes (stacksTo (sum + size) ∷ []) operates (eq-eqb (r .expr) 2 q)))
           ∙ sym (cause-as 6 (r .operands) h refl)
 
       call-13 : r .kind ≡ 13 → r .expr ≡ 2 → Caused
@@ -368,7 +368,7 @@ module _ (prog : Program) (x : World) (sum last : ℕ) where
       call-13 h q =
           ap effectStop (call-as 13 h q)
           ∙ plain-call (λ d. omega (arith, d, h))
-          ∙ ap (λ (i : List Meeting). first (touched st s (r .operands) ++ i)) (sym (ifTrue-yes (stacksTo (sum + size) ∷ []) operates (eq-eqb (r .expr) 2 q)))
+          ∙ ap (λ (i : List Meeting). first (touched w st s (r .operands) ++ i)) (sym (ifTrue-yes (stacksTo (sum + size) ∷ []) operates (eq-eqb (r .expr) 2 q)))
           ∙ sym (cause-as 13 (r .operands) h refl)
 
       call-7 : r .kind ≡ 7 → r .expr ≡ 2 → Caused
@@ -376,11 +376,11 @@ module _ (prog : Program) (x : World) (sum last : ℕ) where
       call-7 h q =
           ap effectStop (call-as 7 h q)
           ∙ at-call h
-          ∙ ap (λ (i : List Meeting). first (wordAt addressAt ∷ (touched st s (r .operands) ++ i))) (sym (ifTrue-yes (stacksTo (sum + size) ∷ []) operates (eq-eqb (r .expr) 2 q)))
+          ∙ ap (λ (i : List Meeting). first (wordAt addressAt ∷ (touched w st s (r .operands) ++ i))) (sym (ifTrue-yes (stacksTo (sum + size) ∷ []) operates (eq-eqb (r .expr) 2 q)))
           ∙ sym (cause-as 7 (r .operands) h refl)
 
       module _ (h0 : r .expr ≡ 0 → ⊥) (h2 : r .expr ≡ 2 → ⊥) (g : expressionListed 13 (r .expr) ≡ true) where
-        worked-stop : r .operands ≡ take (expressionUses (r .expr) (r .count)) (o ∷ p ∷ rest) → stopIn (workedOf prog x) ≡ first (touched st s (r .operands) ++ operates)
+        worked-stop : r .operands ≡ take (expressionUses (r .expr) (r .count)) (o ∷ p ∷ rest) → stopIn (workedOf prog x) ≡ first (touched w st s (r .operands) ++ operates)
         unfolding workedOf operates
         worked-stop q = eval-cause w st s m (length st) (x .machine .top) (r .expr) (r .count) o p rest (r .operands) q h0 h2 g
 
@@ -393,7 +393,7 @@ module _ (prog : Program) (x : World) (sum last : ℕ) where
             ap effectStop (effect-as 5 h ∙ ifTrue-no (callOf prog x) (assigned prog x (workedOf prog x)) (ne-eqb (r .expr) 2 h2))
             ∙ assigned-stop (workedOf prog x)
             ∙ worked-stop (operands-as 5 h)
-            ∙ ap (λ (i : List Meeting). first (touched st s (r .operands) ++ i)) (sym behind-is)
+            ∙ ap (λ (i : List Meeting). first (touched w st s (r .operands) ++ i)) (sym behind-is)
             ∙ sym (cause-as 5 (r .operands) h refl)
 
         value-6 : r .kind ≡ 6 → Caused
@@ -402,15 +402,15 @@ module _ (prog : Program) (x : World) (sum last : ℕ) where
             ap effectStop (effect-as 6 h ∙ ifTrue-no (callOf prog x) (assigned prog x (workedOf prog x)) (ne-eqb (r .expr) 2 h2))
             ∙ assigned-stop (workedOf prog x)
             ∙ worked-stop (operands-as 6 h)
-            ∙ ap (λ (i : List Meeting). first (touched st s (r .operands) ++ i)) (sym behind-is)
+            ∙ ap (λ (i : List Meeting). first (touched w st s (r .operands) ++ i)) (sym behind-is)
             ∙ sym (cause-as 6 (r .operands) h refl)
 
         value-7 : r .kind ≡ 7 → Caused
         unfolding Caused doneBy dispatch hasExpression isTest ifTrue ifEq ifLt metBy behindBy isCall usedBy touched firstOf effectStop operates setAtOf
         value-7 h =
             ap effectStop (effect-as 7 h ∙ ifTrue-no (callOf prog x) (setAtOf prog x) (ne-eqb (r .expr) 2 h2))
-            ∙ at-first (assignedAt prog x (workedOf prog x)) (touched st s (r .operands) ++ operates) (assigned-at-stop (workedOf prog x) ∙ worked-stop (operands-as 7 h))
-            ∙ ap (λ (i : List Meeting). first (wordAt addressAt ∷ (touched st s (r .operands) ++ i))) (sym behind-is)
+            ∙ at-first (assignedAt prog x (workedOf prog x)) (touched w st s (r .operands) ++ operates) (assigned-at-stop (workedOf prog x) ∙ worked-stop (operands-as 7 h))
+            ∙ ap (λ (i : List Meeting). first (wordAt addressAt ∷ (touched w st s (r .operands) ++ i))) (sym behind-is)
             ∙ sym (cause-as 7 (r .operands) h refl)
 
       -- ---- returns
@@ -456,7 +456,7 @@ module _ (prog : Program) (x : World) (sum last : ℕ) where
               ap effectStop (return-effect ∙ ifEq-no (returned prog x (Value 0 0)) (returned prog x (workedOf prog x)) h0)
               ∙ returned-stop (λ v. home v it-returns) (workedOf prog x)
               ∙ worked-stop h0 h2 g (operands-as 13 h)
-              ∙ ap (λ (i : List Meeting). first (touched st s (r .operands) ++ i)) (sym (behind-is h0 h2 g))
+              ∙ ap (λ (i : List Meeting). first (touched w st s (r .operands) ++ i)) (sym (behind-is h0 h2 g))
               ∙ sym (cause-as 13 (r .operands) h refl)
 
         -- ---- all kinds

@@ -63,7 +63,7 @@ module _ (w : Width) (t : Tables) (m : ℕ) (st : List ℕ) where
     pub under : Under w t m st (d .call) ds v
     pub ends : v + rows t (d .func) .a ≡ u
     pub low : top ≤ m
-    pub address : rows t c .kind ≡ 7 → wordGood w m (numberIn st v (rows t c .address)) ≡ true
+    pub address : rows t c .kind ≡ 7 → wordGood w m (numberIn w st v (rows t c .address)) ≡ true
 
   -- p is the ledger then
   pub data Resumed (p : Ledger) (l : Resumption) : Type 0 where

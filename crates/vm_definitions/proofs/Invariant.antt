@@ -34,7 +34,7 @@ module _ (w : Width) (t : Tables) (m : ℕ) (st : List ℕ) where
     pub place : returnsTo st s ≡ c
     pub ends : callerFrame st s + rows t g .a ≡ s
     pub calls : isCalling (rows t c) ≡ true
-    pub address : rows t c .kind ≡ 7 → wordGood w m (numberIn st (callerFrame st s) (rows t c .address)) ≡ true
+    pub address : rows t c .kind ≡ 7 → wordGood w m (numberIn w st (callerFrame st s) (rows t c .address)) ≡ true
     pub frame : FrameAt g (callerFrame st s) c
 
   pub record FirstHead (s : ℕ) : Type 0 where

@@ -6,6 +6,7 @@ pub mod Invariant
 pub mod Chain
 pub mod Guard
 pub mod Stores
+pub mod Words
 pub mod Carried
 pub mod Places
 pub mod OperatorTable

@@ -112,18 +112,18 @@ module _ (w : Width) (m s : ℕ) where
   unfolding causeOf ifLt
   reserves-other e = pick-is Other (ltb m e) 34 0 (other 34 refl) (other 0 refl)
 
-  touched-no : (st : List ℕ) (at : ℕ) (os : List Operand) → NoStack (touched st at os)
+  touched-no : (st : List ℕ) (at : ℕ) (os : List Operand) → NoStack (touched w st at os)
   unfolding touched
   touched-no st at [] = none-stack
   touched-no st at (o ∷ os) =
-      either-true NoStack (isAt o) (wordAt (numberIn st at o) ∷ touched st at os) (touched st at os)
-      (λ h. add-stack (wordAt (numberIn st at o)) (touched st at os) (word-other (numberIn st at o)) (touched-no st at os)) (λ h. touched-no st at os)
+      either-true NoStack (isAt o) (wordAt (numberIn w st at o) ∷ touched w st at os) (touched w st at os)
+      (λ h. add-stack (wordAt (numberIn w st at o)) (touched w st at os) (word-other (numberIn w st at o)) (touched-no st at os)) (λ h. touched-no st at os)
 
-  reads-no : (r : Row) (x : World) → NoStack (readsOf r x)
+  reads-no : (r : Row) (x : World) → NoStack (readsOf w r x)
   unfolding readsOf
   reads-no r x =
-      either-eq (λ (es : List Meeting). NoStack (es ++ touched (x .stack) (x .machine .frame) (r .operands))) (r .kind) 7 (wordAt (numberIn (x .stack) (x .machine .frame) (r .address)) ∷ []) []
-      (λ h. add-stack (wordAt (numberIn (x .stack) (x .machine .frame) (r .address))) (touched (x .stack) (x .machine .frame) (r .operands)) (word-other (numberIn (x .stack) (x .machine .frame) (r .address)))
+      either-eq (λ (es : List Meeting). NoStack (es ++ touched w (x .stack) (x .machine .frame) (r .operands))) (r .kind) 7 (wordAt (numberIn w (x .stack) (x .machine .frame) (r .address)) ∷ []) []
+      (λ h. add-stack (wordAt (numberIn w (x .stack) (x .machine .frame) (r .address))) (touched w (x .stack) (x .machine .frame) (r .operands)) (word-other (numberIn w (x .stack) (x .machine .frame) (r .address)))
       (touched-no (x .stack) (x .machine .frame) (r .operands))) (λ h. touched-no (x .stack) (x .machine .frame) (r .operands))
 
   -- one choice of a chain
@@ -224,7 +224,7 @@ module _ (prog : Program) (sum last : ℕ) (x : World) where
   r = f (x .machine .next)
 
   reads : ℕ
-  reads = firstOf w (length (x .memory)) (length (x .stack)) (readsOf r x)
+  reads = firstOf w (length (x .memory)) (length (x .stack)) (readsOf w r x)
 
   behind : ℕ
   behind =
@@ -234,7 +234,7 @@ module _ (prog : Program) (sum last : ℕ) (x : World) where
 
   parts : firstCause prog sum last x ≡ ifEq reads 0 behind reads
   unfolding firstCause meetingsOf reads behind
-  parts = first-both w (length (x .memory)) (length (x .stack)) (readsOf r x) _
+  parts = first-both w (length (x .memory)) (length (x .stack)) (readsOf w r x) _
 
   called : isCall (r .kind) (r .expr) ≡ true → behind ≡ pick (passesStack prog sum last x) 33 0
   unfolding behind passesStack

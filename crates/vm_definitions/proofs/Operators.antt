@@ -89,37 +89,37 @@ module _ (w : Width) (m s : ℕ) where
 module _ (w : Width) (st : List ℕ) (s : ℕ) (m : List ℕ) where
   module _ {X : Type 0} (number : X → ℕ) (stop : X) (go : ℕ → X) (o : Operand) (os : List Operand) (more : List Meeting) (l : ℕ) where
     -- an operand is read, the rest follows
-    pub read-cause : number stop ≡ 32 → number (go (wordOf w st s m o)) ≡ firstOf w (length m) l (touched st s os ++ more)
-        → number (onRead (readOf w st s m o) stop go) ≡ firstOf w (length m) l (touched st s (o ∷ os) ++ more)
+    pub read-cause : number stop ≡ 32 → number (go (wordOf w st s m o)) ≡ firstOf w (length m) l (touched w st s os ++ more)
+        → number (onRead (readOf w st s m o) stop go) ≡ firstOf w (length m) l (touched w st s (o ∷ os) ++ more)
     unfolding touched wordOf readOf onRead fetchOf
-    read-cause e d = by (isAt o) refl (wordGood w (length m) (numberIn st s o)) refl
+    read-cause e d = by (isAt o) refl (wordGood w (length m) (numberIn w st s o)) refl
       where
         at : ℕ
-        at = numberIn st s o
+        at = numberIn w st s o
 
         by : (p : Bool) → isAt o ≡ p → (q : Bool) → wordGood w (length m) at ≡ q
-            → number (onRead (readOf w st s m o) stop go) ≡ firstOf w (length m) l (touched st s (o ∷ os) ++ more)
+            → number (onRead (readOf w st s m o) stop go) ≡ firstOf w (length m) l (touched w st s (o ∷ os) ++ more)
         by false a q b =
             ap (λ (x : Read). number (onRead x stop go)) (ifTrue-no (fetchOf w m at) (Got at) a)
             ∙ ap (λ (v : ℕ). number (go v)) (sym (ifTrue-no (loadOf w m at) at a))
             ∙ d
-            ∙ ap (λ (x : List Meeting). firstOf w (length m) l (x ++ more)) (sym (ifTrue-no (wordAt at ∷ touched st s os) (touched st s os) a))
+            ∙ ap (λ (x : List Meeting). firstOf w (length m) l (x ++ more)) (sym (ifTrue-no (wordAt at ∷ touched w st s os) (touched w st s os) a))
         by true a true b =
             ap (λ (x : Read). number (onRead x stop go)) (ifTrue-yes (fetchOf w m at) (Got at) a ∙ ifTrue-yes (Got (loadOf w m at)) Bad b)
             ∙ ap (λ (v : ℕ). number (go v)) (sym (ifTrue-yes (loadOf w m at) at a))
             ∙ d
-            ∙ sym (first-later w (length m) l (wordAt at) (touched st s os ++ more) (word-good w (length m) l at b))
-            ∙ ap (λ (x : List Meeting). firstOf w (length m) l (x ++ more)) (sym (ifTrue-yes (wordAt at ∷ touched st s os) (touched st s os) a))
+            ∙ sym (first-later w (length m) l (wordAt at) (touched w st s os ++ more) (word-good w (length m) l at b))
+            ∙ ap (λ (x : List Meeting). firstOf w (length m) l (x ++ more)) (sym (ifTrue-yes (wordAt at ∷ touched w st s os) (touched w st s os) a))
         by true a false b =
             ap (λ (x : Read). number (onRead x stop go)) (ifTrue-yes (fetchOf w m at) (Got at) a ∙ ifTrue-no (Got (loadOf w m at)) Bad b)
             ∙ e
-            ∙ sym (first-here w (length m) l (wordAt at) (touched st s os ++ more) 31 (word-bad w (length m) l at b))
-            ∙ ap (λ (x : List Meeting). firstOf w (length m) l (x ++ more)) (sym (ifTrue-yes (wordAt at ∷ touched st s os) (touched st s os) a))
+            ∙ sym (first-here w (length m) l (wordAt at) (touched w st s os ++ more) 31 (word-bad w (length m) l at b))
+            ∙ ap (λ (x : List Meeting). firstOf w (length m) l (x ++ more)) (sym (ifTrue-yes (wordAt at ∷ touched w st s os) (touched w st s os) a))
 
   -- all operands are read, the rest follows
   pub all-cause : {X : Type 0} (number : X → ℕ) (go : Words → X) (os : List Operand) (more : List Meeting) (l : ℕ)
       → number (go bad) ≡ 32 → number (go (words (map (wordOf w st s m) os))) ≡ firstOf w (length m) l more
-      → number (go (readAll w st s m os)) ≡ firstOf w (length m) l (touched st s os ++ more)
+      → number (go (readAll w st s m os)) ≡ firstOf w (length m) l (touched w st s os ++ more)
   unfolding readAll withWord touched
   all-cause number go [] more l e d = d
   all-cause number go (o ∷ os) more l e d =
@@ -320,7 +320,7 @@ module _ (w : Width) (st : List ℕ) (s : ℕ) (m : List ℕ) (l top : ℕ) wher
   EvalAgrees : ℕ → List Operand → Type 0
   EvalAgrees e os =
       stopIn (evalOf w st s m top e os)
-      ≡ firstOf w (length m) l (touched st s os ++ operatorMeets w top e (wordOf w st s m (operandNo os 0)) (wordOf w st s m (operandNo os 1)))
+      ≡ firstOf w (length m) l (touched w st s os ++ operatorMeets w top e (wordOf w st s m (operandNo os 0)) (wordOf w st s m (operandNo os 1)))
 
   eval-plain : (o : Operand) → EvalAgrees 1 (o ∷ [])
   unfolding EvalAgrees evalOf ifEq operatorMeets operatorOf lineIn operators stopIn firstOf touched
@@ -365,7 +365,7 @@ module _ (w : Width) (st : List ℕ) (s : ℕ) (m : List ℕ) (l top : ℕ) wher
   pub eval-cause : (e n : ℕ) (o p : Operand) (rest os : List Operand) → os ≡ take (expressionUses e n) (o ∷ p ∷ rest)
       → (e ≡ 0 → ⊥) → (e ≡ 2 → ⊥) → expressionListed 13 e ≡ true
       → stopIn (evalOf w st s m top e os)
-      ≡ firstOf w (length m) l (touched st s os ++ operatorMeets w top e (wordOf w st s m (operandNo os 0)) (wordOf w st s m (operandNo os 1)))
+      ≡ firstOf w (length m) l (touched w st s os ++ operatorMeets w top e (wordOf w st s m (operandNo os 0)) (wordOf w st s m (operandNo os 1)))
   unfolding EvalAgrees
   eval-cause e n o p rest os q h0 h2 g =
       elim (ℕ-discrete e 1) [

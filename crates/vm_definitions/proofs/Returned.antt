@@ -179,9 +179,9 @@ module _ (w : Width) (t : Tables) (good : WellFormed (programFrom w t)) (e : Ent
     unfolding Returns handedTo
     handed-to z =
         either-eq (Returns w t (popped (rows t) (e ∷ es)) x) (rows t c .kind) 7 _ _
-        (λ k. either-true (Returns w t (popped (rows t) (e ∷ es)) x) (wordGood w (length (x .memory)) (numberIn (x .stack) v (rows t c .address))) _ (stops 32)
-        (λ a. back-with (x .stack) (storeFrom (x .memory) (numberIn (x .stack) v (rows t c .address)) (wordBytes (bytesOf w) z)) refl
-        (store-length (x .memory) (numberIn (x .stack) v (rows t c .address)) (wordBytes (bytesOf w) z)) (λ j g. refl) (y .frame))
+        (λ k. either-true (Returns w t (popped (rows t) (e ∷ es)) x) (wordGood w (length (x .memory)) (numberIn w (x .stack) v (rows t c .address))) _ (stops 32)
+        (λ a. back-with (x .stack) (storeFrom (x .memory) (numberIn w (x .stack) v (rows t c .address)) (wordBytes (bytesOf w) z)) refl
+        (store-length (x .memory) (numberIn w (x .stack) v (rows t c .address)) (wordBytes (bytesOf w) z)) (λ j g. refl) (y .frame))
         (λ a. tt))
         (λ k. either-eq (Returns w t (popped (rows t) (e ∷ es)) x) (rows t c .kind) 11 _ _
         (λ a. back-with (x .stack) (x .memory) refl refl (λ j g. refl) (y .frame))

@@ -17,6 +17,10 @@ byteAddress w b o = (b + o) % 2 ^ bitsOf w
 unfoldable pub wordAddress : Width → ℕ → ℕ → ℕ
 wordAddress w b o = (b + bytesOf w * o) % 2 ^ bitsOf w
 
+-- the word made of a number, modulo 2^w: every number below 2^w is its own word
+unfoldable pub asWord : Width → ℕ → ℕ
+asWord w v = v % 2 ^ bitsOf w
+
 -- "every byte touched must be in memory": of m bytes, the byte at a
 unfoldable pub byteGood : ℕ → ℕ → Bool
 byteGood m a = ltb a m

@@ -43,13 +43,13 @@ firstOf w m s (e ∷ es) = ifEq (causeOf w m s e) 0 (firstOf w m s es) (causeOf 
 -- ---- what a statement meets
 
 -- the words that `@` operands touch, left to right
-unfoldable pub touched : List ℕ → ℕ → List Operand → List Meeting
-touched st s [] = []
-touched st s (o ∷ os) = ifTrue (isAt o) (wordAt (numberIn st s o) ∷ touched st s os) (touched st s os)
+unfoldable pub touched : Width → List ℕ → ℕ → List Operand → List Meeting
+touched w st s [] = []
+touched w st s (o ∷ os) = ifTrue (isAt o) (wordAt (numberIn w st s o) ∷ touched w st s os) (touched w st s os)
 
 -- an operand's word, where it can be read
 unfoldable pub wordOf : Width → List ℕ → ℕ → List ℕ → Operand → ℕ
-wordOf w st s m o = ifTrue (isAt o) (loadOf w m (numberIn st s o)) (numberIn st s o)
+wordOf w st s m o = ifTrue (isAt o) (loadOf w m (numberIn w st s o)) (numberIn w st s o)
 
 -- the stack words with the new frame of row r, which calls: "that sum with the new frame, for a tail call less the old one"; `sum`
 -- the words of all open functions, `last` those of the last, g the frame size of the function called
@@ -65,15 +65,15 @@ behindOperands w top sum last g r x y =
     (ifEq (r .kind) kind.setWord (wordAt (wordAddress w x y) ∷ []) [])))
 
 -- the words it touches while it reads: the address of `set @`, then the operands
-unfoldable pub readsOf : Row → World → List Meeting
-readsOf r x =
-    ifEq (r .kind) kind.setAt (wordAt (numberIn (x .stack) (x .machine .frame) (r .address)) ∷ []) []
-    ++ touched (x .stack) (x .machine .frame) (r .operands)
+unfoldable pub readsOf : Width → Row → World → List Meeting
+readsOf w r x =
+    ifEq (r .kind) kind.setAt (wordAt (numberIn w (x .stack) (x .machine .frame) (r .address)) ∷ []) []
+    ++ touched w (x .stack) (x .machine .frame) (r .operands)
 
 -- all, in reading order
 unfoldable pub meetingsOf : Program → ℕ → ℕ → World → List Meeting
 meetingsOf p sum last x =
-    readsOf (p .rows (x .machine .next)) x
+    readsOf (p .width) (p .rows (x .machine .next)) x
     ++ behindOperands (p .width) (x .machine .top) sum last (p .rows (p .rows (x .machine .next) .callee) .a) (p .rows (x .machine .next))
     (wordOf (p .width) (x .stack) (x .machine .frame) (x .memory) (operandNo (p .rows (x .machine .next) .operands) 0))
     (wordOf (p .width) (x .stack) (x .machine .frame) (x .memory) (operandNo (p .rows (x .machine .next) .operands) 1))
@@ -86,7 +86,7 @@ firstCause p sum last x = firstOf (p .width) (length (x .memory)) (length (x .st
 unfoldable pub argumentsRead : Program → World → Bool
 argumentsRead p x =
     both (isCall (p .rows (x .machine .next) .kind) (p .rows (x .machine .next) .expr))
-    (eqb (firstOf (p .width) (length (x .memory)) (length (x .stack)) (readsOf (p .rows (x .machine .next)) x)) 0)
+    (eqb (firstOf (p .width) (length (x .memory)) (length (x .stack)) (readsOf (p .width) (p .rows (x .machine .next)) x)) 0)
 
 -- "and that sum with the new frame, for a tail call less the old one, passes the words lent"
 unfoldable pub passesStack : Program → ℕ → ℕ → World → Bool

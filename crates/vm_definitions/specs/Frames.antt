@@ -13,13 +13,14 @@ use Rattle.prog_tables.specs.Layout.{frameHead, callExpression}
 use Rattle.prog_tables.specs.Tests.{both, oneOf}
 use Rattle.prog_tables.specs.Statement.{Row, hasExpression}
 use Rattle.prog_tables.specs.Faults.{inFunction, sizeAt}
+use Rattle.vm_definitions.specs.Access.{asWord}
 use Rattle.vm_definitions.specs.declared.Resumption.{Resumption}
 use Rattle.vm_definitions.specs.declared.Resumption.the-variants.{Ends, Caller}
 
 -- "Frame words: place to return to, start of the caller's frame [..], auto top at entry, parameters, [..] Entering a function zeroes the words after
--- the parameters"
-unfoldable pub frameWords : ℕ → ℕ → ℕ → List ℕ → ℕ → List ℕ
-frameWords call frame top xs size = call ∷ frame ∷ top ∷ xs ++ replicate (size - (frameHead + length xs)) 0
+-- the parameters"; the first three are numbers made words
+unfoldable pub frameWords : Width → ℕ → ℕ → ℕ → List ℕ → ℕ → List ℕ
+frameWords w call frame top xs size = asWord w call ∷ asWord w frame ∷ asWord w top ∷ xs ++ replicate (size - (frameHead + length xs)) 0
 
 -- ---- the words of a frame that starts at s
 

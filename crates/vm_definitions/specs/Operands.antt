@@ -8,7 +8,7 @@ use Rattle.base_prelude.specs.Choice.{ifTrue}
 use Rattle.base_limits.specs.declared.Width.{Width}
 use Rattle.prog_tables.specs.declared.Operand.{Operand}
 use Rattle.prog_tables.specs.declared.Operand.the-variants.{Constant, Local, Address, AtConstant, AtLocal, AtAddress, Unlisted}
-use Rattle.vm_definitions.specs.Access.{wordGood, loadOf}
+use Rattle.vm_definitions.specs.Access.{asWord, wordGood, loadOf}
 use Rattle.vm_definitions.specs.declared.Read.{Read}
 use Rattle.vm_definitions.specs.declared.Read.the-variants.{Got, Bad}
 
@@ -22,15 +22,16 @@ isAt (AtLocal x) = true
 isAt (AtAddress v) = true
 isAt Unlisted = false
 
--- the integer, the local's word in the frame at s of a stack, or the data label's address; behind `@` it is an address
-unfoldable pub numberIn : List ℕ → ℕ → Operand → ℕ
-numberIn st s (Constant v) = v
-numberIn st s (Local x) = getD st (s + x) 0
-numberIn st s (Address v) = v
-numberIn st s (AtConstant v) = v
-numberIn st s (AtLocal x) = getD st (s + x) 0
-numberIn st s (AtAddress v) = v
-numberIn st s Unlisted = 0
+-- the integer, the local's word in the frame at s of a stack, or the data label's address; behind `@` it is an address. Numbers
+-- that stand in a row are made words
+unfoldable pub numberIn : Width → List ℕ → ℕ → Operand → ℕ
+numberIn w st s (Constant v) = asWord w v
+numberIn w st s (Local x) = getD st (s + x) 0
+numberIn w st s (Address v) = asWord w v
+numberIn w st s (AtConstant v) = asWord w v
+numberIn w st s (AtLocal x) = getD st (s + x) 0
+numberIn w st s (AtAddress v) = asWord w v
+numberIn w st s Unlisted = 0
 
 -- the word at an address, else stop 32
 unfoldable pub fetchOf : Width → List ℕ → ℕ → Read
@@ -38,7 +39,7 @@ fetchOf w m a = ifTrue (wordGood w (length m) a) (Got (loadOf w m a)) Bad
 
 -- an operand's word
 unfoldable pub readOf : Width → List ℕ → ℕ → List ℕ → Operand → Read
-readOf w st s m o = ifTrue (isAt o) (fetchOf w m (numberIn st s o)) (Got (numberIn st s o))
+readOf w st s m o = ifTrue (isAt o) (fetchOf w m (numberIn w st s o)) (Got (numberIn w st s o))
 
 -- ---- several operands
 

@@ -54,7 +54,7 @@ module _ (p : Program) (bytes name args : List ℕ) (x : World) where
   startWorld =
       record {
         machine = freshOf (suc startedFunction) startedSize (p .dataLength);
-        stack = storeFrom (x .stack) 0 (frameWords (mark (p .width)) (mark (p .width)) (p .dataLength) args startedSize);
+        stack = storeFrom (x .stack) 0 (frameWords (p .width) (mark (p .width)) (mark (p .width)) (p .dataLength) args startedSize);
         memory = storeFrom (x .memory) 0 (take (p .dataLength) bytes);
       }
 

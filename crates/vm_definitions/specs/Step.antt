@@ -115,7 +115,7 @@ module _ (p : Program) (x : World) where
 
   -- the address of `set @`
   abbrev pub addressOf : ℕ
-  addressOf = numberIn (x .stack) frameOf (rowOf .address)
+  addressOf = numberIn w (x .stack) frameOf (rowOf .address)
 
   unfoldable pub assignedAt : Worked → Effect
   assignedAt (Value v top) = stores top addressOf (wordBytes (bytesOf w) v)
@@ -156,7 +156,7 @@ module _ (p : Program) (x : World) where
       (leaves
       (record {
         machine = movedTo (x .machine) (suc (rowOf .callee)) (x .machine .used) (x .machine .used + calleeSize) (x .machine .top);
-        stack = storeFrom (x .stack) (x .machine .used) (frameWords (x .machine .next) frameOf (x .machine .top) vs calleeSize);
+        stack = storeFrom (x .stack) (x .machine .used) (frameWords w (x .machine .next) frameOf (x .machine .top) vs calleeSize);
         memory = x .memory;
       }))
   callBy bad = stops 32
@@ -176,7 +176,7 @@ module _ (p : Program) (x : World) where
         machine = movedTo (x .machine) (suc (rowOf .callee)) frameOf (frameOf + calleeSize) (topAtEntry (x .stack) frameOf);
         stack =
             storeFrom (x .stack) frameOf
-            (frameWords (returnsTo (x .stack) frameOf) (callerFrame (x .stack) frameOf) (topAtEntry (x .stack) frameOf) vs calleeSize);
+            (frameWords w (returnsTo (x .stack) frameOf) (callerFrame (x .stack) frameOf) (topAtEntry (x .stack) frameOf) vs calleeSize);
         memory = x .memory;
       }))
   tailCallBy bad = stops 32
@@ -187,12 +187,12 @@ module _ (p : Program) (x : World) where
   unfoldable pub handedTo : ℕ → Row → ℕ → Machine → Effect
   handedTo v r s q =
       ifEq (r .kind) kind.setAt
-      (ifTrue (wordGood w (length (x .memory)) (numberIn (x .stack) s (r .address)))
+      (ifTrue (wordGood w (length (x .memory)) (numberIn w (x .stack) s (r .address)))
       (leaves
       (record {
         machine = q;
         stack = x .stack;
-        memory = storeFrom (x .memory) (numberIn (x .stack) s (r .address)) (wordBytes (bytesOf w) v);
+        memory = storeFrom (x .memory) (numberIn w (x .stack) s (r .address)) (wordBytes (bytesOf w) v);
       }))
       (stops 32))
       (ifEq (r .kind) kind.call (leaves (record { machine = q; stack = x .stack; memory = x .memory }))

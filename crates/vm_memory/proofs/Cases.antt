@@ -10,6 +10,8 @@ use lib.Seq.{drop-cons, set-out, getD-take}
 use Rattle.base_word.specs.Bytes.{wordBytes}
 use Rattle.vm_definitions.specs.Access.{storeFrom}
 use Rattle.vm_definitions.specs.Frames.{frameWords}
+use Rattle.vm_definitions.proofs.Words.{word-32}
+use Rattle.base_limits.specs.declared.Width.the-variants.{Bits32}
 
 pub put-past : (l : List ℕ) (i v : ℕ) → length l ≤ i → l ≡ set l i v
 put-past l i v h = sym (set-out l i v h)
@@ -121,16 +123,17 @@ head-put l l1 l2 l3 a x y z e1 e2 e3 =
     let z2 : a + 2 ≡ suc (suc a) = omega arith in
     rw (e3, e2, e1, z1, z2)
 
-pub frame-built : (l l1 l2 l3 : List ℕ) (a call frame top size k : ℕ) (xs : List ℕ) → l1 ≡ storeFrom l a (call ∷ frame ∷ top ∷ [])
-    → l2 ≡ storeFrom l1 (a + 3) xs → k ≡ size - (3 + length xs) → l3 ≡ storeFrom l2 (a + 3 + length xs) (replicate k 0)
-    → l3 ≡ storeFrom l a (frameWords call frame top xs size)
+pub frame-built : (l l1 l2 l3 : List ℕ) (a call frame top size k : ℕ) (xs : List ℕ) → call < 4294967296 → frame < 4294967296 → top < 4294967296
+    → l1 ≡ storeFrom l a (call ∷ frame ∷ top ∷ []) → l2 ≡ storeFrom l1 (a + 3) xs → k ≡ size - (3 + length xs)
+    → l3 ≡ storeFrom l2 (a + 3 + length xs) (replicate k 0) → l3 ≡ storeFrom l a (frameWords Bits32 call frame top xs size)
 unfolding frameWords
-frame-built l l1 l2 l3 a call frame top size k xs e1 e2 d e3 =
-    e3 ∙ ap (λ (j : ℕ). storeFrom l2 (a + 3 + length xs) (replicate j 0)) d
+frame-built l l1 l2 l3 a call frame top size k xs h1 h2 h3 e1 e2 d e3 =
+    rw (word-32 call h1, word-32 frame h2, word-32 top h3)
+    (e3 ∙ ap (λ (j : ℕ). storeFrom l2 (a + 3 + length xs) (replicate j 0)) d
     ∙ ap (λ (q : List ℕ). storeFrom q (a + 3 + length xs) (replicate (size - (3 + length xs)) 0)) e2
     ∙ sym (store-append l1 (a + 3) xs (replicate (size - (3 + length xs)) 0))
     ∙ ap (λ (q : List ℕ). storeFrom q (a + 3) (xs ++ replicate (size - (3 + length xs)) 0)) e1
-    ∙ sym (store-append l a (call ∷ frame ∷ top ∷ []) (xs ++ replicate (size - (3 + length xs)) 0))
+    ∙ sym (store-append l a (call ∷ frame ∷ top ∷ []) (xs ++ replicate (size - (3 + length xs)) 0)))
 
 -- ---- a word of memory
 

@@ -3,6 +3,7 @@ ghost use mathlib.Core.Path.{_≡_};
 ghost use mathlib.Core.List.{[], _∷_};
 ghost use Prim.Native.Nat.{_+_, _-_, _%_, _≤_, _<_};
 ghost use lib.ListN.{length, set, take, replicate};
+ghost use Rattle.base_limits.specs.declared.Width.the-variants.{Bits32};
 ghost use Rattle.base_word.specs.Bytes.{wordBytes};
 ghost use Rattle.vm_definitions.specs.Access.{storeFrom};
 ghost use Rattle.vm_definitions.specs.Frames.{frameWords};
@@ -75,7 +76,7 @@ pub fn build_frame(
     size: u32,
 )
     requires { ⌜ length (now args) < 4294967296 ⌝ }
-    ensures { λ _. ⌜ now (st .exit) ≡ storeFrom (now (st .entry)) at (frameWords call frame top (now (args .entry)) size) ⌝ }
+    ensures { λ _. ⌜ now (st .exit) ≡ storeFrom (now (st .entry)) at (frameWords Bits32 call frame top (now (args .entry)) size) ⌝ }
 {
     put_head(st, at, call, frame, top);
     let from = at as usize + 3;

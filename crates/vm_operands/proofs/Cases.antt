@@ -23,6 +23,7 @@ use Rattle.prog_tables.proofs.Each.{both-right}
 use Rattle.vm_definitions.specs.Access.{byteAddress, wordAddress, byteGood, wordGood, wordFrom, loadOf}
 use Rattle.vm_definitions.specs.Operands.{isAt, numberIn, fetchOf, readOf, onRead}
 use Rattle.vm_definitions.specs.Expressions.{evalOf, testHolds}
+use Rattle.vm_definitions.proofs.Words.{word-32}
 use Rattle.vm_definitions.proofs.OperatorTable.{Every, operator-none}
 use Rattle.vm_definitions.specs.declared.Read.{Read}
 use Rattle.vm_definitions.specs.declared.Read.the-variants.{Got, Bad}
@@ -85,30 +86,62 @@ pub ruleset fetch-ways = (fetch-got, fetch-bad)
 
 -- ---- operands
 
+module _ (st : List ℕ) (s : ℕ) (o : Operand) where
+  pub number-constant : (v : ℕ) → v < 4294967296 → o ≡ Constant v → v ≡ numberIn Bits32 st s o
+  unfolding numberIn
+  number-constant v l h = rw (h, word-32 v l)
+
+  pub number-local : (x v : ℕ) → o ≡ Local x → v ≡ getD st (s + x) 0 → v ≡ numberIn Bits32 st s o
+  unfolding numberIn
+  number-local x v h e = rw (h, e)
+
+  pub number-address : (v : ℕ) → v < 4294967296 → o ≡ Address v → v ≡ numberIn Bits32 st s o
+  unfolding numberIn
+  number-address v l h = rw (h, word-32 v l)
+
+  pub number-at-constant : (v : ℕ) → v < 4294967296 → o ≡ AtConstant v → v ≡ numberIn Bits32 st s o
+  unfolding numberIn
+  number-at-constant v l h = rw (h, word-32 v l)
+
+  pub number-at-local : (x v : ℕ) → o ≡ AtLocal x → v ≡ getD st (s + x) 0 → v ≡ numberIn Bits32 st s o
+  unfolding numberIn
+  number-at-local x v h e = rw (h, e)
+
+  pub number-at-address : (v : ℕ) → v < 4294967296 → o ≡ AtAddress v → v ≡ numberIn Bits32 st s o
+  unfolding numberIn
+  number-at-address v l h = rw (h, word-32 v l)
+
+  pub number-unlisted : o ≡ Unlisted → 0 ≡ numberIn Bits32 st s o
+  unfolding numberIn
+  number-unlisted h = rw h
+
+pub ruleset number-ways =
+    (number-constant, number-local, number-address, number-at-constant, number-at-local, number-at-address, number-unlisted)
+
 module _ (st : List ℕ) (s : ℕ) (m : List ℕ) (o : Operand) where
-  pub read-constant : (v : ℕ) → o ≡ Constant v → Got v ≡ readOf Bits32 st s m o
+  pub read-constant : (v : ℕ) → v < 4294967296 → o ≡ Constant v → Got v ≡ readOf Bits32 st s m o
   unfolding readOf isAt numberIn ifTrue
-  read-constant v h = rw h
+  read-constant v l h = rw (h, word-32 v l)
 
   pub read-local : (x v : ℕ) → o ≡ Local x → v ≡ getD st (s + x) 0 → Got v ≡ readOf Bits32 st s m o
   unfolding readOf isAt numberIn ifTrue
   read-local x v h e = rw (h, e)
 
-  pub read-address : (v : ℕ) → o ≡ Address v → Got v ≡ readOf Bits32 st s m o
+  pub read-address : (v : ℕ) → v < 4294967296 → o ≡ Address v → Got v ≡ readOf Bits32 st s m o
   unfolding readOf isAt numberIn ifTrue
-  read-address v h = rw h
+  read-address v l h = rw (h, word-32 v l)
 
-  pub read-at-constant : (v : ℕ) (r : Read) → o ≡ AtConstant v → r ≡ fetchOf Bits32 m v → r ≡ readOf Bits32 st s m o
+  pub read-at-constant : (v : ℕ) (r : Read) → v < 4294967296 → o ≡ AtConstant v → r ≡ fetchOf Bits32 m v → r ≡ readOf Bits32 st s m o
   unfolding readOf isAt numberIn ifTrue
-  read-at-constant v r h e = rw h e
+  read-at-constant v r l h e = rw (h, word-32 v l) e
 
   pub read-at-local : (x v : ℕ) (r : Read) → o ≡ AtLocal x → v ≡ getD st (s + x) 0 → r ≡ fetchOf Bits32 m v → r ≡ readOf Bits32 st s m o
   unfolding readOf isAt numberIn ifTrue
   read-at-local x v r h e d = rw (h, ← e) d
 
-  pub read-at-address : (v : ℕ) (r : Read) → o ≡ AtAddress v → r ≡ fetchOf Bits32 m v → r ≡ readOf Bits32 st s m o
+  pub read-at-address : (v : ℕ) (r : Read) → v < 4294967296 → o ≡ AtAddress v → r ≡ fetchOf Bits32 m v → r ≡ readOf Bits32 st s m o
   unfolding readOf isAt numberIn ifTrue
-  read-at-address v r h e = rw h e
+  read-at-address v r l h e = rw (h, word-32 v l) e
 
   pub read-unlisted : o ≡ Unlisted → Got 0 ≡ readOf Bits32 st s m o
   unfolding readOf isAt numberIn ifTrue

@@ -77,7 +77,7 @@ pub fn fetch(m: &[u8], a: u32) -> Read
 
 // An operand's own number: behind `@` it is an address. s is where the frame starts.
 pub fn number_in(st: &[u32], s: u32, o: Operand) -> u32
-    ensures { λ r. ⌜ r ≡ numberIn (now (st .entry)) s o ⌝ }
+    ensures { λ r. ⌜ r ≡ numberIn Bits32 (now (st .entry)) s o ⌝ }
 {
     match o {
         Operand::Constant(v) => v,

@@ -13,6 +13,7 @@ use Rattle.prog_tables.specs.Statement.{Row, operandOf, operandAt, slots, rowAt
 use Rattle.prog_tables.specs.Program.{Program, lentProgram}
 use Rattle.prog_tables.specs.Faults.{operandFault}
 use Rattle.vm_definitions.specs.Access.{storeFrom}
+use Rattle.base_limits.specs.declared.Width.the-variants.{Bits32}
 use Rattle.vm_definitions.specs.Frames.{frameWords}
 use Rattle.vm_definitions.specs.declared.Worked.{Worked}
 use Rattle.vm_definitions.specs.declared.Worked.the-variants.{Value, Stop}
@@ -161,7 +162,7 @@ pub ruleset call-tests = (call-many, call-none, call-other, call-local)
 
 -- ---- calls
 
-pub push-built : (st st′ : List ℕ) (at call below top p z : ℕ) (vs : List ℕ) → st′ ≡ storeFrom st at (frameWords call below top vs z)
+pub push-built : (st st′ : List ℕ) (at call below top p z : ℕ) (vs : List ℕ) → st′ ≡ storeFrom st at (frameWords Bits32 call below top vs z)
     → transferred (To (p + 1) at (at + z) top) st′ ≡ pushed st at call below top p z vs
 unfolding pushed
 push-built st st′ at call below top p z vs e =

@@ -299,7 +299,7 @@ module _ (t : List ℕ) (c : ℕ) (lw : List ℕ) (lc g d size : ℕ) (r : Machi
 
     went-call : Calling t c lw lc d n size sized → here .count ≤ 8 → (z : ℕ) → Callee (rowAt t) c (here .callee) (here .count) z → (vs : List ℕ)
         → Each size d st s m (take (here .count) (slots t (n * 27))) vs → r .used + z ≤ length st
-        → Moved (suc (here .callee)) (r .used) (r .used + z) (r .top) (storeFrom st (r .used) (frameWords n s (r .top) vs z))
+        → Moved (suc (here .callee)) (r .used) (r .used + z) (r .top) (storeFrom st (r .used) (frameWords Bits32 n s (r .top) vs z))
     unfolding effectOf callOf callBy argumentsOf ifTrue ifEq ifLt
     went-call w l z e vs o b =
         let x = w .call in
@@ -314,7 +314,7 @@ module _ (t : List ℕ) (c : ℕ) (lw : List ℕ) (lc g d size : ℕ) (r : Machi
 
     went-tail : here .kind ≡ 12 → here .expr ≡ 2 → getD st (s + 2) 0 ≤ length m → here .count ≤ 8 → (z : ℕ) → Callee (rowAt t) c (here .callee) (here .count) z → (vs : List ℕ)
         → Each size d st s m (take (here .count) (slots t (n * 27))) vs → s + z ≤ length st
-        → Moved (suc (here .callee)) s (s + z) (getD st (s + 2) 0) (storeFrom st s (frameWords (getD st s 0) (getD st (s + 1) 0) (getD st (s + 2) 0) vs z))
+        → Moved (suc (here .callee)) s (s + z) (getD st (s + 2) 0) (storeFrom st s (frameWords Bits32 (getD st s 0) (getD st (s + 1) 0) (getD st (s + 2) 0) vs z))
     unfolding effectOf tailCallBy argumentsOf isCalling isReturn isTest hasExpression ifTrue ifEq ifLt
     went-tail q f k l z e vs o b =
         let x = row-12 t c lw lc d n size sized q f in
@@ -330,7 +330,7 @@ module _ (t : List ℕ) (c : ℕ) (lw : List ℕ) (lc g d size : ℕ) (r : Machi
     -- a call whose new frame starts at a place
     module _ (at call under top : ℕ)
         (go : here .count ≤ 8 → (z : ℕ) → Callee (rowAt t) c (here .callee) (here .count) z → (vs : List ℕ) → Each size d st s m (take (here .count) (slots t (n * 27))) vs
-        → at + z ≤ length st → Moved (suc (here .callee)) at (at + z) top (storeFrom st at (frameWords call under top vs z))) where
+        → at + z ≤ length st → Moved (suc (here .callee)) at (at + z) top (storeFrom st at (frameWords Bits32 call under top vs z))) where
       right-entered : here .count ≤ 8 → (z : ℕ) → Callee (rowAt t) c (here .callee) (here .count) z
           → Right (entered t d size st s m n at call under top (here .callee) (here .count) z)
       unfolding entered enteredBy pushed RightBy

@@ -16,6 +16,7 @@ use Rattle.prog_tables.specs.Faults.{operandFault}
 use Rattle.prog_tables.specs.declared.Operand.{Operand}
 use Rattle.vm_definitions.specs.Access.{storeFrom}
 use Rattle.vm_definitions.specs.Operands.{Words, words, bad}
+use Rattle.base_limits.specs.declared.Width.the-variants.{Bits32}
 use Rattle.vm_definitions.specs.Frames.{frameWords, returnsTo, callerFrame, topAtEntry}
 use Rattle.vm_definitions.specs.declared.Worked.{Worked}
 use Rattle.vm_definitions.specs.declared.Worked.the-variants.{Value, Stop}
@@ -70,7 +71,7 @@ goodAll size d st s m os = readEach (goodRead size d st s m) os
 
 -- a new frame of z words for function p at a place: with the place to return to and the start of the caller's frame
 unfoldable pub pushed : List ℕ → ℕ → ℕ → ℕ → ℕ → ℕ → ℕ → List ℕ → Transferred
-pushed st at call below top p z vs = transferred (To (suc p) at (at + z) top) (storeFrom st at (frameWords call below top vs z))
+pushed st at call below top p z vs = transferred (To (suc p) at (at + z) top) (storeFrom st at (frameWords Bits32 call below top vs z))
 
 module _ (t : List ℕ) (d size : ℕ) (st : List ℕ) (s : ℕ) (m : List ℕ) (n at call below top p k z : ℕ) where
   unfoldable pub enteredBy : Words → Transferred

@@ -14,6 +14,7 @@ use Rattle.prog_tables.specs.Layout.{plain}
 use Rattle.prog_tables.specs.Statement.{expressionUses, operandOf, operandAt, rowFrom, rowAt}
 use Rattle.prog_tables.specs.Faults.{operandFault}
 use Rattle.vm_definitions.specs.Operands.{isAt, numberIn, fetchOf, readOf, onRead}
+use Rattle.vm_definitions.proofs.Words.{word-32}
 use Rattle.vm_definitions.specs.declared.Read.{Read}
 use Rattle.vm_definitions.specs.declared.Read.the-variants.{Got, Bad}
 use Rattle.vm_definitions.specs.declared.Worked.{Worked}
@@ -24,9 +25,9 @@ use Rattle.vm_quick_operands.specs.Fast.{goodRead, oneRead, twoRead, goo
 -- ---- operands
 
 module _ (t : List ℕ) (size d : ℕ) (st : List ℕ) (s : ℕ) (m : List ℕ) (i k v : ℕ) (e : k ≡ getD t i 0) (g : v ≡ getD t (i + 1) 0) where
-  pub read-constant : k ≡ 1 → Got v ≡ goodRead size d st s m (operandAt t i)
+  pub read-constant : v < 4294967296 → k ≡ 1 → Got v ≡ goodRead size d st s m (operandAt t i)
   unfolding goodRead operandAt operandOf operandFault readOf isAt numberIn ifEq ifTrue
-  read-constant h = rw (← e, h, ← g)
+  read-constant f h = rw (← e, h, ← g, word-32 v f)
 
   pub read-local : (x : ℕ) → k ≡ 2 → v < size → x ≡ getD st (s + v) 0 → Got x ≡ goodRead size d st s m (operandAt t i)
   unfolding goodRead operandAt operandOf operandFault readOf isAt numberIn ifEq ifTrue
@@ -36,17 +37,17 @@ module _ (t : List ℕ) (size d : ℕ) (st : List ℕ) (s : ℕ) (m : List ℕ) 
   unfolding goodRead operandAt operandOf operandFault ifEq ifTrue
   read-local-past h l = rw (← e, h, ← g, le-leb size v l)
 
-  pub read-address : k ≡ 3 → v ≤ d → Got v ≡ goodRead size d st s m (operandAt t i)
+  pub read-address : v < 4294967296 → k ≡ 3 → v ≤ d → Got v ≡ goodRead size d st s m (operandAt t i)
   unfolding goodRead operandAt operandOf operandFault readOf isAt numberIn ifEq ifTrue
-  read-address h l = rw (← e, h, ← g, le-ltb d v l)
+  read-address f h l = rw (← e, h, ← g, le-ltb d v l, word-32 v f)
 
   pub read-address-past : k ≡ 3 → d < v → Bad ≡ goodRead size d st s m (operandAt t i)
   unfolding goodRead operandAt operandOf operandFault ifEq ifTrue
   read-address-past h l = rw (← e, h, ← g, lt-ltb d v l)
 
-  pub read-at-constant : (r : Read) → k ≡ 4 → r ≡ fetchOf Bits32 m v → r ≡ goodRead size d st s m (operandAt t i)
+  pub read-at-constant : (r : Read) → v < 4294967296 → k ≡ 4 → r ≡ fetchOf Bits32 m v → r ≡ goodRead size d st s m (operandAt t i)
   unfolding goodRead operandAt operandOf operandFault readOf isAt numberIn ifEq ifTrue
-  read-at-constant r h q = rw (← e, h, ← g) q
+  read-at-constant r f h q = rw (← e, h, ← g, word-32 v f) q
 
   pub read-at-local : (x : ℕ) (r : Read) → k ≡ 5 → v < size → x ≡ getD st (s + v) 0 → r ≡ fetchOf Bits32 m x → r ≡ goodRead size d st s m (operandAt t i)
   unfolding goodRead operandAt operandOf operandFault readOf isAt numberIn ifEq ifTrue
@@ -56,9 +57,9 @@ module _ (t : List ℕ) (size d : ℕ) (st : List ℕ) (s : ℕ) (m : List ℕ) 
   unfolding goodRead operandAt operandOf operandFault ifEq ifTrue
   read-at-local-past h l = rw (← e, h, ← g, le-leb size v l)
 
-  pub read-at-address : (r : Read) → k ≡ 6 → v ≤ d → r ≡ fetchOf Bits32 m v → r ≡ goodRead size d st s m (operandAt t i)
+  pub read-at-address : (r : Read) → v < 4294967296 → k ≡ 6 → v ≤ d → r ≡ fetchOf Bits32 m v → r ≡ goodRead size d st s m (operandAt t i)
   unfolding goodRead operandAt operandOf operandFault readOf isAt numberIn ifEq ifTrue
-  read-at-address r h l q = rw (← e, h, ← g, le-ltb d v l) q
+  read-at-address r f h l q = rw (← e, h, ← g, le-ltb d v l, word-32 v f) q
 
   pub read-at-address-past : k ≡ 6 → d < v → Bad ≡ goodRead size d st s m (operandAt t i)
   unfolding goodRead operandAt operandOf operandFault ifEq ifTrue

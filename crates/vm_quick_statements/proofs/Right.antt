@@ -339,7 +339,7 @@ module _ (t : List ℕ) (c : ℕ) (lw : List ℕ) (lc g d size : ℕ) (r : Machi
     -- an operand whose kind is at most 3 and that can be read is one that may stand behind `@`
     record Listed (k v x : ℕ) : Type 0 where
       listed : addressListed (operandOf k v) ≡ true
-      number : numberIn st s (operandOf k v) ≡ x
+      number : numberIn Bits32 st s (operandOf k v) ≡ x
 
     got-same : (x y : ℕ) → Got x ≡ Got y → x ≡ y
     got-same x y e = cc
@@ -347,16 +347,16 @@ module _ (t : List ℕ) (c : ℕ) (lw : List ℕ) (lc g d size : ℕ) (r : Machi
     address-listed : (k v x : ℕ) → k ≤ 3 → Sound size d st s m (operandOf k v) x → Listed k v x
     unfolding operandOf operandFault addressListed readOf isAt numberIn ifEq ifTrue
     address-listed zero v x l o = true-false (o .good)
-    address-listed (suc zero) v x l o = record { listed = refl; number = got-same v x (o .word) }
+    address-listed (suc zero) v x l o = record { listed = refl; number = got-same _ x (o .word) }
     address-listed (suc (suc zero)) v x l o = record { listed = refl; number = got-same _ x (o .word) }
-    address-listed (suc (suc (suc zero))) v x l o = record { listed = refl; number = got-same v x (o .word) }
+    address-listed (suc (suc (suc zero))) v x l o = record { listed = refl; number = got-same _ x (o .word) }
     address-listed (suc (suc (suc (suc k)))) v x l o = absurd (omega (arith, l))
 
     address-is : row .address ≡ operandAt t (n * 27 + 9)
     unfolding rowAt rowFrom
     address-is = refl
 
-    went-7 : row .kind ≡ 7 → (x v end : ℕ) → addressListed (row .address) ≡ true → operandFault size d (row .address) ≡ false → numberIn st s (row .address) ≡ x
+    went-7 : row .kind ≡ 7 → (x v end : ℕ) → addressListed (row .address) ≡ true → operandFault size d (row .address) ≡ false → numberIn Bits32 st s (row .address) ≡ x
         → wordGood Bits32 (length m) x ≡ true → Told v end → Went (suc n) end st (storeFrom m x (wordBytes 4 v))
     unfolding kindFault targetFault hasTarget calleeFault sizeFault wordFault operandsFault addressFault isListed hasExpression isTest isCall isReturn isCalling hasWord ownWord usedBy ifLt ifEq ifTrue
         someOf effectOf setAtOf workedOf assignedAt stores

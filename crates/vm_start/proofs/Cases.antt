@@ -268,7 +268,7 @@ pub ruleset finding = (finding-start, finding-more, finding-found, finding-done)
 -- ---- the first frame
 
 module _ (g size d : ℕ) (bytes args st m : List ℕ) where
-  pub begun-made : (st′ m′ : List ℕ) (r : Machine) → st′ ≡ storeFrom st 0 (frameWords 4294967295 4294967295 d args size)
+  pub begun-made : (st′ m′ : List ℕ) (r : Machine) → st′ ≡ storeFrom st 0 (frameWords Bits32 4294967295 4294967295 d args size)
       → m′ ≡ storeFrom m 0 (take d bytes) → r ≡ freshOf (g + 1) size d → world r st′ m′ ≡ begunAt Bits32 g size d bytes args st m
   unfolding begunAt mark
   begun-made st′ m′ r e q h = rw (e, q, h, add-one g)

@@ -72,7 +72,7 @@ unfoldable pub begunAt : Width → ℕ → ℕ → ℕ → List ℕ → List ℕ
 begunAt w g size d bytes args st m =
     record {
       machine = freshOf (suc g) size d;
-      stack = storeFrom st 0 (frameWords (mark w) (mark w) d args size);
+      stack = storeFrom st 0 (frameWords w (mark w) (mark w) d args size);
       memory = storeFrom m 0 (take d bytes);
     }
 

@@ -82,8 +82,8 @@ pub ruleset branches = (branch-on, branch-off)
 
 -- ---- operands
 
-pub address-is : (st : List ℕ) (s a : ℕ) (y z : Operand) → y ≡ z → a ≡ numberIn st s y → a ≡ numberIn st s z
-address-is st s a y z e d = d ∙ ap (numberIn st s) e
+pub address-is : (st : List ℕ) (s a : ℕ) (y z : Operand) → y ≡ z → a ≡ numberIn Bits32 st s y → a ≡ numberIn Bits32 st s z
+address-is st s a y z e d = d ∙ ap (numberIn Bits32 st s) e
 
 pub test-is : (k : ℕ) (b : Bool) → b ≡ isTest k → b ≡ true → isTest k ≡ true
 test-is k b e d = sym e ∙ d
@@ -169,7 +169,7 @@ module _ (t : List ℕ) (c : ℕ) (r : Machine) (st m : List ℕ) where
     assign-stop k o h q = rw (← e, h, q)
 
     -- `set @`
-    pub word-value : (v top a : ℕ) (m′ : List ℕ) (o : Outcome) → x ≡ Value v top → a ≡ numberIn st (r .frame) (row .address) → m′ ≡ storeFrom m a (wordBytes 4 v)
+    pub word-value : (v top a : ℕ) (m′ : List ℕ) (o : Outcome) → x ≡ Value v top → a ≡ numberIn Bits32 st (r .frame) (row .address) → m′ ≡ storeFrom m a (wordBytes 4 v)
         → o ≡ oneStep (goingOn r (r .next + 1) top) → left o st m′ ≡ after assigningAt t c r st m
     unfolding assignedAt effected stores
     word-value v top a m′ o h d q p = rw (← e, h, ← d, q, went r top o p)
@@ -187,7 +187,7 @@ module _ (t : List ℕ) (c : ℕ) (r : Machine) (st m : List ℕ) where
     unfolding returned effected
     return-stop k o h q = rw (← e, h, q)
 
-  module _ (y : Operand) (a : ℕ) (b : Bool) (e : y ≡ row .address) (d : a ≡ numberIn st (r .frame) y) (i : b ≡ wordGood Bits32 (length m) a) where
+  module _ (y : Operand) (a : ℕ) (b : Bool) (e : y ≡ row .address) (d : a ≡ numberIn Bits32 st (r .frame) y) (i : b ≡ wordGood Bits32 (length m) a) where
     pub at-good : (o : Outcome) (m′ : List ℕ) → b ≡ true → left o st m′ ≡ after assigningAt t c r st m → left o st m′ ≡ after setAtOf t c r st m
     unfolding setAtOf ifTrue
     at-good o m′ h q = rw (← e, ← d, ← i, h) q

@@ -118,7 +118,7 @@ fn set_local(t: &[u32], c: u32, r: Machine, st: &mut [u32], m: &[u8]) -> Outcome
 
 // `set @` without a call, a being its address.
 fn assign_word(t: &[u32], c: u32, r: Machine, a: u32, st: &[u32], m: &mut [u8]) -> Outcome
-    requires { ⌜ (r .next < greatestWord) × (Expressed (rowAt (now t) (r .next))) × (length (now m) ≤ memoryBytes) × (a + 4 ≤ length (now m)) × (a ≡ numberIn (now st) (r .frame) (rowAt (now t) (r .next) .address)) ⌝ }
+    requires { ⌜ (r .next < greatestWord) × (Expressed (rowAt (now t) (r .next))) × (length (now m) ≤ memoryBytes) × (a + 4 ≤ length (now m)) × (a ≡ numberIn Bits32 (now st) (r .frame) (rowAt (now t) (r .next) .address)) ⌝ }
     ensures { λ o. ⌜ left o (now (st .entry)) (now (m .exit)) ≡ after assigningAt (now (t .entry)) c r (now (st .entry)) (now (m .entry)) ⌝ }
 {
     let n = r.next;

@@ -1,4 +1,4 @@
-use Rattle.vm_definitions.specs.Operands.{numberIn}
+use Rattle.vm_operands.proofs.Cases.{number-ways}
 use native.Mathlib.Omega.{arith}
 use mathlib.Core.Path.{_≡_, refl, sym, _∙_, ap, subst}
 use borrow.Author.Needs.{needs}
@@ -48,39 +48,32 @@ enum-told : tie.Need-enum-told
 enum-told c = search needs
 
 returns : tie.Need-returns
-unfolding numberIn
 returns c =
-    cc
+    search number-ways
 
 returns-2 : tie.Need-returns-2
-unfolding numberIn
 returns-2 c =
-    cc
+    search number-ways
 
 returns-3 : tie.Need-returns-3
-unfolding numberIn
 returns-3 c =
-    cc
+    search number-ways
 
 returns-4 : tie.Need-returns-4
-unfolding numberIn
 returns-4 c =
-    cc
+    search number-ways
 
 returns-5 : tie.Need-returns-5
-unfolding numberIn
 returns-5 c =
-    cc
+    search number-ways
 
 returns-6 : tie.Need-returns-6
-unfolding numberIn
 returns-6 c =
-    cc
+    search number-ways
 
 returns-7 : tie.Need-returns-7
-unfolding numberIn
 returns-7 c =
-    cc
+    search number-ways
 
 pub number-in-spec : {M : Type 1} → statement M
 number-in-spec =
