@@ -42,6 +42,7 @@ use Rattle.vm_definitions.specs.declared.Worked.the-variants.{Value, Sto
 use Rattle.vm_definitions.proofs.Invariant.{FrameAt, Under, Invariant}
 use Rattle.vm_definitions.proofs.Stores.{set-other, store-length, store-before, store-at, store-most, zeros-most}
 use Rattle.vm_definitions.proofs.Carried.{Agree, frame-to, kept}
+use Rattle.vm_definitions.proofs.Words.{memory-word}
 use Rattle.vm_definitions.proofs.Places.{target-inside, goto-inside, around-cases, around-more, around-outside}
 use Rattle.vm_definitions.specs.Operators.{Operator, operators, roundUp, reserved, answered, fetched, byteOf, applied}
 use Rattle.vm_definitions.proofs.OperatorTable.{Every, each-operator}
@@ -320,9 +321,11 @@ module _ (w : Width) (t : Tables) (good : WellFormed (programFrom w t)) (e : Ent
 
   -- ---- blocks
 
-  pub kept-block : rows t (x .machine .next) .kind ≡ 3 → Kept w t e es (blockOf (programFrom w t) x)
-  unfolding Kept blockOf keeps
-  kept-block k =
+  -- a block whose saved word is the auto top itself
+  kept-saved : rows t (x .machine .next) .kind ≡ 3
+      → Kept w t e es (keeps (programFrom w t) x (x .machine .top) (rows t (x .machine .next) .a) (x .machine .top ∷ replicate (rows t (x .machine .next) .b) 0))
+  unfolding Kept keeps
+  kept-saved k =
       kept w t good e es x i (suc (x .machine .next)) (x .machine .top)
       (storeFrom (x .stack) (x .machine .frame + rows t (x .machine .next) .a) (x .machine .top ∷ replicate (rows t (x .machine .next) .b) 0)) (x .memory)
       (store-length (x .stack) (x .machine .frame + rows t (x .machine .next) .a) (x .machine .top ∷ replicate (rows t (x .machine .next) .b) 0)) refl (i .top) frame
@@ -369,6 +372,12 @@ module _ (w : Width) (t : Tables) (good : WellFormed (programFrom w t)) (e : Ent
                 );
             blocks = λ b g q d. most b g q (ap (encloses (rows t) frameDepth b) (sym (next-block w t good (x .machine .next) (i .frame .within) no-end k)) ∙ d);
           }
+
+  pub kept-block : rows t (x .machine .next) .kind ≡ 3 → Kept w t e es (blockOf (programFrom w t) x)
+  unfolding blockOf
+  kept-block k =
+      subst (λ (v : ℕ). Kept w t e es (keeps (programFrom w t) x (x .machine .top) (rows t (x .machine .next) .a) (v ∷ replicate (rows t (x .machine .next) .b) 0)))
+      (sym (memory-word w (x .machine .top) (omega (arith, i .top, i .short)))) (kept-saved k)
 
   pub kept-end-block : rows t (x .machine .next) .kind ≡ 4 → Kept w t e es (endBlockOf (programFrom w t) x)
   unfolding Kept endBlockOf keeps storeFrom

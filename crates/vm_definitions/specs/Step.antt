@@ -19,7 +19,7 @@ use Rattle.prog_tables.specs.Layout.{noExpression}
 use Rattle.prog_tables.specs.Tests.{both}
 use Rattle.prog_tables.specs.Statement.{Row, isTest}
 use Rattle.prog_tables.specs.Program.{Program}
-use Rattle.vm_definitions.specs.Access.{byteAddress, wordAddress, byteGood, wordGood, storeFrom}
+use Rattle.vm_definitions.specs.Access.{asWord, byteAddress, wordAddress, byteGood, wordGood, storeFrom}
 use Rattle.vm_definitions.specs.Operands.{Words, words, bad, numberIn, readOf, readAll, onRead}
 use Rattle.vm_definitions.specs.Expressions.{evalOf, operandNo, testHolds}
 use Rattle.vm_definitions.specs.Frames.{frameWords, returnsTo, callerFrame, topAtEntry, isReturn, isCalling, resumptionOf}
@@ -91,7 +91,7 @@ module _ (p : Program) (x : World) where
 
   -- "for an open block its saved auto top and its `let`s"; "entering a block zeroes its `let`s"
   unfoldable pub blockOf : Effect
-  blockOf = keeps (x .machine .top) (rowOf .a) (x .machine .top ∷ replicate (rowOf .b) 0)
+  blockOf = keeps (x .machine .top) (rowOf .a) (asWord w (x .machine .top) ∷ replicate (rowOf .b) 0)
 
   -- "`end block` restores the block's auto top"
   unfoldable pub endBlockOf : Effect

@@ -27,6 +27,7 @@ use Rattle.vm_definitions.specs.Operands as machine
 use Rattle.vm_definitions.specs.Operands.{withWord, isAt, numberIn, readOf, readAll, onRead}
 use Rattle.vm_definitions.specs.Expressions.{evalOf, testHolds, operandNo}
 use Rattle.vm_definitions.specs.Frames.{isReturn, isCalling, headGood}
+use Rattle.vm_definitions.proofs.Words.{word-32}
 use Rattle.vm_definitions.specs.Step.{Effect, leaves, keeps, stores, goesTo, blockOf, endBlockOf, testOf, assigned, assignedAt, setAtOf, setByteBy, setWordBy, argumentsOf, workedOf, effectOf}
 use Rattle.vm_definitions.specs.Lent.{world}
 use Rattle.vm_definitions.specs.declared.Read.{Read}
@@ -226,7 +227,7 @@ module _ (t : List ℕ) (c : ℕ) (lw : List ℕ) (lc g d size : ℕ) (r : Machi
           calls = rw q;
           returns = rw q;
           block = rw q;
-          effect = rw (q, fields-a, fields-b);
+          effect = rw (q, fields-a, fields-b, word-32 (r .top) (omega (arith, h .top, h .memory)));
           stack = store-length st (s + a) _;
           memory = refl;
           first = store-before st (s + a) _ s (omega (arith, l));

@@ -17,6 +17,7 @@ use Rattle.prog_tables.specs.Statement.{Row, hasExpression, isTest, rowAt}
 use Rattle.prog_tables.specs.Program.{rowsAlone}
 use Rattle.vm_definitions.specs.Access.{storeFrom}
 use Rattle.vm_definitions.specs.Frames.{isCalling}
+use Rattle.vm_definitions.proofs.Words.{word-32}
 use Rattle.vm_definitions.specs.Step.{Effect, keeps, goesTo, blockOf, endBlockOf, testOf, setAtOf, effectOf, effected}
 use Rattle.vm_definitions.specs.Lent.{world, left}
 use Rattle.vm_definitions.specs.declared.Outcome.{Outcome}
@@ -67,10 +68,10 @@ module _ (t : List ℕ) (c : ℕ) (r : Machine) (st m : List ℕ) where
     pub do-end : (st′ m′ : List ℕ) → k ≡ 2 → left o st′ m′ ≡ after (handing 0) t c r st m → left o st′ m′ ≡ after effectOf t c r st m
     do-end st′ m′ q p = becomes (handing 0 (rowsAlone t c) (world r st m)) o st′ m′ (forms.of-end (rowsAlone t c) (world r st m) (sym e ∙ q)) p
 
-    pub do-block : (st′ : List ℕ) → k ≡ 3 → o ≡ oneStep (goingOn r (suc (r .next)) (r .top)) → st′ ≡ storeFrom st (r .frame + row .a) (r .top ∷ replicate (row .b) 0)
+    pub do-block : (st′ : List ℕ) → r .top < 4294967296 → k ≡ 3 → o ≡ oneStep (goingOn r (suc (r .next)) (r .top)) → st′ ≡ storeFrom st (r .frame + row .a) (r .top ∷ replicate (row .b) 0)
         → left o st′ m ≡ after effectOf t c r st m
     unfolding blockOf keeps effected
-    do-block st′ q p s = becomes (blockOf (rowsAlone t c) (world r st m)) o st′ m (forms.of-block (rowsAlone t c) (world r st m) (sym e ∙ q)) (rw (p, s))
+    do-block st′ l q p s = becomes (blockOf (rowsAlone t c) (world r st m)) o st′ m (forms.of-block (rowsAlone t c) (world r st m) (sym e ∙ q)) (rw (p, s, word-32 (r .top) l))
 
     pub do-end-block : k ≡ 4 → o ≡ oneStep (goingOn r (suc (r .next)) (getD st (r .frame + row .a) 0)) → left o st m ≡ after effectOf t c r st m
     unfolding endBlockOf keeps storeFrom effected
