@@ -27,6 +27,7 @@ use Rattle.parse_units.specs.Outline.{rowAt}
 use Rattle.parse_units.specs.Places.{groundIn, unitFault}
 use Rattle.parse_units.specs.Parse.{World, world, Result, result, begin, growBy, stateBehind, joinState, advance, sectionBehind, openRow, faultIn, unitStepOn, unitStep, parseFrom, parseOf}
 use Rattle.parse_units.specs.Fits.{UnitStepFits}
+use Rattle.parse_units.specs.declared.Row as outlined
 use Rattle.parse_units.specs.declared.State.{State}
 use Rattle.parse_units.specs.declared.Verdict.{Verdict}
 use Rattle.parse_units.specs.declared.Verdict.the-variants.{Accepted, Refused}
@@ -45,7 +46,8 @@ use Rattle.res_skeleton.proofs.Laws.{kind-is}
 use Rattle.prog_tables.specs.Nesting.{followsJump}
 use Rattle.prog_tables.specs.Statement as statement
 use Rattle.prog_tables.specs.Statement.{Row}
-use Rattle.res_scope.specs.Lines.{labelToken, labelKind, labelStatement}
+use Rattle.res_scope.specs.Lines.{endToken, labelToken, labelKind, labelStatement}
+use Rattle.thm_line_rows.proofs.Lines.{end-is}
 use Rattle.thm_label_rows.proofs.Scans.{unit-plain}
 use Rattle.thm_label_rows.proofs.Grown.{Grown, grow-grown}
 use Rattle.thm_label_rows.proofs.Unit.{Free, unit-free, line-some, labelled-line, labelled-row}
@@ -65,9 +67,16 @@ pub record Named (x : List ℕ) (c kind number : ℕ) : Type 0 where
   pub function : kind ≡ 3 → rowAt x number .kind ≡ 1
   pub place : kind ≡ 5 → rowAt x number .kind ≡ 1 → ⊥
 
+abbrev Stay : List ℕ → List ℕ → ℕ → Type 0
+Stay x z c = (i : ℕ) → i < c → rowAt z i ≡ rowAt x i
+
+kind-stays : (x z : List ℕ) (c : ℕ) → Stay x z c → (i : ℕ) → i < c → rowAt z i .kind ≡ rowAt x i .kind
+kind-stays x z c s i h = ap (λ (r : outlined.Row). r .kind) (s i h)
+
 -- more rows change nothing
-named-grown : (x z : List ℕ) (c d kind number : ℕ) → c ≤ d → ((i : ℕ) → i < c → rowAt z i .kind ≡ rowAt x i .kind) → Named x c kind number → Named z d kind number
-named-grown x z c d kind number l f h =
+named-grown : (x z : List ℕ) (c d kind number : ℕ) → c ≤ d → Stay x z c → Named x c kind number → Named z d kind number
+named-grown x z c d kind number l s h =
+    let f = kind-stays x z c s in
     record {
       kinds = h .kinds;
       within = λ e. let q : Within x c number = h .within e in
@@ -95,9 +104,18 @@ row-named x c k number h q =
     (λ e. record { kinds = inr (inl refl); within = λ _. h; function = λ _. q ∙ e; place = λ g _. let z : ⊥ = omega arith in z })
     (λ d. record { kinds = inr (inr refl); within = λ _. h; function = λ g. let z : ⊥ = omega arith in absurd z; place = λ _ g. d (sym q ∙ g) })
 
+-- out of data, the rows before the one it names end before its token
+abbrev Behind : List ℕ → ℕ → ℕ → ℕ → Type 0
+Behind x token kind number = (kind ≡ 1 → ⊥) → (m : ℕ) → 1 ≤ m → m < number → rowAt x m .next ≤ token
+
+behind-grown : (x z : List ℕ) (c token kind number : ℕ) → Stay x z c → Named x c kind number → Behind x token kind number → Behind z token kind number
+behind-grown x z c token kind number s n h d m a b =
+    let e = ap (λ (r : outlined.Row). r .next) (s m (let q = n .within d .below in omega (arith, q))) in
+    omega (arith, e, h d m a b)
+
 -- a label row: its token is a label, whose name is not reserved
 abbrev pub Labels : List ℕ → List ℕ → ℕ → ℕ → ℕ → ℕ → Type 0
-Labels t x c token kind number = (kindAt t token ≡ 2) × Free t token × Named x c kind number
+Labels t x c token kind number = (kindAt t token ≡ 2) × Free t token × Named x c kind number × Behind x token kind number
 
 -- ---- the parser's walk and that of the label rows, side by side
 
@@ -111,6 +129,7 @@ record Linked (t : List ℕ) (x : World) (m : Marking) : Type 0 where
   long : length (m .table) ≡ 1024
   some : 1 ≤ x .state .count
   last : rowAt (x .table) (x .state .count - 1) .kind ≡ 21 → ⊥
+  ends : (m : ℕ) → 1 ≤ m → m < x .state .count → rowAt (x .table) m .next ≤ x .state .at
   each : Each (Labels t (x .table) (x .state .count)) (m .table) (x .state .labels)
 
 rows-some : (k : ℕ) → 1 ≤ k → k < 25 → 1 ≤ rowsOf k
@@ -145,8 +164,29 @@ module _ (w : Width) (t : List ℕ) (n : ℕ) (x : World) (m : Marking) (h : Lin
     room : x .state .count + rowsOf k ≤ 1025
     room = omega (arith, clean-room w t n u k (groundIn (x .state) (openRow x)) (x .state) clean, h .fits .free)
 
-    grown : Grown x (growBy (rowsOf k) t u k x) k (rowsOf k)
-    grown = grow-grown t u k x room (h .fits .long)
+    grown : Grown x (growBy (rowsOf k) t u k x) u k (rowsOf k)
+    grown = grow-grown t u k x (unit-order t (x .state .at) .2) room (h .fits .long)
+
+    kinds-stay : (i : ℕ) → i < x .state .count → rowAt (growBy (rowsOf k) t u k x .table) i .kind ≡ rowAt (x .table) i .kind
+    kinds-stay = kind-stays (x .table) (growBy (rowsOf k) t u k x .table) (x .state .count) (grown .stays)
+
+    -- every row ends before the next unit
+    ends-on : (m : ℕ) → 1 ≤ m → m < growBy (rowsOf k) t u k x .state .count → rowAt (growBy (rowsOf k) t u k x .table) m .next ≤ u .next
+    ends-on m a b =
+        let o = unit-order t (x .state .at) in
+        elim (decLt m (x .state .count)) [
+          | yes g ↦ omega (arith, ap (λ (r : outlined.Row). r .next) (grown .stays m g), h .ends m a g, o .0, o .1, o .2)
+          | no g ↦ grown .within m (omega arith) b .1
+        ]
+
+    -- those before the unit end before its labels
+    new-behind : (i : ℕ) → u .first ≤ i → Behind (growBy (rowsOf k) t u k x .table) i (marks.labelKind k (m .state .section)) (labelNumber (m .state .section) (u .word) (m .state .row))
+    unfolding marks.labelKind labelNumber
+    new-behind i a d j b c =
+        let o = unit-order t (x .state .at) in
+        let s : m .state .section < 2 = elim (decLt (m .state .section) 2) [ yes g ↦ g | no g ↦ absurd (d (ifLt-no _ _ (omega arith))) ] in
+        let e : j < x .state .count = omega (arith, ifLt-yes (m .state .row) (u .word) s, h .row) in
+        omega (arith, ap (λ (r : outlined.Row). r .next) (grown .stays j e), h .ends j b e, o .0)
 
     -- at the source's end there are no labels
     end-plain : k ≡ 0 → unit ≡ marked (m .state .labels) (m .table)
@@ -169,7 +209,7 @@ module _ (w : Width) (t : List ℕ) (n : ℕ) (x : World) (m : Marking) (h : Lin
               record {
                 some = h .some;
                 below = omega (arith, grown .count);
-                first = λ g. h .last (sym (grown .stays (x .state .count - 1) (omega (arith, h .some))) ∙ g);
+                first = λ g. h .last (sym (kinds-stay (x .state .count - 1) (omega (arith, h .some))) ∙ g);
               } in
               subst (λ (v : ℕ). Named (growBy (rowsOf k) t u k x .table) (growBy (rowsOf k) t u k x .state .count) v (ifLt (m .state .section) 2 (m .state .row) (u .word))) (sym (ifLt-yes _ _ d))
               (subst (λ (v : ℕ). Named (growBy (rowsOf k) t u k x .table) (growBy (rowsOf k) t u k x .state .count) (ifEq k 1 3 5) v) (sym (ifLt-yes _ _ d ∙ h .row))
@@ -179,12 +219,12 @@ module _ (w : Width) (t : List ℕ) (n : ℕ) (x : World) (m : Marking) (h : Lin
     old-each : Each (Labels t (growBy (rowsOf k) t u k x .table) (growBy (rowsOf k) t u k x .state .count)) (m .table) (m .state .labels)
     old-each j a b =
         let q = h .each j (omega (arith, h .labels)) b in
-        (q .0, q .1, named-grown _ _ _ _ _ _ (omega (arith, grown .count)) (grown .stays) (q .2))
+        (q .0, q .1, named-grown _ _ _ _ _ _ (omega (arith, grown .count)) (grown .stays) (q .2), behind-grown _ _ _ _ _ _ (grown .stays) (q .2) (q .3))
 
     new-each : Each (Labels t (growBy (rowsOf k) t u k x .table) (growBy (rowsOf k) t u k x .state .count)) (unit .table) (unit .count)
     new-each =
         elim (ℕ-discrete (kindAt t (u .first)) 2) [
-          | yes e ↦ unit-each t u k (m .state) (m .table) (Labels t (growBy (rowsOf k) t u k x .table) (growBy (rowsOf k) t u k x .state .count)) (unit-order t (x .state .at) .1) (λ i a b f. (f, unit-free w t n u k (groundIn (x .state) (openRow x)) (x .state) clean i a b f, new-named e)) (h .long) old-each
+          | yes e ↦ unit-each t u k (m .state) (m .table) (Labels t (growBy (rowsOf k) t u k x .table) (growBy (rowsOf k) t u k x .state .count)) (unit-order t (x .state .at) .1) (λ i a b f. (f, unit-free w t n u k (groundIn (x .state) (openRow x)) (x .state) clean i a b f, new-named e, new-behind i a)) (h .long) old-each
           | no e ↦ subst (λ (y : Marked). Each (Labels t (growBy (rowsOf k) t u k x .table) (growBy (rowsOf k) t u k x .state .count)) (y .table) (y .count)) (sym (unit-none t u k (m .state) (m .table) (unit-plain t (x .state .at) e))) old-each
         ]
 
@@ -194,7 +234,7 @@ module _ (w : Width) (t : List ℕ) (n : ℕ) (x : World) (m : Marking) (h : Lin
           | no d ↦ grown .last (omega arith) e
           | yes d ↦
               let z : growBy (rowsOf k) t u k x .state .count - 1 ≡ x .state .count - 1 = omega (arith, grown .count) in
-              h .last (sym (ap (λ (i : ℕ). rowAt (growBy (rowsOf k) t u k x .table) i .kind) z ∙ grown .stays (x .state .count - 1) (omega (arith, h .some))) ∙ e)
+              h .last (sym (ap (λ (i : ℕ). rowAt (growBy (rowsOf k) t u k x .table) i .kind) z ∙ kinds-stay (x .state .count - 1) (omega (arith, h .some))) ∙ e)
         ]
 
     unit-step-go : (k ≡ 0 → ⊥) → unitStep w t n x ≡ go on
@@ -221,6 +261,7 @@ module _ (w : Width) (t : List ℕ) (n : ℕ) (x : World) (m : Marking) (h : Lin
           long = unit-kept t u k (m .state) (m .table) (h .long) .0;
           some = omega (arith, h .some, grown .count);
           last = last-row;
+          ends = ends-on;
           each = λ j a b. new-each j (omega arith) b;
         }
 
@@ -282,6 +323,7 @@ begin-linked t e =
       long = length-replicate {A = ℕ} 1024 0;
       some = omega arith;
       last = edge-row;
+      ends = λ m a b. let z : ⊥ = omega arith in absurd z;
       each = λ j a b. let z : ⊥ = omega arith in absurd z;
     }
 
@@ -298,7 +340,7 @@ RowedBy t (answer.Refused number place) x y = Unit {0}
 answer-rowed : (t x y : List ℕ) (v : Verdict) → Answered t v x y → RowedBy t (answerOf v) x y
 unfolding answerOf
 answer-rowed t x y (Accepted count labels) h =
-    λ j a b. let q = h j a b in (q .0, q .1, named-grown x x count (suc (count - 1)) _ _ (omega arith) (λ i g. refl) (q .2))
+    λ j a b. let q = h j a b in (q .0, q .1, named-grown x x count (suc (count - 1)) _ _ (omega arith) (λ i g. refl) (q .2), q .3)
 answer-rowed t x y (Refused key) h = tt
 
 outline-rowed : (w : Width) (t : List ℕ) (n : ℕ) → length t ≡ 32768 → RowedBy t (outlineOf w t n .answer) (outlineOf w t n .rows) (outlineOf w t n .labels)
@@ -349,10 +391,20 @@ module _ (t x y : List ℕ) (c j : ℕ) (few : c ≤ 1024) where
         place = λ e g. h .2 .place e (sym (view-is (getD y (j * 4 + 2) 0) (h .2 .within (λ d. let z : ⊥ = omega arith in z))) ∙ g);
       }
 
--- the label rows of an accepted source
-pub label-rows : (w : Width) (t : List ℕ) (n c l : ℕ) (x y : List ℕ) → length t ≡ 32768 → outlineOf w t n ≡ parsed (answer.Accepted c l) x y → (j : ℕ) → j < l
-    → LabelRow t y (statement.rowAt (skeletonOf x c)) c j
-label-rows w t n c l x y e h j g =
-    let f = accepted-counts w t n c l e (ap (λ (o : Outlined). o .answer) h) in
-    let r : Each (Labels t x (suc c)) y l = subst (λ (o : Outlined). RowedBy t (o .answer) (o .rows) (o .labels)) h (outline-rowed w t n e) in
-    row-good t x y c j (f .0) (r j g (omega (arith, f .1)))
+module _ (w : Width) (t : List ℕ) (n c l : ℕ) (x y : List ℕ) (long : length t ≡ 32768) (h : outlineOf w t n ≡ parsed (answer.Accepted c l) x y) (j : ℕ) (g : j < l) where
+  counts : (c ≤ 1024) × (l ≤ 256)
+  counts = accepted-counts w t n c l long (ap (λ (o : Outlined). o .answer) h)
+
+  has : RowHas (Labels t x (suc c)) y j
+  has = subst (λ (o : Outlined). RowedBy t (o .answer) (o .rows) (o .labels)) h (outline-rowed w t n long) j g (omega (arith, counts .1))
+
+  -- the label rows of an accepted source
+  pub label-rows : LabelRow t y (statement.rowAt (skeletonOf x c)) c j
+  label-rows = row-good t x y c j (counts .0) has
+
+  -- the statements before the one that a label names end before the label
+  pub label-behind : (labelKind y j ≡ 1 → ⊥) → (m : ℕ) → m < labelStatement y j → endToken (skeletonOf x c) m ≤ labelToken y j
+  unfolding labelToken labelKind labelStatement
+  label-behind d m a =
+      let q : Within x (suc c) (getD y (j * 4 + 2) 0) = has .2 .within d in
+      omega (arith, end-is w t n c l x y long h m (omega (arith, q .below)), has .3 d (m + 1) (omega arith) (omega arith))

@@ -131,11 +131,14 @@ stands-low k l h =
     either-eq (λ (r : Range). r .hi ≤ 4) k 32 _ _ (λ _. omega arith) (λ b.
     either-eq (λ (r : Range). r .hi ≤ 4) k 33 _ _ (λ _. omega arith) (λ f. let z : ⊥ = omega arith in absurd z))))))))
 
-place-by : (t : List ℕ) (n : ℕ) (u : Span) (k g : ℕ) → none ≤ placeRule t n u k g → g < standsIn k .hi
+place-stands : (t : List ℕ) (n : ℕ) (u : Span) (k g : ℕ) → none ≤ placeRule t n u k g → standsOn g k ≡ true
 unfolding placeRule
-place-by t n u k g =
-    either-true (λ (x : ℕ). none ≤ x → g < standsIn k .hi) (standsOn g k) _ _ (λ e _. stands-range g k e .1)
+place-stands t n u k g =
+    either-true (λ (x : ℕ). none ≤ x → standsOn g k ≡ true) (standsOn g k) _ _ (λ e _. e)
     (λ _ h. let z : ⊥ = omega (arith, key-low t n (u .word) 8 (omega arith)) in absurd z)
+
+place-by : (t : List ℕ) (n : ℕ) (u : Span) (k g : ℕ) → none ≤ placeRule t n u k g → g < standsIn k .hi
+place-by t n u k g h = stands-range g k (place-stands t n u k g h) .1
 
 left-by : (t : List ℕ) (n : ℕ) (u : Span) (k : ℕ) → none ≤ leftRule t n u k → k ≡ 34 → ⊥
 unfolding leftRule
@@ -234,6 +237,11 @@ unit-lines w t n u k g s c = omega arith
 unit-labels : (w : Width) (t : List ℕ) (n : ℕ) (u : Span) (k g : ℕ) (s : State) → none ≤ unitFault w t n u k g s → none ≤ labelsRule t n u (s .labels) .fault
 unfolding lineFaults leastOf
 unit-labels w t n u k g s c = omega (arith, unit-lines w t n u k g s c)
+
+-- a line may stand on its ground
+pub unit-stands : (w : Width) (t : List ℕ) (n : ℕ) (u : Span) (k g : ℕ) (s : State) → none ≤ unitFault w t n u k g s → standsOn g k ≡ true
+unfolding lineFaults leastOf
+unit-stands w t n u k g s c = place-stands t n u k g (omega (arith, unit-lines w t n u k g s c))
 
 -- no label of a unit has a reserved name
 pub unit-free : (w : Width) (t : List ℕ) (n : ℕ) (u : Span) (k g : ℕ) (s : State) → none ≤ unitFault w t n u k g s

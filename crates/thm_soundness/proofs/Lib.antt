@@ -5,5 +5,7 @@ pub mod Whole
 pub mod Labels
 pub mod NewNames
 pub mod LabelTests
+pub mod Exports
+pub mod Forward
 pub mod Sound
 pub mod Examples
