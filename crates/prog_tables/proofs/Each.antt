@@ -14,7 +14,7 @@ use Rattle.prog_tables.specs.Tests.{both, oneOf, given, all, allBelow, s
 use Rattle.prog_tables.specs.Label.{Tables, rows, labelsOf}
 use Rattle.prog_tables.specs.Program.{Program, programFrom}
 use Rattle.prog_tables.specs.Nesting.{stands, allClosed}
-use Rattle.prog_tables.specs.WellFormed.{shallow, aimed, jumps, calls, shaped, operandsGood, addressGood, setsLocal, framed, fewLocals, rowTests, names, nameGood, nameNew, labelTests, countsGood, rowGood, labelGood, wellFormed, WellFormed}
+use Rattle.prog_tables.specs.WellFormed.{shallow, aimed, jumps, calls, shaped, operandsGood, addressGood, setsLocal, framed, fewLocals, forwardCalls, rowTests, names, nameGood, nameNew, labelTests, countsGood, rowGood, labelGood, wellFormed, WellFormed}
 
 pub both-left : (p q : Bool) → both p q ≡ true → p ≡ true
 both-left true q e = refl
@@ -146,6 +146,10 @@ module _ (bits : Width) (t : Tables) (w : WellFormed (programFrom bits t)) where
     pub few-at : fewLocals (rows t) n ≡ true
     unfolding rowTests
     few-at = row-rule 10 (omega arith)
+
+    pub forward-at : forwardCalls (programFrom bits t) n ≡ true
+    unfolding rowTests
+    forward-at = row-rule 11 (omega arith)
 
   -- rule k at label n
   module _ (n : ℕ) (h : n < t .labelCount) where

@@ -18,7 +18,7 @@ use Rattle.prog_tables.specs.Program.{Program, programFrom}
 use Rattle.prog_tables.specs.Nesting.{behind, openBefore, groundIn, funcIn, scopeIn, upIn, isListed, mayStand, followsJump, stands, allClosed, isArm, isEndIf, nextArm, endIfOf, pastArm, targetOf, hasTarget, depthOf, encloses}
 use Rattle.prog_tables.specs.Frames.{isIn, letsBefore, blockNeed, needOf, frameSize, firstLet, blockWord, letWord, letSeen, isParameter, seenAt, inScope, localsAt}
 use Rattle.prog_tables.specs.Faults.{expressionListed, inFunction, sizeAt, operandFault, addressListed, kindFault, targetFault, calleeFault, sizeFault, ownWord, hasWord, wordFault, operandsFault, addressFault, rowFault, labelFault, countFault, tablesFault}
-use Rattle.prog_tables.specs.WellFormed.{shallow, aimed, labelled, jumps, calls, hasOperands, shaped, operandGood, operandsGood, addressGood, setsLocal, framed, fewLocals, rowTests, names, nameGood, nameNew, labelTests, countsGood, wellFormed}
+use Rattle.prog_tables.specs.WellFormed.{shallow, aimed, labelled, jumps, calls, forwardCalls, hasOperands, shaped, operandGood, operandsGood, addressGood, setsLocal, framed, fewLocals, rowTests, names, nameGood, nameNew, labelTests, countsGood, wellFormed}
 use Rattle.prog_tables.specs.Canonical.{usesWord, unusedZero, labelUnusedZero, zeroFrom, canonical}
 
 -- 01, case 1
@@ -110,6 +110,30 @@ frames-names = (102 ∷ replicate 63 0) ++ (97 ∷ 103 ∷ 97 ∷ 105 ∷ 110 �
 abbrev pub frames : Tables
 frames =
     record { statements = frames-rows; count = 19; labels = frames-labels; labelCount = 3; names = frames-names; dataLength = 0 }
+
+-- a forward call, to a function that stands behind it
+abbrev pub forward-rows : List ℕ
+forward-rows =
+    1 ∷ 0 ∷ 0 ∷ 0 ∷ 3 ∷ 0 ∷ 0 ∷ 0 ∷ 0 ∷ 0 ∷ 0 ∷ 0 ∷ 0 ∷ 0 ∷ 0 ∷ 0 ∷ 0 ∷ 0 ∷ 0 ∷ 0 ∷ 0 ∷ 0 ∷ 0 ∷ 0 ∷ 0 ∷ 0 ∷ 0 ∷  -- 0 function
+    11 ∷ 0 ∷ 0 ∷ 1 ∷ 0 ∷ 0 ∷ 2 ∷ 3 ∷ 0 ∷ 0 ∷ 0 ∷ 0 ∷ 0 ∷ 0 ∷ 0 ∷ 0 ∷ 0 ∷ 0 ∷ 0 ∷ 0 ∷ 0 ∷ 0 ∷ 0 ∷ 0 ∷ 0 ∷ 0 ∷ 0 ∷  -- 1 call g
+    2 ∷ 0 ∷ 0 ∷ 0 ∷ 0 ∷ 0 ∷ 0 ∷ 0 ∷ 0 ∷ 0 ∷ 0 ∷ 0 ∷ 0 ∷ 0 ∷ 0 ∷ 0 ∷ 0 ∷ 0 ∷ 0 ∷ 0 ∷ 0 ∷ 0 ∷ 0 ∷ 0 ∷ 0 ∷ 0 ∷ 0 ∷  -- 2 end function
+    1 ∷ 3 ∷ 3 ∷ 0 ∷ 3 ∷ 0 ∷ 0 ∷ 0 ∷ 0 ∷ 0 ∷ 0 ∷ 0 ∷ 0 ∷ 0 ∷ 0 ∷ 0 ∷ 0 ∷ 0 ∷ 0 ∷ 0 ∷ 0 ∷ 0 ∷ 0 ∷ 0 ∷ 0 ∷ 0 ∷ 0 ∷  -- 3 function
+    2 ∷ 3 ∷ 3 ∷ 0 ∷ 0 ∷ 0 ∷ 0 ∷ 0 ∷ 0 ∷ 0 ∷ 0 ∷ 0 ∷ 0 ∷ 0 ∷ 0 ∷ 0 ∷ 0 ∷ 0 ∷ 0 ∷ 0 ∷ 0 ∷ 0 ∷ 0 ∷ 0 ∷ 0 ∷ 0 ∷ 0 ∷  -- 4 end function
+    []
+
+abbrev pub forward-labels : List ℕ
+forward-labels =
+    4 ∷ 0 ∷ 0 ∷ 1 ∷  -- f
+    3 ∷ 3 ∷ 0 ∷ 1 ∷  -- g
+    3 ∷ 3 ∷ 0 ∷ 1 ∷  -- h
+    []
+
+abbrev pub forward-names : List ℕ
+forward-names = (102 ∷ replicate 63 0) ++ (103 ∷ replicate 63 0) ++ (104 ∷ replicate 63 0)
+
+abbrev pub forward : Tables
+forward =
+    record { statements = forward-rows; count = 5; labels = forward-labels; labelCount = 3; names = forward-names; dataLength = 0 }
 
 -- word j of statement n, of label n, byte j of name n
 abbrev statement : Tables → ℕ → ℕ → ℕ → Tables
@@ -268,5 +292,22 @@ pub record Strong : Type 0 where
   pub unused : canonical (statement arms 8 5 9) ≡ false
 
 pub strong : Strong
-unfolding ifLt ifEq ifTrue sameList words firstOf isSpelled isNumber entryNamed entryOf numberOf leastOperands statementIn standsIn enters leaves groundOf isFrame all some allOf someOf allBelow someBelow countBelow greatestBelow firstFrom operandOf operandKind operandNumber hasExpression isTest isOperator isCall expressionUses usedBy operandAt slots rowFrom rowAt slotWords encode labelAt isData isFunctionLabel behind openBefore groundIn funcIn scopeIn upIn isListed mayStand followsJump stands allClosed isArm isEndIf nextArm endIfOf pastArm targetOf hasTarget depthOf encloses isIn letsBefore blockNeed needOf frameSize firstLet blockWord letWord letSeen isParameter seenAt inScope localsAt expressionListed inFunction sizeAt operandFault addressListed kindFault targetFault calleeFault sizeFault ownWord hasWord wordFault operandsFault addressFault rowFault labelFault countFault tablesFault shallow aimed labelled jumps calls hasOperands shaped operandGood operandsGood addressGood setsLocal framed fewLocals rowTests names nameGood nameNew labelTests countsGood wellFormed usesWord unusedZero labelUnusedZero zeroFrom canonical
+unfolding ifLt ifEq ifTrue sameList words firstOf isSpelled isNumber entryNamed entryOf numberOf leastOperands statementIn standsIn enters leaves groundOf isFrame all some allOf someOf allBelow someBelow countBelow greatestBelow firstFrom operandOf operandKind operandNumber hasExpression isTest isOperator isCall expressionUses usedBy operandAt slots rowFrom rowAt slotWords encode labelAt isData isFunctionLabel behind openBefore groundIn funcIn scopeIn upIn isListed mayStand followsJump stands allClosed isArm isEndIf nextArm endIfOf pastArm targetOf hasTarget depthOf encloses isIn letsBefore blockNeed needOf frameSize firstLet blockWord letWord letSeen isParameter seenAt inScope localsAt expressionListed inFunction sizeAt operandFault addressListed kindFault targetFault calleeFault sizeFault ownWord hasWord wordFault operandsFault addressFault rowFault labelFault countFault tablesFault shallow aimed labelled jumps calls forwardCalls hasOperands shaped operandGood operandsGood addressGood setsLocal framed fewLocals rowTests names nameGood nameNew labelTests countsGood wellFormed usesWord unusedZero labelUnusedZero zeroFrom canonical
 strong = record { page-good = refl; page-canonical = refl; page-sound = refl; arms-good = refl; arms-canonical = refl; arms-sound = refl; frames-good = refl; frames-canonical = refl; frames-sound = refl; kind = refl; func = refl; scope = refl; up = refl; cut = refl; let-in-if = refl; jump-test = refl; false-test = refl; false-else = refl; else-past = refl; jump = refl; goto-place = refl; goto-scope = refl; callee = refl; callee-label = refl; arguments = refl; operands = refl; operand-kind = refl; expression = refl; own-word = refl; header = refl; later-let = refl; address = refl; address-slot = refl; let-word = refl; base = refl; end-base = refl; own-lets = refl; before = refl; size = refl; size-small = refl; label-kind = refl; label-function = refl; label-place = refl; label-jump = refl; label-test = refl; label-address = refl; label-empty = refl; label-long = refl; label-reserved = refl; label-twice = refl; fault-word = refl; fault-header = refl; fault-address = refl; fault-address-end = refl; fault-block = refl; fault-size = refl; fault-target = refl; fault-else = refl; fault-goto = refl; fault-callee = refl; fault-arguments = refl; fault-kind = refl; fault-unused = refl; fault-label = refl; fault-label-end = refl; fault-place = refl; fault-name = refl; fault-count = refl; unused = refl }
+
+-- exports, and calls to a function that stands behind them
+pub record Forward : Type 0 where
+  -- the good table forward
+  pub good : wellFormed (at32 forward) ≡ true
+  -- one of two labels of the function that is called from before it is exported
+  pub one : wellFormed (at32 (label forward 1 0 4)) ≡ true
+  -- an exported-only function called from before it
+  pub exported : wellFormed (at32 (label (label forward 1 0 4) 2 0 4)) ≡ false
+  -- no row of it is broken
+  pub sound : tablesFault (at32 (label (label forward 1 0 4) 2 0 4)) ≡ false
+  -- exported-only, and called from behind it
+  pub behind : wellFormed (at32 (statement (label (label forward 1 0 4) 2 0 4) 1 7 0)) ≡ true
+
+pub forward-calls : Forward
+unfolding ifLt ifEq ifTrue sameList words firstOf isSpelled isNumber entryNamed entryOf numberOf leastOperands statementIn standsIn enters leaves groundOf isFrame all some allOf someOf allBelow someBelow countBelow greatestBelow firstFrom operandOf operandKind operandNumber hasExpression isTest isOperator isCall expressionUses usedBy operandAt slots rowFrom rowAt slotWords encode labelAt isData isFunctionLabel behind openBefore groundIn funcIn scopeIn upIn isListed mayStand followsJump stands allClosed isArm isEndIf nextArm endIfOf pastArm targetOf hasTarget depthOf encloses isIn letsBefore blockNeed needOf frameSize firstLet blockWord letWord letSeen isParameter seenAt inScope localsAt expressionListed inFunction sizeAt operandFault addressListed kindFault targetFault calleeFault sizeFault ownWord hasWord wordFault operandsFault addressFault rowFault labelFault countFault tablesFault shallow aimed labelled jumps calls forwardCalls hasOperands shaped operandGood operandsGood addressGood setsLocal framed fewLocals rowTests names nameGood nameNew labelTests countsGood wellFormed usesWord unusedZero labelUnusedZero zeroFrom canonical
+forward-calls = record { good = refl; one = refl; exported = refl; sound = refl; behind = refl }

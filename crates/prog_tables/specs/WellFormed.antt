@@ -13,7 +13,7 @@ use Rattle.base_limits.specs.Limits as limits
 use Rattle.base_limits.specs.Limits.{nameBytes, dataBytes, parameters, locals, blockDepth}
 use Rattle.lang_kinds.specs.Kinds as kind
 use Rattle.lang_words.specs.Words.{numberOf}
-use Rattle.prog_tables.specs.Layout.{placeLabel}
+use Rattle.prog_tables.specs.Layout.{functionLabel, placeLabel}
 use Rattle.prog_tables.specs.Tests.{both, oneOf, given, all, allOf, allBelow, someBelow}
 use Rattle.prog_tables.specs.Statement.{Row, hasExpression, isTest, isCall, usedBy}
 use Rattle.prog_tables.specs.Label.{Label, isData, isFunctionLabel}
@@ -60,6 +60,13 @@ calls p n =
     ∷ leb (p .rows n .count) parameters
     ∷ labelled (p .labels) (p .labelCount) isFunctionLabel (p .rows n .callee)
     ∷ []))
+
+-- exports: "An export stands before the first operand or target that means its label", its definition is the first behind it, and no
+-- function holds one; so a forward call, to a function that stands behind it, is by a label that is not exported
+unfoldable pub forwardCalls : Program → ℕ → Bool
+forwardCalls p n =
+    given (both (isCall (p .rows n .kind) (p .rows n .expr)) (ltb n (p .rows n .callee)))
+    (labelled (p .labels) (p .labelCount) (λ k. eqb k functionLabel) (p .rows n .callee))
 
 -- `set-byte`, `set-word`, calls, tests, and what has an expression
 unfoldable pub hasOperands : ℕ → Bool
@@ -123,6 +130,7 @@ rowTests p n =
     ∷ setsLocal (p .rows) n
     ∷ framed (p .rows) (p .count) n
     ∷ fewLocals (p .rows) n
+    ∷ forwardCalls p n
     ∷ []
 
 -- ---- labels

@@ -7,10 +7,12 @@ use mathlib.Core.List.{List, [], _∷_}
 use Prim.Native.Nat.{ℕ, _+_, _*_, _≤_, _<_}
 use native.Mathlib.Omega.{arith}
 use lib.ListN.{length}
+use Rattle.base_prelude.specs.Choice.{pick, ifEq}
 use Rattle.base_prelude.specs.Lists.{zeros}
 use Rattle.base_limits.specs.Width.{dataLimit}
 use Rattle.base_limits.specs.declared.Width.{Width}
 use Rattle.base_limits.specs.declared.Width.the-variants.{Bits32, Bits16}
+use Rattle.lex_source.specs.Lex.{Outcome}
 use Rattle.lex_source.specs.Rows.{tokenTable}
 use Rattle.prog_tables.specs.Statement.{rowAt}
 use Rattle.prog_tables.specs.Label.{Tables, labelAt}
@@ -24,14 +26,21 @@ use Rattle.parse_outline.specs.declared.Parsed.the-variants as answer
 use Rattle.res_skeleton.specs.Skeleton.{skeletonOf}
 use Rattle.res_frame_words.specs.Framing.{wordsOf}
 use Rattle.res_rows.specs.Rows.{statementTable}
-use Rattle.res_labels.specs.Labelling.{labelTable, nameTable}
+use Rattle.res_labels.specs.Labelling.{flagAt, finalKind, labelTable, nameTable}
 use Rattle.res_data.specs.Sizes.{lengthOf}
 use Rattle.res_data.specs.declared.Measured.the-variants.{Length}
 use Rattle.res_data.proofs.Laws.{measure-low}
 use Rattle.res_text.specs.Same.{sameText}
 use Rattle.parse_verdict.proofs.Lexed.{lexed-long}
-use Rattle.thm_acceptance.specs.Accepts.{isAccepted}
-use Rattle.check_judge.specs.Judge.{known, namesJudged}
+use Rattle.parse_verdict.proofs.Counts.{accepted-counts}
+use Rattle.res_names.specs.Naming.{Naming, namesOf}
+use Rattle.res_exports.specs.Exports.{isExported}
+use Rattle.res_exports.proofs.Flags.{flags-say}
+use Rattle.thm_acceptance.specs.Accepts.{tokensIn, tokensOf, statementsIn, isAccepted}
+use Rattle.thm_acceptance.specs.Accepts as accepts
+use Rattle.thm_acceptance.specs.Unbroken.{NamesUnbroken, Unbroken}
+use Rattle.thm_acceptance.proofs.Accepts.{accepts-exactly}
+use Rattle.check_judge.specs.Judge.{known, namesWith, namesJudged}
 use Rattle.check_fill.specs.Fill.{labelsIn, fillOf}
 use Rattle.check_source.specs.Check.{Lent, accept, checkOf}
 use Rattle.check_source.proofs.Cases.{room-statements, room-labels, room-names}
@@ -39,8 +48,10 @@ use Rattle.thm_canonical.proofs.Whole.{outline-canonical}
 use Rattle.thm_soundness.specs.Program.{programBy, programOf}
 use Rattle.thm_soundness.proofs.Accepted.{Checks, checks, names-clean}
 use Rattle.thm_soundness.proofs.Rows.{alike}
-use Rattle.thm_soundness.proofs.Labels.{labels-are}
+use Rattle.thm_soundness.proofs.Labels.{kind-of, labels-are}
 use Rattle.thm_soundness.proofs.NewNames.{names-new}
+use Rattle.thm_soundness.proofs.Forward.{forward-free}
+use Rattle.thm_soundness.proofs.Tests.{Forward}
 use Rattle.thm_soundness.proofs.LabelTests.{size-of, name-bytes, label-passes, label-tokens}
 use Rattle.thm_soundness.proofs.Whole.{left, outline-wellformed}
 
@@ -48,7 +59,11 @@ limit-low : (w : Width) → dataLimit w ≤ 32768
 limit-low Bits32 = omega arith
 limit-low Bits16 = omega arith
 
-module _ (w : Width) (s : List ℕ) (b : Lent) (q : Checks w s b) where
+plain-function : finalKind 3 0 ≡ 3
+unfolding finalKind ifEq
+plain-function = refl
+
+module _ (w : Width) (s : List ℕ) (b : Lent) (q : Checks w s b) (page : Unbroken w s) where
   abbrev t : List ℕ
   t = tokenTable (q .tokens)
 
@@ -90,6 +105,31 @@ module _ (w : Width) (s : List ℕ) (b : Lent) (q : Checks w s b) where
         dataLength = q .size;
       }
 
+  -- the page of rules, of these tokens
+  names-hold : NamesUnbroken same t (length s) (skeletonOf x (q .c)) y (q .l) (q .c)
+  unfolding tokensOf tokensIn statementsIn accepts.labelsIn
+  names-hold =
+      subst (λ (a : Parsed). NamesUnbroken same t (length s) (skeletonOf x (statementsIn a)) y (accepts.labelsIn a) (statementsIn a)) (q .outlines)
+      (subst (λ (o : Outcome). NamesUnbroken (sameText s (tokenTable (tokensIn o))) (tokenTable (tokensIn o)) (length s)
+      (skeletonOf (outlineOf w (tokenTable (tokensIn o)) (length s) .rows) (statementsIn (outlineOf w (tokenTable (tokensIn o)) (length s) .answer)))
+      (outlineOf w (tokenTable (tokensIn o)) (length s) .labels) (accepts.labelsIn (outlineOf w (tokenTable (tokensIn o)) (length s) .answer)) (statementsIn (outlineOf w (tokenTable (tokensIn o)) (length s) .answer)))
+      (q .lexes) (page .names))
+
+  few-labels : q .l ≤ 256
+  few-labels = accepted-counts w t (length s) (q .c) (q .l) long (q .outlines) .1
+
+  -- a label that is not exported keeps its kind
+  flag-none : (j : ℕ) → j < q .l → isExported same t y (q .l) j ≡ false → flagAt flags j ≡ 0
+  unfolding flagAt namesJudged namesWith
+  flag-none j g e =
+      flags-say same t (length s) y (q .l) (namesOf same t (length s) (skeletonOf x (q .c)) y (q .l) (q .c) .uses) j g (omega (arith, few-labels))
+      ∙ ap (λ (v : Bool). pick v 1 0) e
+
+  forward : Forward same t (skeletonOf x (q .c)) y (q .l) (q .c) (labelAt (labelTable w t y flags (q .l) (zeros (b .labels))) (nameTable s t y (q .l) (zeros (b .names))))
+  forward r j g a call e o ahead =
+      let f = forward-free w t (length s) (q .c) (q .l) x y long oh same (names-hold .exportsFirst) r j g a call e o ahead in
+      kind-of w s t y flags (q .l) (b .labels) (b .names) labels-room j a ∙ ap₂ finalKind o (flag-none j a f) ∙ plain-function
+
   program-formed : WellFormed (programFrom w program)
   program-formed =
       let like = alike w t (length s) (q .c) (q .l) x y long oh same (labelTable w t y flags (q .l) (zeros (b .labels))) (b .statements) rows-room in
@@ -99,7 +139,7 @@ module _ (w : Width) (s : List ℕ) (b : Lent) (q : Checks w s b) where
       let new = names-new s t (length s) y (q .l) (labelAt (labelTable w t y flags (q .l) (zeros (b .labels))) (nameTable s t y (q .l) (zeros (b .names)))) tokens bytes (skeletonOf x (q .c)) (q .c) clean in
       let low : q .size ≤ 32768 = let a = measure-low w t 4098 (q .size) (q .sized) in let c = limit-low w in omega (arith, a, c) in
       outline-wellformed w t (length s) (q .c) (q .l) x y long oh same s flags (b .statements) (b .labels) (b .names) (q .size) rows-room labels-room names-room
-      (labels-are w s t y flags (q .l) (b .labels) (b .names) labels-room (length s) (q .c) x long oh) clean low
+      (labels-are w s t y flags (q .l) (b .labels) (b .names) labels-room (length s) (q .c) x long oh) clean low forward
       (label-passes w s (q .tokens) (q .lexes) (length s) (q .c) (q .l) x y flags long oh (b .labels) (b .names) (q .size) labels-room names-room (q .sized) _ like (programFrom w program) new)
 
   program-canonical : Canonical program
@@ -118,7 +158,8 @@ module _ (w : Width) (s : List ℕ) (b : Lent) (q : Checks w s b) where
 -- "Take any source you accepted": the tables, names, counts and data that an accepted check leaves in the lent buffers, of any lengths
 pub accepted-sound : (w : Width) (s : List ℕ) (b : Lent) → isAccepted (checkOf w s b .answer) ≡ true → WellFormed (programFrom w (programOf (checkOf w s b))) × Canonical (programOf (checkOf w s b))
 accepted-sound w s b h =
-    let q = checks w s b h in (
-      subst (λ (t : Tables). WellFormed (programFrom w t)) (sym (program-is w s b q)) (program-formed w s b q),
-      subst Canonical (sym (program-is w s b q)) (program-canonical w s b q),
+    let q = checks w s b h in
+    let page = accepts-exactly w s b .0 h .0 in (
+      subst (λ (t : Tables). WellFormed (programFrom w t)) (sym (program-is w s b q page)) (program-formed w s b q page),
+      subst Canonical (sym (program-is w s b q page)) (program-canonical w s b q page),
     )

@@ -25,6 +25,8 @@ use Rattle.parse_outline.specs.Outline as outline
 use Rattle.parse_outline.specs.declared.Parsed.the-variants as answer
 use Rattle.res_skeleton.specs.Skeleton.{skeletonOf}
 use Rattle.res_scope.specs.Lines.{firstToken, endToken, labelKind, labelStatement}
+use Rattle.res_scope.specs.Names.{meaningOf}
+use Rattle.res_scope.specs.declared.Meaning.the-variants as meaning
 use Rattle.res_frame_words.specs.Framing.{wordsOf}
 use Rattle.res_rows.specs.Rows.{labelNumber, aOf, rowWith, rowOf, statementTable}
 use Rattle.parse_verdict.specs.Verdict.{Clean}
@@ -32,7 +34,7 @@ use Rattle.thm_acceptance.specs.Faults.{allNameFaults}
 use Rattle.thm_line_rows.proofs.Rows.{kindOf, partsAt, row-shaped, row-listed, row-few, row-operands, address-marked, callee-some, function-parameters}
 use Rattle.thm_statement_rows.proofs.Views.{viewing, Alike, stands-same, shallow-same, few-same}
 use Rattle.thm_statement_rows.proofs.Operands.{Known}
-use Rattle.thm_statement_rows.proofs.Statements.{statement-clean, operands-pass, address-passes, set-passes, goto-passes, calls-pass, shape-passes}
+use Rattle.thm_statement_rows.proofs.Statements.{statement-clean, operands-pass, address-passes, set-passes, goto-passes, calls-pass, forward-passes, shape-passes}
 use Rattle.thm_statement_rows.proofs.Framing.{aimed-passes, framed-passes}
 use Rattle.thm_soundness.proofs.Rows.{few-statements, stand, in-function, few-parameters, back, alike}
 
@@ -45,6 +47,11 @@ pub record Labels (k y : List ℕ) (l : ℕ) (z : List ℕ) (c : ℕ) (h : ℕ �
   pub callees : (j : ℕ) → j < l → labelKind y j ≡ 3 → (labelStatement y j < c) × (rowAt k (labelStatement y j) .kind ≡ 1)
   pub spots : (j : ℕ) → j < l → labelKind y j ≡ 5 → labelStatement y j < c
 
+-- a label by which a statement that stands before its function calls it is not exported
+abbrev pub Forward : (ℕ → ℕ → Bool) → List ℕ → List ℕ → List ℕ → ℕ → ℕ → (ℕ → Label) → Type 0
+Forward same t k y l c h = (r j : ℕ) → r < c → j < l → isCall (kindOf k r) (partsAt t k r .expr) ≡ true → meaningOf same k y l r (partsAt t k r .callee) ≡ meaning.Label j
+    → labelKind y j ≡ 3 → r < labelStatement y j → h j .kind ≡ 3
+
 -- a call is no block
 block-not : (e : ℕ) → isCall 3 e ≡ false
 unfolding isCall hasExpression ifEq ifLt ifTrue
@@ -56,7 +63,8 @@ call-not e v q h = true-false (sym h ∙ ap (λ (u : ℕ). isCall u e) q ∙ blo
 module _ (w : Width) (t : List ℕ) (n c l : ℕ) (x y : List ℕ) (long : length t ≡ 32768) (oh : outlineOf w t n ≡ outline.parsed (answer.Accepted c l) x y)
     (same : ℕ → ℕ → Bool) (z : List ℕ) (m : ℕ) (room : c * 27 ≤ m) (h : ℕ → Label) (lb : Labels (skeletonOf x c) y l z c h)
     (clean : Clean (allNameFaults same t n (skeletonOf x c) y l c))
-    (deep : (r : ℕ) → r < c → shallow (rowAt (skeletonOf x c)) r ≡ true) (few : (r : ℕ) → r < c → fewLocals (rowAt (skeletonOf x c)) r ≡ true) where
+    (deep : (r : ℕ) → r < c → shallow (rowAt (skeletonOf x c)) r ≡ true) (few : (r : ℕ) → r < c → fewLocals (rowAt (skeletonOf x c)) r ≡ true)
+    (forward : Forward same t (skeletonOf x c) y l c h) where
   abbrev k : List ℕ
   k = skeletonOf x c
 
@@ -99,9 +107,10 @@ module _ (w : Width) (t : List ℕ) (n c l : ℕ) (x y : List ℕ) (long : lengt
         places = lb .places;
         callees = lb .callees;
         spots = lb .spots;
+        forward = forward;
       }
 
-  -- the eleven tests
+  -- the twelve tests
   pub row-passes : (prog : Program) (r : ℕ) → r < c → all (rowTests (viewing prog (rowAt table) c h l (prog .dataLength)) r) ≡ true
   unfolding rowTests all
   row-passes prog r g =
@@ -121,4 +130,6 @@ module _ (w : Width) (t : List ℕ) (n c l : ℕ) (x y : List ℕ) (long : lengt
       (both-true _ _ (set-passes same t (skeletonOf x c) y l frames z c (rowAt table) h known prog n r g (read r g) v)
       (both-true _ _ (framed-passes same t (skeletonOf x c) y l z c (rowAt table) hc few₈ like r g (outside-table r g) (read r g))
       (both-true _ _ (few-same (rowAt table) (rowAt (skeletonOf x c)) like r (outside-table r g) (λ e. like .counts r (λ d. absurd (omega arith))) ∙ few r g)
-      refl))))))))))
+      (both-true _ _ (forward-passes same t (skeletonOf x c) y l frames z c (rowAt table) h known prog n r g (read r g) v
+      (λ e. (callee-some w t n c l x y long oh r g e, λ d. call-not _ _ d e)))
+      refl)))))))))))

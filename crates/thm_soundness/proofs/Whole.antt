@@ -33,12 +33,13 @@ use Rattle.thm_statement_rows.proofs.Views.{closed-same}
 use Rattle.thm_statement_rows.proofs.Readback.{table-long}
 use Rattle.thm_canonical.proofs.Zeros.{below-all}
 use Rattle.thm_soundness.proofs.Rows.{few-statements, alike}
-use Rattle.thm_soundness.proofs.Tests.{Labels, row-passes}
+use Rattle.thm_soundness.proofs.Tests.{Labels, Forward, row-passes}
 
 module _ (w : Width) (t : List ℕ) (n c l : ℕ) (x y : List ℕ) (long : length t ≡ 32768) (oh : outlineOf w t n ≡ outline.parsed (answer.Accepted c l) x y)
     (same : ℕ → ℕ → Bool) (s flags : List ℕ) (m i j d : ℕ) (rows-room : c * 27 ≤ m) (labels-room : l * 4 ≤ i) (names-room : l * 64 ≤ j)
     (lb : Labels (skeletonOf x c) y l (labelTable w t y flags l (zeros i)) c (labelAt (labelTable w t y flags l (zeros i)) (nameTable s t y l (zeros j))))
     (clean : Clean (allNameFaults same t n (skeletonOf x c) y l c)) (small : d ≤ 32768)
+    (forward : Forward same t (skeletonOf x c) y l c (labelAt (labelTable w t y flags l (zeros i)) (nameTable s t y l (zeros j))))
     (good : (e : ℕ) → e < l → all (labelTests (programFrom w (record { statements = statementTable same t (skeletonOf x c) y l (wordsOf (rowAt (skeletonOf x c)) c) (labelTable w t y flags l (zeros i)) c (zeros m); count = c; labels = labelTable w t y flags l (zeros i); labelCount = l; names = nameTable s t y l (zeros j); dataLength = d })) e) ≡ true) where
   -- the tables that the check leaves
   abbrev pub left : Tables
@@ -97,5 +98,5 @@ module _ (w : Width) (t : List ℕ) (n c l : ℕ) (x y : List ℕ) (long : lengt
   outline-wellformed =
       both-true _ _ counts
       (both-true _ _ (closed-same _ (rowAt (skeletonOf x c)) (alike w t n c l x y long oh same (labelTable w t y flags l (zeros i)) m rows-room) c ∙ closed)
-      (both-true _ _ (below-all _ c (λ r g. row-passes w t n c l x y long oh same (labelTable w t y flags l (zeros i)) m rows-room (labelAt (labelTable w t y flags l (zeros i)) (nameTable s t y l (zeros j))) lb clean deep few (programFrom w left) r g))
+      (both-true _ _ (below-all _ c (λ r g. row-passes w t n c l x y long oh same (labelTable w t y flags l (zeros i)) m rows-room (labelAt (labelTable w t y flags l (zeros i)) (nameTable s t y l (zeros j))) lb clean deep few forward (programFrom w left) r g))
       (both-true _ _ (below-all _ l good) refl)))

@@ -16,7 +16,7 @@ use Rattle.base_prelude.proofs.Choice.{either-eq, either-true, ifEq-yes, ifEq-n
 use Rattle.parse_lines.specs.Tokens.{keyAt, kindAt, valueAt}
 use Rattle.prog_tables.proofs.Each.{both-true}
 use Rattle.prog_tables.specs.Tests.{both, oneOf, given, all, allOf, someBelow}
-use Rattle.prog_tables.specs.Statement.{Row, rowAt}
+use Rattle.prog_tables.specs.Statement.{Row, rowAt, isCall}
 use Rattle.prog_tables.specs.Nesting.{encloses}
 use Rattle.prog_tables.specs.Frames.{frameDepth, letSeen, isParameter, seenAt, inScope}
 use Rattle.prog_tables.specs.Label.{Label, isData, isFunctionLabel}
@@ -26,6 +26,7 @@ use Rattle.prog_tables.specs.declared.Operand.{Operand}
 use Rattle.prog_tables.specs.declared.Operand.the-variants.{Constant, Local, Address, AtConstant, AtLocal, AtAddress, Unlisted}
 use Rattle.res_scope.specs.Lines.{firstToken, endToken, labelKind, labelStatement}
 use Rattle.res_scope.specs.Names.{letNamed, meaningOf}
+use Rattle.res_scope.specs.Parts.{partsOf}
 use Rattle.res_scope.specs.declared.Meaning.{Meaning}
 use Rattle.res_scope.specs.declared.Meaning.the-variants as meaning
 use Rattle.res_names.specs.Naming.{dataFault, valueFault, setFault, functionFault, calleeFault, placeFault, gotoFault}
@@ -59,6 +60,10 @@ pub record Known (same : ℕ → ℕ → Bool) (t k y : List ℕ) (l : ℕ) (w z
   -- what it names
   pub callees : (j : ℕ) → j < l → labelKind y j ≡ 3 → (labelStatement y j < c) × (rowAt k (labelStatement y j) .kind ≡ 1)
   pub spots : (j : ℕ) → j < l → labelKind y j ≡ 5 → labelStatement y j < c
+  -- a label by which a statement that stands before its function calls it is not exported
+  pub forward : (r j : ℕ) → r < c → j < l → isCall (rowAt k r .kind) (partsOf t (rowAt k r .kind) (firstToken k r) (endToken k r) .expr) ≡ true
+      → meaningOf same k y l r (partsOf t (rowAt k r .kind) (firstToken k r) (endToken k r) .callee) ≡ meaning.Label j
+      → labelKind y j ≡ 3 → r < labelStatement y j → h j .kind ≡ 3
 
 module _ (same : ℕ → ℕ → Bool) (t k y : List ℕ) (l : ℕ) (w z : List ℕ) (c : ℕ) (f : ℕ → Row) (h : ℕ → Label) (q : Known same t k y l w z c f h) where
   named-kind : (s i m : ℕ) → letNamed same k s i m ≡ true → (rowAt k m .kind ≡ 5) × (encloses (rowAt k) frameDepth (rowAt k m .scope) s ≡ true)
@@ -100,7 +105,7 @@ module _ (same : ℕ → ℕ → Bool) (t k y : List ℕ) (l : ℕ) (w z : List 
       (le-leb 3 ((3 + j) % 4294967296) (omega (arith, e)))
       (lt-ltb ((3 + j) % 4294967296 - 3) (f (f r .func) .b) (omega (arith, e, a, b))))
 
-  label-named : (p : ℕ → Bool) (j : ℕ) → j < l → p (h j .kind) ≡ true → labelled h l p (labelNumber z j) ≡ true
+  pub label-named : (p : ℕ → Bool) (j : ℕ) → j < l → p (h j .kind) ≡ true → labelled h l p (labelNumber z j) ≡ true
   unfolding labelled
   label-named p j g e =
       some-at (λ i. both (p (h i .kind)) (eqb (h i .number) (labelNumber z j))) l j g
@@ -139,13 +144,14 @@ module _ (same : ℕ → ℕ → Bool) (t k y : List ℕ) (l : ℕ) (w z : List 
     -- "`call` and `tail-call` take a function label with its parameter count."
     pub callee-good : (count : ℕ) (m : Meaning) → From same k y l r i m → none ≤ calleeFault t n k y i count m
         → (j : ℕ) × (j < l) × (labelKind y j ≡ 3) × (labelTarget z m ≡ labelStatement y j) × (rowAt k (labelStatement y j) .b ≡ count) × (labelled h l isFunctionLabel (labelTarget z m) ≡ true)
+        × (m ≡ meaning.Label j)
     unfolding calleeFault labelTarget
     callee-good count (meaning.Let m) x g = no-key t n i 11 (omega arith) g
     callee-good count (meaning.Parameter j) x g = no-key t n i 11 (omega arith) g
     callee-good count (meaning.Label j) x g =
         let d = function-good t n k y r i count j g in
         let v = q .functions j x (d .0) in
-        (j, x, d .0, v .1, d .1, label-named isFunctionLabel j x (v .0))
+        (j, x, d .0, v .1, d .1, label-named isFunctionLabel j x (v .0), refl)
     callee-good count meaning.Unknown x g = no-key t n i 10 (omega arith) g
 
     -- "`goto` takes a statement's label in the same function and innermost block."

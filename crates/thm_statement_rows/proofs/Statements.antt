@@ -9,18 +9,18 @@ use native.Mathlib.Decide.{decLt, ℕ-discrete}
 use native.Mathlib.Omega.{arith}
 use lib.Dec.{eqb, ltb, leb}
 use lib.ListN.{length, getD}
-use borrow.Author.Tests.{eq-eqb, ne-eqb, lt-ltb, le-leb}
+use borrow.Author.Tests.{eq-eqb, ne-eqb, ltb-true, lt-ltb, le-leb}
 use Rattle.base_prelude.specs.Choice.{pick, ifLt, ifEq, ifTrue}
 use Rattle.base_prelude.specs.Fault.{none}
 use Rattle.base_prelude.proofs.Choice.{either-eq, either-true, ifEq-yes, ifEq-no, true-false}
 use Rattle.parse_lines.specs.Tokens.{kindAt, valueAt}
-use Rattle.prog_tables.proofs.Each.{both-true}
+use Rattle.prog_tables.proofs.Each.{both-left, both-right, both-true}
 use Rattle.prog_tables.specs.Tests.{both, oneOf, given, all, allOf, someBelow}
 use Rattle.prog_tables.specs.Statement.{Row, rowAt, isCall, hasExpression, usedBy}
 use Rattle.prog_tables.specs.Frames.{inScope}
 use Rattle.prog_tables.specs.Label.{Label, isData, isFunctionLabel}
 use Rattle.prog_tables.specs.Faults.{addressListed, expressionFault}
-use Rattle.prog_tables.specs.WellFormed.{labelled, jumps, calls, shaped, hasOperands, operandGood, operandsGood, addressGood, setsLocal}
+use Rattle.prog_tables.specs.WellFormed.{labelled, jumps, calls, forwardCalls, shaped, hasOperands, operandGood, operandsGood, addressGood, setsLocal}
 use Rattle.prog_tables.specs.declared.Operand.{Operand}
 use Rattle.prog_tables.specs.declared.Operand.the-variants.{Constant, Local, Address, AtConstant, AtLocal, AtAddress, Unlisted}
 use Rattle.prog_tables.specs.Program.{Program}
@@ -33,7 +33,7 @@ use Rattle.parse_verdict.specs.Verdict.{All, Clean}
 use Rattle.thm_acceptance.specs.Faults.{operandFault, operandFaults, calleeFaults, declaredFaults, headFaults, bodyFaults, statementFaults, statementsFaults, labelFaults, allNameFaults}
 use Rattle.res_rows.specs.Rows.{labelTarget, localWord, plainOperand, atOperand, constantOperand, tokenOperand, addressConstant, addressOperand, operandsFrom, aOf, calleeOf, addressOf, rowWith, rowOf}
 use Rattle.thm_statement_rows.proofs.Meanings.{From, meaning-from}
-use Rattle.thm_statement_rows.proofs.Operands.{Known, plain-good, at-good, plain-listed, set-scope, callee-good, goto-good}
+use Rattle.thm_statement_rows.proofs.Operands.{Known, plain-good, at-good, plain-listed, set-scope, label-named, callee-good, goto-good}
 use Rattle.thm_statement_rows.proofs.Views.{viewing}
 
 -- q where the test holds
@@ -221,15 +221,29 @@ module _ (same : ℕ → ℕ → Bool) (t k y : List ℕ) (l : ℕ) (w z : List 
         (both-true _ _ (eq-eqb (f (f r .a) .scope) (f r .scope) (q .alike .scopes (f r .a) ∙ ap (λ (i : ℕ). rowAt k i .scope) b ∙ m .5 ∙ sym (q .alike .scopes r)))
         (both-true _ _ (ap (labelled h l (λ v. eqb v 5)) a ∙ m .6) refl))))
 
+    calling : isCall (f r .kind) (f r .expr) ≡ true → isCall kind (p .expr) ≡ true
+    calling e = ap₂ isCall (sym kind-is) (sym expr-is) ∙ e
+
+    -- the callee of a call: where it is named, and what the label is
+    abbrev Called : Type 0
+    Called = isCall kind (p .expr) ≡ true → (p .callee ≡ 0 → ⊥) × (kind ≡ 3 → ⊥)
+
+    target-is : Called → isCall kind (p .expr) ≡ true → f r .callee ≡ labelTarget z (meaningOf same k y l r (p .callee))
+    unfolding calleeOf
+    target-is s g = callee-is ∙ ifEq-no _ _ (s g .1) ∙ ifEq-no _ _ (s g .0)
+
+    callee-sound : Called → isCall kind (p .expr) ≡ true → none ≤ calleeFault t n k y (p .callee) (next - p .first) (meaningOf same k y l r (p .callee))
+    unfolding calleeFaults
+    callee-sound s g = subst Clean (ifEq-no _ _ (s g .0)) callee-clean .0
+
     -- "`call` and `tail-call` take a function label with its parameter count."
-    pub calls-pass : (isCall kind (p .expr) ≡ true → (p .callee ≡ 0 → ⊥) × (kind ≡ 3 → ⊥)) → next - p .first ≤ 8 → calls (viewing prog f c h l (prog .dataLength)) r ≡ true
-    unfolding calls calleeOf calleeFaults all
+    pub calls-pass : Called → next - p .first ≤ 8 → calls (viewing prog f c h l (prog .dataLength)) r ≡ true
+    unfolding calls all
     calls-pass s few =
         given-true (isCall (f r .kind) (f r .expr)) _ (λ e.
-        let g : isCall kind (p .expr) ≡ true = ap₂ isCall (sym kind-is) (sym expr-is) ∙ e in
-        let m = callee-good same t k y l w z c f h q prog n r (p .callee) l₀ (next - p .first) (meaningOf same k y l r (p .callee)) (meaning-from same k y l r (p .callee))
-        (subst Clean (ifEq-no _ _ (s g .0)) callee-clean .0) in
-        let a : f r .callee ≡ labelTarget z (meaningOf same k y l r (p .callee)) = callee-is ∙ ifEq-no _ _ (s g .1) ∙ ifEq-no _ _ (s g .0) in
+        let g = calling e in
+        let m = callee-good same t k y l w z c f h q prog n r (p .callee) l₀ (next - p .first) (meaningOf same k y l r (p .callee)) (meaning-from same k y l r (p .callee)) (callee-sound s g) in
+        let a : f r .callee ≡ labelTarget z (meaningOf same k y l r (p .callee)) = target-is s g in
         let b : f r .callee ≡ labelStatement y (m .0) = a ∙ m .3 in
         let o = q .callees (m .0) (m .1) (m .2) in
         let v : f (f r .callee) .kind ≡ 1 = q .alike .kinds (f r .callee) ∙ ap (λ (i : ℕ). rowAt k i .kind) b ∙ o .1 in
@@ -239,6 +253,18 @@ module _ (same : ℕ → ℕ → Bool) (t k y : List ℕ) (l : ℕ) (w z : List 
         (both-true _ _ (eq-eqb (f (f r .callee) .b) (f r .count) u)
         (both-true _ _ (le-leb (f r .count) 8 (omega (arith, few, count-is)))
         (both-true _ _ (ap (labelled h l isFunctionLabel) a ∙ m .5) refl)))))
+
+    -- a forward call is by a label that is not exported
+    pub forward-passes : Called → forwardCalls (viewing prog f c h l (prog .dataLength)) r ≡ true
+    unfolding forwardCalls
+    forward-passes s =
+        given-true (both (isCall (f r .kind) (f r .expr)) (ltb r (f r .callee))) _ (λ e.
+        let g = calling (both-left (isCall (f r .kind) (f r .expr)) (ltb r (f r .callee)) e) in
+        let m = callee-good same t k y l w z c f h q prog n r (p .callee) l₀ (next - p .first) (meaningOf same k y l r (p .callee)) (meaning-from same k y l r (p .callee)) (callee-sound s g) in
+        let a : f r .callee ≡ labelStatement y (m .0) = target-is s g ∙ m .3 in
+        let b : r < labelStatement y (m .0) = omega (arith, a, ltb-true r (f r .callee) (both-right (isCall (f r .kind) (f r .expr)) (ltb r (f r .callee)) e)) in
+        let d : h (m .0) .kind ≡ 3 = q .forward r (m .0) l₀ (m .1) g (m .6) (m .2) b in
+        ap (labelled h l (λ v. eqb v 3)) (a ∙ sym (q .functions (m .0) (m .1) (m .2) .1)) ∙ label-named same t k y l w z c f h q (λ v. eqb v 3) (m .0) (m .1) (eq-eqb _ _ d))
 
     -- as many operands as the expression or statement takes
     pub shape-passes : expressionFault kind (p .expr) ≡ false → (hasOperands kind ≡ true → usedBy kind (p .expr) (next - p .first) ≡ next - p .first)
