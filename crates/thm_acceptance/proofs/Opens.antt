@@ -17,7 +17,7 @@ use Rattle.parse_units.specs.Outline.{rowAt, putRow, rowIn, behind}
 use Rattle.parse_units.specs.Parse.{World, world, putState, putKind, localsBehind, depthBehind}
 use Rattle.parse_units.specs.declared.Row.{Row}
 use Rattle.parse_units.specs.declared.State.{State}
-use Rattle.thm_line_rows.proofs.Puts.{put-before, put-same, length-put}
+use Rattle.thm_outline.proofs.Puts.{put-before, put-same, length-put}
 use Rattle.thm_acceptance.specs.Lines.{Level, level, outer, withLocal, closedBy, openedBy, localsIn, blocksIn}
 
 -- ---- facts of kinds, computed

@@ -33,8 +33,8 @@ use Rattle.parse_outline.specs.declared.Parsed.{Parsed}
 use Rattle.parse_outline.specs.declared.Parsed.the-variants as answer
 use Rattle.res_skeleton.specs.Skeleton.{skeletonOf}
 use Rattle.res_scope.specs.Lines.{firstToken, endToken}
-use Rattle.thm_line_rows.proofs.Puts.{put-before, put-same, length-put}
-use Rattle.thm_line_rows.proofs.Lines.{first-is, end-is}
+use Rattle.thm_outline.proofs.Puts.{put-before, put-same, length-put}
+use Rattle.thm_outline.proofs.Lines.{first-is, end-is}
 
 -- the rows before row c are in order, and the last ends at or before token a
 record Ordered (rows : List ℕ) (c a : ℕ) : Type 0 where

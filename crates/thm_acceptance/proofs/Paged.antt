@@ -37,9 +37,9 @@ use Rattle.parse_units.proofs.Bounds.{unit-order}
 use Rattle.parse_verdict.specs.Verdict.{kindIn, faultAt, nextWorld, faultsFrom, allFaults, All, Clean}
 use Rattle.parse_verdict.proofs.Decided.{least-none, none-all}
 use Rattle.parse_verdict.proofs.Decided as decided
-use Rattle.thm_line_rows.proofs.Puts.{length-put}
-use Rattle.thm_line_rows.proofs.Words.{Says, line-says, test-kind}
-use Rattle.thm_label_rows.proofs.Unit.{line-low}
+use Rattle.thm_outline.proofs.Puts.{length-put}
+use Rattle.thm_outline.proofs.Words.{Says, line-says, test-kind}
+use Rattle.thm_outline.proofs.Unit.{line-low}
 use Rattle.thm_acceptance.specs.Lines.{Line, lineFrom, linesFrom, linesOf, EachFrom, EachLine, statementKinds, statementsBefore, labelsAmong, labelCount, labelsBefore, Level, level, openedBy, openedByAll, openBefore, localsIn, blocksIn, sectionBefore, groundAmong, groundBefore}
 use Rattle.thm_acceptance.specs.LineRules.{isReserved, Shaped, SubstitutesKnown, NamesFree, Placed, MayBeLabelled, LabelsFree, NotLeftOut, NoFrameSize, FewStatements, FewLabels, FewLocals, FewBlocks, FewArguments}
 use Rattle.thm_acceptance.proofs.LineRules.{reserved-by, by-reserved, shape-by, by-shape, TokensFree, tokens-by, by-tokens, list-by, by-list}

@@ -26,8 +26,8 @@ use Rattle.res_scope.specs.Lines.{firstToken, endToken}
 use Rattle.res_scope.specs.Parts.{parts, symbolParts, expressionParts, returnParts, listsOperands, plainParts, partsOf}
 use Rattle.res_scope.specs.declared.Parts.{Parts}
 use Rattle.res_names.specs.Uses.{operandName, operandNames, calleeNames, headNames, bodyNames, usesIn, orElse, firstAmong, meansLabel, firstUseFrom, firstUse}
-use Rattle.thm_line_rows.proofs.Forms.{Form, function, early, naming, address, setting, going, calling, returning, giving, testing, late, row-form, row-order}
-use Rattle.thm_line_rows.proofs.Lines.{row-line}
+use Rattle.thm_outline.proofs.Forms.{Form, function, early, naming, address, setting, going, calling, returning, giving, testing, late, row-form, row-order}
+use Rattle.thm_outline.proofs.Lines.{row-line}
 use Rattle.thm_acceptance.proofs.Order.{rows-ordered}
 
 -- ---- numbers that do not fall, from lo to hi

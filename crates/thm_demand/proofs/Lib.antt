@@ -1,2 +1,4 @@
 pub mod Demand
 pub mod CaseTwo
+pub mod Lexing
+pub mod Orders

@@ -1,1 +1,2 @@
 pub mod CaseTwo
+pub mod Orders

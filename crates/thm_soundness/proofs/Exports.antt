@@ -40,9 +40,9 @@ use Rattle.parse_outline.specs.declared.Parsed.the-variants as answer
 use Rattle.res_skeleton.specs.Skeleton.{skeletonOf}
 use Rattle.res_scope.specs.Lines.{firstToken, endToken}
 use Rattle.res_exports.specs.Exports.{definitions, isDefinition, searchEnds, endsSearch, nowhere, seekOn, seekStep, definitionFrom}
-use Rattle.thm_line_rows.proofs.Lines.{first-is, end-is}
-use Rattle.thm_label_rows.proofs.Grown.{Grown, grow-grown}
-use Rattle.thm_label_rows.proofs.Unit.{line-low, unit-stands}
+use Rattle.thm_outline.proofs.Lines.{first-is, end-is}
+use Rattle.thm_outline.proofs.Grown.{Grown, grow-grown}
+use Rattle.thm_outline.proofs.Unit.{line-low, unit-stands}
 use Rattle.thm_acceptance.specs.Lines.{Line, lineFrom, linesFrom, linesOf, EachFrom, EachLine}
 use Rattle.thm_acceptance.proofs.Opens.{implies, imply}
 use Rattle.thm_acceptance.proofs.Page.{each-map}

@@ -32,8 +32,8 @@ use Rattle.res_scope.specs.declared.Meaning.the-variants as meaning
 use Rattle.res_scope.specs.declared.Parts.{Parts}
 use Rattle.res_names.specs.Uses.{operandNames, calleeNames, headNames, bodyNames, usesIn, isLabel, meansLabel}
 use Rattle.res_exports.specs.Exports.{carriesLabel, carriedBy, carriedIn, definitionFrom, exportedFrom, isExported}
-use Rattle.thm_line_rows.proofs.Rows.{kindOf, partsAt, row-ordered, callee-named}
-use Rattle.thm_label_rows.proofs.LabelRows.{label-behind}
+use Rattle.thm_outline.proofs.Rows.{kindOf, partsAt, row-ordered, callee-named}
+use Rattle.thm_outline.proofs.LabelRows.{label-behind}
 use Rattle.thm_acceptance.specs.Lines.{Line, lineFrom, linesFrom, linesOf, EachFrom, EachLine}
 use Rattle.thm_acceptance.proofs.Page.{each-both}
 use Rattle.thm_soundness.proofs.Exports.{Apart, exports-apart}

@@ -40,9 +40,9 @@ use Rattle.res_labels.specs.Labelling.{outlineWord, flagAt, exportedKind, final
 use Rattle.res_labels.proofs.Laws.{name-row}
 use Rattle.res_rows.specs.Rows.{labelNumber}
 use Rattle.res_text.specs.Same.{nameOf}
-use Rattle.thm_label_rows.proofs.LabelRows.{LabelRow, label-rows}
-use Rattle.thm_label_rows.proofs.Addresses.{address-within}
-use Rattle.thm_label_rows.proofs.Tokens.{LabelToken, label-token}
+use Rattle.thm_outline.proofs.LabelRows.{LabelRow, label-rows}
+use Rattle.thm_outline.proofs.Addresses.{address-within}
+use Rattle.thm_outline.proofs.Tokens.{LabelToken, label-token}
 use Rattle.thm_statement_rows.proofs.Views.{viewing, Alike}
 use Rattle.thm_soundness.proofs.Labels.{kind-of, number-of, number-same, statement-of, word-of, final-data, final-function, final-place}
 

@@ -22,7 +22,7 @@ use Rattle.res_scope.specs.Lines.{labelToken, labelKind, labelStatement}
 use Rattle.res_labels.specs.Labelling.{outlineWord, flagAt, exportedKind, finalKind, finalNumber, labelWords, labelTable, nameTable}
 use Rattle.res_labels.proofs.Laws.{label-word}
 use Rattle.res_rows.specs.Rows.{labelNumber}
-use Rattle.thm_label_rows.proofs.LabelRows.{LabelRow, label-rows}
+use Rattle.thm_outline.proofs.LabelRows.{LabelRow, label-rows}
 use Rattle.thm_soundness.proofs.Tests.{Labels}
 
 pub final-data : (flag : ℕ) → isData (finalKind 1 flag) ≡ true

@@ -32,9 +32,9 @@ use Rattle.res_scope.specs.Lines.{firstToken, endToken}
 use Rattle.res_scope.specs.Parts.{partsOf}
 use Rattle.res_frame_words.specs.Framing.{wordsOf}
 use Rattle.res_rows.specs.Rows.{operandsFrom, bOf, rowWith, rowOf, statementTable}
-use Rattle.thm_nesting.proofs.Nested.{rows-stand}
-use Rattle.thm_line_rows.proofs.Lines.{few-rows}
-use Rattle.thm_line_rows.proofs.Rows.{kindOf, partsAt, row-shaped, row-idle, row-few, row-kind, function-parameters}
+use Rattle.thm_outline.proofs.Nested.{rows-stand}
+use Rattle.thm_outline.proofs.Lines.{few-rows}
+use Rattle.thm_outline.proofs.Rows.{kindOf, partsAt, row-shaped, row-idle, row-few, row-kind, function-parameters}
 use Rattle.thm_statement_rows.proofs.Views.{Alike}
 use Rattle.thm_statement_rows.proofs.Readback.{row-back, table-behind, table-long}
 

@@ -44,7 +44,7 @@ use Rattle.check_judge.specs.Judge.{known, namesWith, namesJudged}
 use Rattle.check_fill.specs.Fill.{labelsIn, fillOf}
 use Rattle.check_source.specs.Check.{Lent, accept, checkOf}
 use Rattle.check_source.proofs.Cases.{room-statements, room-labels, room-names}
-use Rattle.thm_canonical.proofs.Whole.{outline-canonical}
+use Rattle.thm_statement_rows.proofs.Whole.{outline-canonical}
 use Rattle.thm_soundness.specs.Program.{programBy, programOf}
 use Rattle.thm_soundness.proofs.Accepted.{Checks, checks, names-clean}
 use Rattle.thm_soundness.proofs.Rows.{alike}

@@ -31,7 +31,7 @@ use Rattle.res_frame_words.specs.Framing.{wordsOf}
 use Rattle.res_rows.specs.Rows.{labelNumber, aOf, rowWith, rowOf, statementTable}
 use Rattle.parse_verdict.specs.Verdict.{Clean}
 use Rattle.thm_acceptance.specs.Faults.{allNameFaults}
-use Rattle.thm_line_rows.proofs.Rows.{kindOf, partsAt, row-shaped, row-listed, row-few, row-operands, address-marked, callee-some, function-parameters}
+use Rattle.thm_outline.proofs.Rows.{kindOf, partsAt, row-shaped, row-listed, row-few, row-operands, address-marked, callee-some, function-parameters}
 use Rattle.thm_statement_rows.proofs.Views.{viewing, Alike, stands-same, shallow-same, few-same}
 use Rattle.thm_statement_rows.proofs.Operands.{Known}
 use Rattle.thm_statement_rows.proofs.Statements.{statement-clean, operands-pass, address-passes, set-passes, goto-passes, calls-pass, forward-passes, shape-passes}

@@ -28,10 +28,10 @@ use Rattle.res_labels.proofs.Laws.{labels-long, names-long}
 use Rattle.parse_verdict.specs.Verdict.{Clean}
 use Rattle.parse_verdict.proofs.Counts.{accepted-counts}
 use Rattle.thm_acceptance.specs.Faults.{allNameFaults}
-use Rattle.thm_nesting.proofs.Nested.{rows-closed, rows-shallow, rows-few}
+use Rattle.thm_outline.proofs.Nested.{rows-closed, rows-shallow, rows-few}
 use Rattle.thm_statement_rows.proofs.Views.{closed-same}
 use Rattle.thm_statement_rows.proofs.Readback.{table-long}
-use Rattle.thm_canonical.proofs.Zeros.{below-all}
+use Rattle.thm_statement_rows.proofs.Zeros.{below-all}
 use Rattle.thm_soundness.proofs.Rows.{few-statements, alike}
 use Rattle.thm_soundness.proofs.Tests.{Labels, Forward, row-passes}
 

@@ -5,3 +5,7 @@ pub mod Meanings
 pub mod Operands
 pub mod Statements
 pub mod Framing
+pub mod Zeros
+pub mod Rows
+pub mod Labels
+pub mod Whole

@@ -1,4 +1,0 @@
-pub mod Zeros
-pub mod Rows
-pub mod Labels
-pub mod Whole

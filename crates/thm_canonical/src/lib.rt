@@ -1,1 +1,0 @@
-// No code: theorems on the unused words of the tables.

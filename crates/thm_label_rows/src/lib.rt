@@ -1,1 +1,0 @@
-// No code: theorems on the labels of an accepted source.

@@ -1,1 +1,0 @@
-// No code: theorems on the rows of accepted sources.

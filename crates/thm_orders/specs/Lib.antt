@@ -1,2 +1,0 @@
-pub mod Lexing
-pub mod Orders

@@ -1,1 +1,0 @@
-// No code: the table of worked cases is in specs/Orders.

@@ -1,0 +1,1 @@
+// No code: theorems on the rows and labels of an accepted outline.
