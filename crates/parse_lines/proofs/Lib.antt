@@ -1,2 +1,4 @@
 pub mod Scans
 pub mod Cases
+pub mod Keys
+pub mod Edge

@@ -11,6 +11,7 @@ use Rattle.base_prelude.specs.Walk.{Step, go, stop, walk}
 use Rattle.base_prelude.proofs.Choice.{either, either-eq, ifEq-yes, ifEq-no}
 use Rattle.base_prelude.proofs.Walk.{Runs, runs-start, runs-go, runs-stop}
 use Rattle.lang_kinds.specs.Nesting.{rowsOf}
+use Rattle.lang_kinds.proofs.RowCounts.{rows-few}
 use Rattle.parse_lines.specs.Units.{unitAt}
 use Rattle.parse_lines.specs.Lines.{lineKind}
 use Rattle.parse_lines.specs.declared.Span.{Span}
@@ -21,13 +22,6 @@ use Rattle.parse_outline.specs.declared.Marks.{Marks}
 use Rattle.parse_outline.specs.declared.Going.{Going}
 use Rattle.parse_outline.specs.declared.Going.the-variants.{On, Over}
 use Rattle.parse_outline.proofs.Cases.{unit-kept}
-
-rows-few : (k : ℕ) → rowsOf k ≤ 2
-unfolding rowsOf
-rows-few k =
-    either-eq (λ (r : ℕ). r ≤ 2) k 0 _ _ (λ _. omega arith) (λ _.
-    either-eq (λ (r : ℕ). r ≤ 2) k 21 _ _ (λ _. omega arith) (λ _.
-    either (λ (r : ℕ). r ≤ 2) k 25 _ _ (λ _. omega arith) (λ _. omega arith)))
 
 pub rows-fit : (s : Marks) (k r : ℕ) → s .row ≤ 8195 → r ≡ rowsOf k → s .row + r < 4294967296
 rows-fit s k r h e = omega (arith, rows-few k)

@@ -11,14 +11,15 @@ use lib.ListN.{length}
 use Rattle.base_prelude.specs.Choice.{ifLt, ifEq, ifTrue}
 use Rattle.base_prelude.specs.Fault.{none, leastOf, key}
 use Rattle.base_prelude.proofs.Choice.{either, either-eq, ifEq-yes, ifEq-no}
-use Rattle.base_prelude.proofs.Keys.{key-fault}
 use Rattle.base_limits.specs.declared.Width.{Width}
 use Rattle.lang_kinds.specs.Nesting.{rowsOf}
-use Rattle.parse_lines.specs.Tokens.{tokenWord, kindAt, keyAt, skip}
+use Rattle.parse_lines.specs.Tokens.{tokenWord, kindAt, skip}
 use Rattle.parse_lines.specs.Units.{spanFrom, spanOf, unitAt}
-use Rattle.parse_lines.specs.Lines.{otherKind, lineKind}
+use Rattle.parse_lines.specs.Lines.{lineKind}
 use Rattle.parse_lines.specs.declared.Span.{Span}
 use Rattle.parse_lines.proofs.Scans.{token-within, skip-from, skip-top}
+use Rattle.parse_lines.proofs.Keys.{key-low}
+use Rattle.parse_lines.proofs.Edge.{edge-is}
 use Rattle.parse_rules.specs.Rules.{shapeRule, leftRule, tokensRule, listRule, labelsRule, labelsFrom, labelStep, labelled}
 use Rattle.parse_rules.specs.declared.Labelled.{Labelled}
 use Rattle.parse_units.specs.Places.{labelRule, placeRule, roomRule, localsRule, depthRule, lineFaults, limitFaults, unitFault}
@@ -41,10 +42,6 @@ module _ (t : List ℕ) (at : ℕ) where
   unit-next e h = skip-top t 2 16 4097 (omega arith) (omega arith) (skip t 1 3 (skip t 1 2 at) + 1) (omega arith)
 
 -- a line that is not the edge has a token
-edge-is : (t : List ℕ) (i : ℕ) → kindAt t i ≡ 0 → lineKind t i ≡ 0
-unfolding lineKind otherKind
-edge-is t i e = ifEq-no _ _ (λ z. let y : ⊥ = omega arith in y) ∙ ifEq-yes _ _ e
-
 pub line-some : (t : List ℕ) (i : ℕ) → length t ≡ 32768 → (lineKind t i ≡ 0 → ⊥) → i < 4096
 line-some t i e h =
     elim (ℕ-discrete (kindAt t i) 0) [
@@ -67,10 +64,6 @@ unfolding labelsRule
 labels-count t n u c = from-count (u .word - u .first) t n (u .first) (labelled none c)
 
 -- what no fault says
-key-low : (t : List ℕ) (n i number : ℕ) → number < 64 → keyAt t n i number < none
-unfolding keyAt
-key-low t n i number h = key-fault _ number h
-
 room-by : (t : List ℕ) (n : ℕ) (u : Span) (k count : ℕ) → none ≤ roomRule t n u k count → rowsOf k ≤ 1025 - count
 unfolding roomRule
 room-by t n u k count =

@@ -10,13 +10,13 @@ use Rattle.base_prelude.specs.Fault.{none, leastOf}
 use Rattle.base_prelude.specs.Lists.{zeros}
 use Rattle.base_prelude.specs.Walk.{Step, go, stop, walk}
 use Rattle.base_prelude.proofs.Choice.{either, either-eq}
-use Rattle.base_prelude.proofs.Keys.{key-fault}
 use Rattle.base_prelude.proofs.Walk.{Kept, walk-kept}
 use Rattle.base_limits.specs.declared.Width.{Width}
-use Rattle.parse_lines.specs.Tokens.{kindAt, keyAt}
+use Rattle.parse_lines.specs.Tokens.{kindAt}
 use Rattle.parse_lines.specs.Units.{unitAt}
 use Rattle.parse_lines.specs.Lines.{lineKind}
 use Rattle.parse_lines.specs.declared.Span.{Span}
+use Rattle.parse_lines.proofs.Keys.{key-low}
 use Rattle.parse_rules.specs.Rules.{labelLimit, labelKey, labelled, labelStep, labelsFrom, labelsRule}
 use Rattle.parse_rules.specs.declared.Labelled.{Labelled}
 use Rattle.parse_units.specs.Places.{groundIn, lineFaults, unitFault}
@@ -31,10 +31,6 @@ use Rattle.parse_outline.specs.declared.Parsed.{Parsed}
 use Rattle.parse_outline.specs.declared.Parsed.the-variants as answer
 
 -- labels of a unit without a fault
-key-low : (t : List ℕ) (n i number : ℕ) → number < 64 → keyAt t n i number < none
-unfolding keyAt
-key-low t n i number h = key-fault _ number h
-
 limit-clean : (t : List ℕ) (n i c : ℕ) → none ≤ labelLimit t n i c → c < 256
 unfolding labelLimit
 limit-clean t n i c =
@@ -44,7 +40,7 @@ step-low : (t : List ℕ) (n i : ℕ) (x : Labelled) → labelStep t n i x .faul
 unfolding labelStep
 step-low t n i x = either-eq (λ (y : Labelled). y .fault ≤ x .fault) _ 2 _ _ (λ _. omega arith) (λ _. omega arith)
 
-from-low : (left : ℕ) (t : List ℕ) (n i : ℕ) (x : Labelled) → labelsFrom left t n i x .fault ≤ x .fault
+pub from-low : (left : ℕ) (t : List ℕ) (n i : ℕ) (x : Labelled) → labelsFrom left t n i x .fault ≤ x .fault
 unfolding labelsFrom
 from-low zero t n i x = omega arith
 from-low (suc left) t n i x = omega (arith, from-low left t n (i + 1) (labelStep t n i x), step-low t n i x)

@@ -20,8 +20,9 @@ use Rattle.base_prelude.proofs.Walk.{Kept, walk-kept, walk-go, walk-stop, Ends,
 use Rattle.base_limits.specs.declared.Width.{Width}
 use Rattle.parse_lines.specs.Tokens.{kindAt, placeAt, keyAt, skipStep, skip}
 use Rattle.parse_lines.specs.Units.{spanFrom, spanOf, unitAt}
-use Rattle.parse_lines.specs.Lines.{otherKind, lineKind}
+use Rattle.parse_lines.specs.Lines.{lineKind}
 use Rattle.parse_lines.specs.declared.Span.{Span}
+use Rattle.parse_lines.proofs.Edge.{edge-is}
 use Rattle.parse_units.specs.Places.{groundIn, unitFault}
 use Rattle.parse_units.specs.Parse.{World, world, Result, result, begin, stateBehind, joinState, advance, openRow, faultIn, unitStepOn, unitStep, parseFrom, parseOf}
 use Rattle.parse_units.specs.Fits.{UnitStepFits}
@@ -84,10 +85,6 @@ inside t lo hi from =
 behind-word : (t : List ℕ) (at i : ℕ) → unitAt t at .word < i → i < unitAt t at .next → 1 ≤ kindAt t i
 unfolding unitAt spanOf spanFrom
 behind-word t at i h g = omega (arith, inside t 2 16 (skip t 1 3 (skip t 1 2 at) + 1) i (omega arith) g)
-
-edge-is : (t : List ℕ) (i : ℕ) → kindAt t i ≡ 0 → lineKind t i ≡ 0
-unfolding lineKind otherKind
-edge-is t i e = ifEq-no _ _ (λ z. let y : ⊥ = omega arith in y) ∙ ifEq-yes _ _ e
 
 module _ (t : List ℕ) (n : ℕ) (r : Rising t n) where
   at-end : (i : ℕ) → kindAt t i ≡ 0 → placeAt t n i ≡ n

@@ -19,9 +19,10 @@ use Rattle.base_prelude.proofs.Choice.{ifLt-yes, ifLt-no, ifEq-yes, ifEq-no}
 use Rattle.base_prelude.proofs.Walk.{walk-go, walk-stop}
 use Rattle.parse_lines.specs.Tokens.{kindAt}
 use Rattle.parse_lines.specs.Units.{unitAt}
-use Rattle.parse_lines.specs.Lines.{otherKind, lineKind}
+use Rattle.parse_lines.specs.Lines.{lineKind}
 use Rattle.parse_lines.specs.declared.Span.{Span}
 use Rattle.parse_lines.proofs.Scans.{token-within}
+use Rattle.parse_lines.proofs.Edge.{edge-is}
 use Rattle.parse_units.proofs.Bounds.{unit-order}
 use Rattle.res_exports.specs.Exports.{Exported, exported, World, world, exports, flagged, judgedBy, exportPart, exportOn, exportStep, exportsFrom, exportsOf, carriedIn, exportedFrom, isExported}
 
@@ -81,10 +82,6 @@ unfolding isAmong
 among-nil j = refl
 
 -- ---- line after line
-
-edge-is : (t : List ℕ) (i : ℕ) → kindAt t i ≡ 0 → lineKind t i ≡ 0
-unfolding lineKind otherKind
-edge-is t i e = ifEq-no _ _ (λ z. let y : ⊥ = omega arith in y) ∙ ifEq-yes _ _ e
 
 line-within : (t : List ℕ) (i : ℕ) → (lineKind t i ≡ 0 → ⊥) → i < length t
 line-within t i h =

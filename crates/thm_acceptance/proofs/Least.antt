@@ -16,9 +16,10 @@ use Rattle.base_prelude.proofs.Choice.{ifEq-yes, ifEq-no}
 use Rattle.base_prelude.proofs.Walk.{walk-go, walk-stop}
 use Rattle.parse_lines.specs.Tokens.{kindAt}
 use Rattle.parse_lines.specs.Units.{unitAt}
-use Rattle.parse_lines.specs.Lines.{otherKind, lineKind}
+use Rattle.parse_lines.specs.Lines.{lineKind}
 use Rattle.parse_lines.specs.declared.Span.{Span}
 use Rattle.parse_lines.proofs.Scans.{token-within}
+use Rattle.parse_lines.proofs.Edge.{edge-is}
 use Rattle.parse_units.proofs.Bounds.{unit-order}
 use Rattle.prog_tables.specs.Statement.{Row, rowAt}
 use Rattle.res_scope.specs.Lines.{firstToken, endToken}
@@ -156,10 +157,6 @@ module _ (same : ℕ → ℕ → Bool) (t : List ℕ) (n : ℕ) where
         omega (arith, least-none (allNameFaults same t n k y l c))
 
 -- ---- exports
-
-edge-is : (t : List ℕ) (i : ℕ) → kindAt t i ≡ 0 → lineKind t i ≡ 0
-unfolding lineKind otherKind
-edge-is t i e = ifEq-no _ _ (λ z. let y : ⊥ = omega arith in y) ∙ ifEq-yes _ _ e
 
 line-within : (t : List ℕ) (i : ℕ) → (lineKind t i ≡ 0 → ⊥) → i < length t
 line-within t i h =

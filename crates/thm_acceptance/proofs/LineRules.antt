@@ -14,21 +14,14 @@ use Rattle.base_prelude.specs.Choice.{pick, ifLt, ifEq, ifTrue}
 use Rattle.base_prelude.specs.Fault.{none}
 use Rattle.base_prelude.specs.Lists.{isAmong}
 use Rattle.base_prelude.proofs.Choice.{either, either-eq, either-true, ifLt-yes, ifLt-no, ifEq-yes, ifEq-no, ifTrue-yes, ifTrue-no, true-false}
-use Rattle.base_prelude.proofs.Keys.{key-fault}
 use Rattle.base_limits.specs.declared.Width.{Width}
 use Rattle.lang_words.specs.Words.{mostOperands}
-use Rattle.parse_lines.specs.Tokens.{kindAt, wordAt, keyAt}
+use Rattle.parse_lines.specs.Tokens.{kindAt, wordAt}
 use Rattle.parse_lines.specs.declared.Span.{Span}
+use Rattle.parse_lines.proofs.Keys.{no-key}
 use Rattle.parse_shapes.specs.Shapes.{operandCount, shapes, shapeIn, shapeOf, isShaped, formFits, isListed, countFits, rangeFits, shapeFits}
 use Rattle.parse_rules.specs.Rules.{shapeRule, ownWord, nameKey, substituteKey, tokenKey, tokensLeast, tokensRule, pastMost, listRule, reservedLabel}
 use Rattle.thm_acceptance.specs.LineRules.{isReserved, names, substitutes}
-
-key-low : (t : List ℕ) (n i number : ℕ) → number < 64 → keyAt t n i number < none
-unfolding keyAt
-key-low t n i number h = key-fault _ number h
-
-pub no-key : {P : Type 0} (t : List ℕ) (n i number : ℕ) → number < 64 → none ≤ keyAt t n i number → P
-no-key t n i number l h = let z : ⊥ = omega (arith, key-low t n i number l) in absurd z
 
 silent : (x y : ℕ) → x ≡ none → y ≡ x → none ≤ y
 silent x y e f = omega arith

@@ -13,6 +13,7 @@ use Rattle.base_prelude.proofs.Choice.{either, either-eq}
 use Rattle.base_prelude.proofs.Walk.{Kept, walk-kept}
 use Rattle.base_limits.specs.declared.Width.{Width}
 use Rattle.lang_kinds.specs.Nesting.{rowsOf, kindOfWord}
+use Rattle.lang_kinds.proofs.RowCounts.{rows-few}
 use Rattle.parse_lines.specs.Tokens.{wordAt}
 use Rattle.parse_lines.specs.Units.{unitAt}
 use Rattle.parse_lines.specs.Lines.{lineKind}
@@ -87,12 +88,6 @@ module _ (t : List ℕ) where
       let g = kind-long k (u .word) (u .word + 1) 0 y (omega arith) l in
       kind-order (kindOfWord (wordAt t (u .word + 1))) (u .word + 1) (u .next) 2 (u .word + 1) (putKind k (u .word) (u .word + 1) 0 y) (omega (arith, g .1)) (g .0) (omega arith)
       (kind-order k (u .word) (u .word + 1) 0 a y (omega arith) l b o)))
-
-rows-few : (k : ℕ) → rowsOf k ≤ 2
-unfolding rowsOf
-rows-few k =
-    either-eq (λ (m : ℕ). m ≤ 2) k 0 _ _ (λ _. omega arith) (λ _.
-    either-eq (λ (m : ℕ). m ≤ 2) k 21 _ _ (λ _. omega arith) (λ _. either (λ (m : ℕ). m ≤ 2) k 25 _ _ (λ _. omega arith) (λ _. omega arith)))
 
 -- ---- the walk
 

@@ -10,11 +10,11 @@ use lib.ListN.{length, getD}
 use Rattle.base_prelude.specs.Choice.{ifLt, ifEq}
 use Rattle.base_prelude.specs.Fault.{none}
 use Rattle.base_prelude.proofs.Choice.{either, either-eq, ifLt-yes, ifLt-no, ifEq-yes, ifEq-no}
-use Rattle.base_prelude.proofs.Keys.{key-fault}
 use Rattle.parse_lines.specs.Tokens.{keyAt}
 use Rattle.parse_lines.specs.Units.{unitAt}
 use Rattle.parse_lines.specs.Lines.{lineKind}
 use Rattle.parse_lines.specs.declared.Span.{Span}
+use Rattle.parse_lines.proofs.Keys.{no-key}
 use Rattle.prog_tables.specs.Statement.{rowAt}
 use Rattle.res_scope.specs.Lines.{firstToken, endToken}
 use Rattle.res_scope.specs.Parts.{partsOf}
@@ -32,13 +32,6 @@ use Rattle.thm_acceptance.proofs.Shared.{DeclaredOnce, declared-by, by-
 use Rattle.thm_acceptance.proofs.Paged.{lines-more}
 use Rattle.thm_acceptance.proofs.Rising.{InOrder, NoneBelow, first-least, least-first}
 use Rattle.thm_acceptance.proofs.Page.{each-map, each-both}
-
-key-low : (t : List ℕ) (n i number : ℕ) → number < 64 → keyAt t n i number < none
-unfolding keyAt
-key-low t n i number h = key-fault _ number h
-
-no-key : {P : Type 0} (t : List ℕ) (n i number : ℕ) → number < 64 → none ≤ keyAt t n i number → P
-no-key t n i number l h = let z : ⊥ = omega (arith, key-low t n i number l) in absurd z
 
 -- ---- lists
 

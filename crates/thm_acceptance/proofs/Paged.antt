@@ -15,16 +15,17 @@ use Rattle.base_prelude.specs.Choice.{ifLt, ifEq, ifTrue}
 use Rattle.base_prelude.specs.Fault.{none, leastOf}
 use Rattle.base_prelude.specs.Lists.{zeros}
 use Rattle.base_prelude.proofs.Choice.{either, either-eq, either-true, ifLt-yes, ifLt-no, ifEq-yes, ifEq-no, ifTrue-yes, ifTrue-no, true-false}
-use Rattle.base_prelude.proofs.Keys.{key-fault}
 use Rattle.base_prelude.proofs.Table.{under, under-at}
 use Rattle.base_limits.specs.declared.Width.{Width}
 use Rattle.lang_kinds.specs.Nesting.{statementIn, refusedIn, standsIn, rowsOf, enters, leaves, groundOf, kindOfWord}
 use Rattle.lang_kinds.specs.Standing.{standsOn}
 use Rattle.lang_kinds.proofs.Standing.{stands-range}
+use Rattle.lang_kinds.proofs.RowCounts.{rows-two}
 use Rattle.parse_lines.specs.Tokens.{kindAt, wordAt, keyAt}
 use Rattle.parse_lines.specs.Units.{unitAt}
 use Rattle.parse_lines.specs.Lines.{lineKind}
 use Rattle.parse_lines.specs.declared.Span.{Span}
+use Rattle.parse_lines.proofs.Keys.{no-key}
 use Rattle.parse_shapes.specs.Shapes.{operandCount}
 use Rattle.parse_rules.specs.Rules.{shapeRule, leftRule, tokensRule, listRule, reservedLabel, labelLimit, labelKey, labelled, labelStep, labelsFrom, labelsRule}
 use Rattle.parse_rules.specs.declared.Labelled.{Labelled}
@@ -46,13 +47,6 @@ use Rattle.thm_acceptance.proofs.LineRules.{reserved-by, by-reserved, s
 use Rattle.thm_acceptance.proofs.Opens.{implies, imply, leaves-high, Link, Chain, closed, within, Somewhere, nowhere, somewhere, where-is, Frame, LocalsAre, Needs, chain-more, Counted, Head, Fit, next-counted, else-if-counted}
 
 -- ---- a rule that finds nothing
-
-key-low : (t : List ℕ) (n i number : ℕ) → number < 64 → keyAt t n i number < none
-unfolding keyAt
-key-low t n i number h = key-fault _ number h
-
-no-key : {P : Type 0} (t : List ℕ) (n i number : ℕ) → number < 64 → none ≤ keyAt t n i number → P
-no-key t n i number l h = let z : ⊥ = omega (arith, key-low t n i number l) in absurd z
 
 -- ---- labels
 
@@ -498,13 +492,6 @@ test-needs k os l h =
       alone = λ q. let z : ⊥ = omega arith in absurd z;
     }
 
-two-rows : (k : ℕ) → (rowsOf k ≡ 0 → ⊥) → (rowsOf k ≡ 1 → ⊥) → k ≡ 21
-unfolding rowsOf
-two-rows k =
-    either-eq (λ (m : ℕ). (m ≡ 0 → ⊥) → (m ≡ 1 → ⊥) → k ≡ 21) k 0 _ _ (λ _ f _. absurd (f refl)) (λ _.
-    either-eq (λ (m : ℕ). (m ≡ 0 → ⊥) → (m ≡ 1 → ⊥) → k ≡ 21) k 21 _ _ (λ e _ _. e) (λ _.
-    either (λ (m : ℕ). (m ≡ 0 → ⊥) → (m ≡ 1 → ⊥) → k ≡ 21) k 25 _ _ (λ _ _ f. absurd (f refl)) (λ _ f _. absurd (f refl))))
-
 rows-21 : rowsOf 21 ≡ 2
 unfolding rowsOf ifEq
 rows-21 = refl
@@ -614,7 +601,7 @@ module _ (t : List ℕ) (u : Span) (k : ℕ) (os : List Level) (y : World) (a : 
         | yes e ↦ rw (kinds-0 t u k e, grow-0 t u k y e) (rw (all-none (operandCount u) os) (a .held), omega arith)
         | no d ↦ elim (ℕ-discrete (rowsOf k) 1) [
           | yes e ↦ rw (kinds-1 t u k e, grow-1 t u k y e) (one e)
-          | no f ↦ let e : k ≡ 21 = two-rows k d f in
+          | no f ↦ let e : k ≡ 21 = rows-two k d f in
               let r : rowsOf k ≡ 2 = ap rowsOf e ∙ rows-21 in rw (kinds-2 t u k r, grow-2 t u k y r) (two e r)
         ]
       ]
@@ -656,7 +643,7 @@ module _ (t : List ℕ) (u : Span) (k : ℕ) (os : List Level) (y : World) (a : 
           | yes e ↦ let l = one-row k e in
               rw (kinds-1 t u k e, all-one (operandCount u) k os)
               (next-counted (operandCount u) atop (y .state .locals) (y .state .depth) k (l .0) (kind-low (l .1)) os (a .fit (l .0) (kind-low (l .1))) (a .counted))
-          | no f ↦ let e : k ≡ 21 = two-rows k d f in
+          | no f ↦ let e : k ≡ 21 = rows-two k d f in
               rw (kinds-2 t u k (ap rowsOf e ∙ rows-21), all-two (operandCount u) k (second t u k) os) (other e)
         ]
       ]

@@ -16,7 +16,8 @@ use Rattle.res_scope.specs.Names.{letHere, parameterNamed, parameterOf, labelNa
 use Rattle.res_names.specs.Naming.{parameterTaken, localTaken, letFault, parameterFault, labelFault}
 use Rattle.parse_verdict.specs.Verdict.{Clean}
 use Rattle.thm_acceptance.specs.Faults.{parameterFaults, declaredFaults}
-use Rattle.thm_acceptance.proofs.LineRules.{no-key}
+use Rattle.thm_acceptance.proofs.LineRules.{}
+use Rattle.parse_lines.proofs.Keys.{no-key}
 
 -- ---- the first number that passes
 

@@ -8,7 +8,6 @@ use native.Mathlib.Omega.{arith}
 use Rattle.base_prelude.specs.Choice.{ifLt}
 use Rattle.base_prelude.specs.Fault.{none, leastOf}
 use Rattle.base_prelude.proofs.Choice.{either, either-true, ifEq-yes, ifTrue-yes}
-use Rattle.base_prelude.proofs.Keys.{key-fault}
 use Rattle.base_limits.specs.declared.Width.{Width}
 use Rattle.lang_kinds.specs.Nesting.{standsIn}
 use Rattle.lang_kinds.specs.Standing.{standsOn}
@@ -20,13 +19,10 @@ use Rattle.parse_shapes.specs.Shapes.{operandCount}
 use Rattle.parse_shapes.proofs.Forms.{listed-by}
 use Rattle.lang_words.specs.Words.{words, mostOperands, entryOf, firstOf, isNumber}
 use Rattle.parse_lines.specs.Lines.{lineKind}
+use Rattle.parse_lines.proofs.Keys.{key-low}
 use Rattle.thm_outline.proofs.LineKinds.{line-function}
 use Rattle.parse_units.specs.Places.{placeRule, lineFaults, limitFaults, unitFault}
 use Rattle.parse_units.specs.declared.State.{State}
-
-key-low : (t : List ℕ) (n i number : ℕ) → number < 64 → keyAt t n i number < none
-unfolding keyAt
-key-low t n i number h = key-fault _ number h
 
 place-by : (t : List ℕ) (n : ℕ) (u : Span) (k g : ℕ) → none ≤ placeRule t n u k g → (standsIn k .lo ≤ g) × (g < standsIn k .hi)
 unfolding placeRule

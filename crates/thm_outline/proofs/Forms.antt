@@ -10,12 +10,12 @@ use native.Mathlib.Omega.{arith}
 use Rattle.base_prelude.specs.Choice.{ifLt, ifEq, ifTrue}
 use Rattle.base_prelude.specs.Fault.{none}
 use Rattle.base_prelude.proofs.Choice.{either, either-eq, either-true, true-false, ifLt-yes}
-use Rattle.base_prelude.proofs.Keys.{key-fault}
 use Rattle.base_limits.specs.declared.Width.{Width}
 use Rattle.lang_kinds.specs.Nesting.{rowsOf, kindOfWord}
 use Rattle.lang_words.specs.Words.{leastOperands, mostOperands}
-use Rattle.parse_lines.specs.Tokens.{kindAt, wordAt, keyAt, allFrom}
+use Rattle.parse_lines.specs.Tokens.{kindAt, wordAt, allFrom}
 use Rattle.parse_lines.specs.declared.Span.{Span}
+use Rattle.parse_lines.proofs.Keys.{no-key}
 use Rattle.parse_shapes.specs.Shapes.{isName, operandsFrom, callFrom, expressionFrom, operandCount, isListed, countFits, shapeFits}
 use Rattle.parse_shapes.specs.Forms.{laterFits, statementFits, rangedForm}
 use Rattle.parse_shapes.proofs.Forms.{forms-say}
@@ -44,13 +44,6 @@ pub data Form (t : List ℕ) (kind i e : ℕ) : Type 0 where
   late : 20 ≤ kind → kind < 23 → Form t kind i e
 
 -- ---- what no fault says
-
-key-low : (t : List ℕ) (n i number : ℕ) → number < 64 → keyAt t n i number < none
-unfolding keyAt
-key-low t n i number h = key-fault _ number h
-
-no-key : {P : Type 0} (t : List ℕ) (n i number : ℕ) → number < 64 → none ≤ keyAt t n i number → P
-no-key t n i number l h = let z : ⊥ = omega (arith, key-low t n i number l) in absurd z
 
 both-if : (a b : Bool) → ifTrue a b false ≡ true → (a ≡ true) × (b ≡ true)
 both-if a b = either-true (λ (x : Bool). x ≡ true → (a ≡ true) × (b ≡ true)) a b false (λ p q. (p, q)) (λ _ q. true-false (sym q))

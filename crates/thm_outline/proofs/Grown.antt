@@ -13,6 +13,7 @@ use Rattle.base_prelude.proofs.Choice.{either, either-eq}
 use Rattle.base_prelude.proofs.Table.{every, at}
 use Rattle.lang_kinds.specs.Nesting.{rowsOf, wordKinds, kindOfWord}
 use Rattle.lang_kinds.proofs.Cases.{kind-none, kind-known}
+use Rattle.lang_kinds.proofs.RowCounts.{rows-few, rows-one}
 use Rattle.parse_lines.specs.Tokens.{wordAt}
 use Rattle.parse_lines.specs.declared.Span.{Span}
 use Rattle.parse_shapes.specs.Shapes.{operandCount}
@@ -107,20 +108,6 @@ two-grown x y z u k j m o e d p q =
         | no f ↦ put-within y z z u j (u .word + 1) (u .next) i q (omega arith) (omega arith) (omega (arith, q .count)) refl
       ];
     }
-
--- a line of one row is no else-if line
-rows-one : (k : ℕ) → rowsOf k ≡ 1 → k ≡ 21 → ⊥
-unfolding rowsOf
-rows-one k =
-    either-eq (λ (m : ℕ). m ≡ 1 → k ≡ 21 → ⊥) k 0 _ _ (λ _ h _. let z : ⊥ = omega arith in z) (λ _.
-    either-eq (λ (m : ℕ). m ≡ 1 → k ≡ 21 → ⊥) k 21 _ _ (λ _ h _. let z : ⊥ = omega arith in z) (λ d _ e. d e))
-
-rows-few : (k : ℕ) → rowsOf k ≤ 2
-unfolding rowsOf
-rows-few k =
-    either-eq (λ (r : ℕ). r ≤ 2) k 0 _ _ (λ _. omega arith) (λ _.
-    either-eq (λ (r : ℕ). r ≤ 2) k 21 _ _ (λ _. omega arith) (λ _.
-    either (λ (r : ℕ). r ≤ 2) k 25 _ _ (λ _. omega arith) (λ _. omega arith)))
 
 -- the rows of a line
 pub grow-grown : (t : List ℕ) (u : Span) (k : ℕ) (x : World) → u .word < u .next → x .state .count + rowsOf k ≤ 1025 → length (x .table) ≡ 8200

@@ -251,7 +251,7 @@ module _ (t : List ℕ) (x : World) (h : Between t x) (u : Span) (k : ℕ) (pk :
 
 -- ---- a step
 
-section-low : (k s : ℕ) → s < 4 → sectionBehind k s < 4
+pub section-low : (k s : ℕ) → s < 4 → sectionBehind k s < 4
 unfolding sectionBehind
 section-low k s h =
     either-eq (λ (x : ℕ). x < 4) k 25 _ _ (λ _. omega arith) (λ _.

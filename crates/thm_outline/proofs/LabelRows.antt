@@ -25,7 +25,7 @@ use Rattle.parse_lines.specs.declared.Span.{Span}
 use Rattle.parse_rules.specs.Rules.{labelsRule}
 use Rattle.parse_units.specs.Outline.{rowAt}
 use Rattle.parse_units.specs.Places.{groundIn, unitFault}
-use Rattle.parse_units.specs.Parse.{World, world, Result, result, begin, growBy, stateBehind, joinState, advance, sectionBehind, openRow, faultIn, unitStepOn, unitStep, parseFrom, parseOf}
+use Rattle.parse_units.specs.Parse.{World, world, Result, result, begin, growBy, stateBehind, joinState, advance, sectionBehind, openRow, faultIn, unitStep, parseFrom, parseOf}
 use Rattle.parse_units.specs.Fits.{UnitStepFits}
 use Rattle.parse_units.specs.declared.Row as outlined
 use Rattle.parse_units.specs.declared.State.{State}
@@ -48,6 +48,7 @@ use Rattle.prog_tables.specs.Statement as statement
 use Rattle.prog_tables.specs.Statement.{Row}
 use Rattle.res_scope.specs.Lines.{endToken, labelToken, labelKind, labelStatement}
 use Rattle.thm_outline.proofs.Lines.{end-is}
+use Rattle.thm_outline.proofs.Steps.{refused-step, end-step, go-step}
 use Rattle.thm_outline.proofs.Scans.{unit-plain}
 use Rattle.thm_outline.proofs.Grown.{Grown, grow-grown}
 use Rattle.thm_outline.proofs.Unit.{Free, unit-free, line-some, labelled-line, labelled-row}
@@ -237,19 +238,11 @@ module _ (w : Width) (t : List ℕ) (n : ℕ) (x : World) (m : Marking) (h : Lin
               h .last (sym (ap (λ (i : ℕ). rowAt (growBy (rowsOf k) t u k x .table) i .kind) z ∙ kinds-stay (x .state .count - 1) (omega (arith, h .some))) ∙ e)
         ]
 
-    unit-step-go : (k ≡ 0 → ⊥) → unitStep w t n x ≡ go on
-    unfolding unitStep unitStepOn
-    unit-step-go d = ifLt-no _ _ c ∙ ifEq-no _ _ d
-
-    unit-step-end : k ≡ 0 → unitStep w t n x ≡ stop (result (Accepted (x .state .count) (x .state .labels)) (x .table))
-    unfolding unitStep unitStepOn
-    unit-step-end e = ifLt-no _ _ c ∙ ifEq-yes _ _ e
-
     -- behind the unit
     linked-on : (k ≡ 0 → ⊥) → Linked t on (marking (marksBehind u k (m .state) (unit .count)) (unit .table))
     unfolding advance joinState stateBehind marksBehind
     linked-on d =
-        let g : UnitStepGood t (x .state) (go on) = subst (UnitStepGood t (x .state)) (unit-step-go d) (unit-step-good w t n (x .state) (x .table) (h .fits) (h .few)) in
+        let g : UnitStepGood t (x .state) (go on) = subst (UnitStepGood t (x .state)) (go-step w t n x c d) (unit-step-good w t n (x .state) (x .table) (h .fits) (h .few)) in
         let q : unit .count ≡ labelsRule t n u (x .state .labels) .count = unit-count t n u k (m .state) (m .table) ∙ ap (λ (i : ℕ). labelsRule t n u i .count) (h .labels) in
         record {
           fits = g .0 .0;
@@ -264,10 +257,6 @@ module _ (w : Width) (t : List ℕ) (n : ℕ) (x : World) (m : Marking) (h : Lin
           ends = ends-on;
           each = λ j a b. new-each j (omega arith) b;
         }
-
-  unit-step-refused : faultIn w t n u x < none → unitStep w t n x ≡ stop (result (Refused (faultIn w t n u x)) (x .table))
-  unfolding unitStep unitStepOn
-  unit-step-refused l = ifLt-yes _ _ l
 
   mark-end : k ≡ 0 → markStep t m ≡ stop (unit .table)
   unfolding markOn
@@ -291,16 +280,16 @@ unfolding walk
 walks-linked w t n zero x m h = tt
 walks-linked w t n (suc fuel) x m h =
     elim (decLt (faultIn w t n (unitAt t (x .state .at)) x) none) [
-      | yes l ↦ subst (λ (r : Result). Rowed t r (walk (markStep t) [] (suc fuel) m)) (sym (walk-stop (unitStep w t n) (result (Refused none) []) fuel x _ (unit-step-refused w t n x m h l))) tt
+      | yes l ↦ subst (λ (r : Result). Rowed t r (walk (markStep t) [] (suc fuel) m)) (sym (walk-stop (unitStep w t n) (result (Refused none) []) fuel x _ (refused-step w t n x l))) tt
       | no l ↦
           let c : none ≤ faultIn w t n (unitAt t (x .state .at)) x = omega arith in
           elim (ℕ-discrete (lineKind t (unitAt t (x .state .at) .word)) 0) [
             | yes e ↦
-                subst (λ (r : Result). Rowed t r (walk (markStep t) [] (suc fuel) m)) (sym (walk-stop (unitStep w t n) (result (Refused none) []) fuel x _ (unit-step-end w t n x m h c e)))
+                subst (λ (r : Result). Rowed t r (walk (markStep t) [] (suc fuel) m)) (sym (walk-stop (unitStep w t n) (result (Refused none) []) fuel x _ (end-step w t n x c e)))
                 (subst (λ (y : List ℕ). Each (Labels t (x .table) (x .state .count)) y (x .state .labels))
                 (sym (walk-stop (markStep t) [] fuel m _ (mark-end w t n x m h e) ∙ ap (λ (y : Marked). y .table) (end-plain w t n x m h c e))) (h .each))
             | no d ↦
-                subst (λ (r : Result). Rowed t r (walk (markStep t) [] (suc fuel) m)) (sym (walk-go (unitStep w t n) (result (Refused none) []) fuel x _ (unit-step-go w t n x m h c d)))
+                subst (λ (r : Result). Rowed t r (walk (markStep t) [] (suc fuel) m)) (sym (walk-go (unitStep w t n) (result (Refused none) []) fuel x _ (go-step w t n x c d)))
                 (subst (λ (y : List ℕ). Rowed t (walk (unitStep w t n) (result (Refused none) []) fuel (advance t n (unitAt t (x .state .at)) (lineKind t (unitAt t (x .state .at) .word)) x)) y)
                 (sym (walk-go (markStep t) [] fuel m _ (mark-go w t n x m h d)))
                 (walks-linked w t n fuel _ _ (linked-on w t n x m h c d)))

@@ -16,6 +16,7 @@ pub mod Words
 pub mod Forms
 pub mod Parts
 pub mod Rows
+pub mod Steps
 pub mod Scans
 pub mod Grown
 pub mod Unit

@@ -14,6 +14,7 @@ use Rattle.base_prelude.proofs.Choice.{either, either-eq}
 use Rattle.base_prelude.proofs.Walk.{Kept, walk-kept}
 use Rattle.base_limits.specs.declared.Width.{Width}
 use Rattle.lang_kinds.specs.Nesting.{rowsOf, kindOfWord}
+use Rattle.lang_kinds.proofs.RowCounts.{rows-two}
 use Rattle.parse_lines.specs.Tokens.{wordAt}
 use Rattle.parse_lines.specs.Units.{unitAt}
 use Rattle.parse_lines.specs.Lines.{lineKind}
@@ -77,13 +78,6 @@ RowLined w t n r = Lined w t n (r .kind) (r .token) (r .next) (r .operands)
 abbrev AllLined : Width → List ℕ → ℕ → World → Type 0
 AllLined w t n x = (m : ℕ) → 1 ≤ m → m < x .state .count → RowLined w t n (rowAt (x .table) m)
 
-two-rows : (k : ℕ) → (rowsOf k ≡ 0 → ⊥) → (rowsOf k ≡ 1 → ⊥) → k ≡ 21
-unfolding rowsOf
-two-rows k =
-    either-eq (λ (m : ℕ). (m ≡ 0 → ⊥) → (m ≡ 1 → ⊥) → k ≡ 21) k 0 _ _ (λ _ f _. absurd (f refl)) (λ _.
-    either-eq (λ (m : ℕ). (m ≡ 0 → ⊥) → (m ≡ 1 → ⊥) → k ≡ 21) k 21 _ _ (λ e _ _. e) (λ _.
-    either (λ (m : ℕ). (m ≡ 0 → ⊥) → (m ≡ 1 → ⊥) → k ≡ 21) k 25 _ _ (λ _ _ f. absurd (f refl)) (λ _ f _. absurd (f refl))))
-
 module _ (w : Width) (t : List ℕ) (n : ℕ) where
   -- one row more
   row-more : (rows : List ℕ) (c : ℕ) (r : Row) → c * 8 + 8 ≤ length rows → ((m : ℕ) → 1 ≤ m → m < c → RowLined w t n (rowAt rows m)) → RowLined w t n r
@@ -127,7 +121,7 @@ module _ (w : Width) (t : List ℕ) (n : ℕ) where
       either-eq (AllLined w t n) m 0 _ _ (λ _. a) (λ f.
       either-eq (AllLined w t n) m 1 _ _
       (λ e. kind-more k (u .word) (u .next) (operandCount u) x (omega arith) l a (record { span = u; is = k; line = b; made = whole (sym q ∙ e) refl refl refl refl }))
-      (λ g. two-more u k x (omega arith) l a (two-rows k (λ e. f (q ∙ e)) (λ e. g (q ∙ e))) b))
+      (λ g. two-more u k x (omega arith) l a (rows-two k (λ e. f (q ∙ e)) (λ e. g (q ∙ e))) b))
 
 -- ---- the walk
 

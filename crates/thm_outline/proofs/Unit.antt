@@ -12,7 +12,6 @@ use Rattle.base_prelude.specs.Choice.{ifLt, ifEq, ifTrue}
 use Rattle.base_prelude.specs.Fault.{none, leastOf}
 use Rattle.base_prelude.specs.Lists.{isAmong}
 use Rattle.base_prelude.proofs.Choice.{either, either-eq, either-true, ifEq-yes, true-false}
-use Rattle.base_prelude.proofs.Keys.{key-fault}
 use Rattle.base_prelude.proofs.Table.{every, at}
 use Rattle.base_limits.specs.declared.Width.{Width}
 use Rattle.lang_kinds.specs.Nesting.{standsIn, groundOf, rowsOf, wordKinds, kindOfWord}
@@ -20,11 +19,13 @@ use Rattle.lang_kinds.specs.Standing.{groundNumbered, standsOn}
 use Rattle.lang_kinds.specs.declared.Range.{Range}
 use Rattle.lang_kinds.proofs.Standing.{stands-range}
 use Rattle.lang_kinds.proofs.Cases.{kind-none, kind-known}
-use Rattle.parse_lines.specs.Tokens.{kindAt, wordAt, keyAt}
+use Rattle.parse_lines.specs.Tokens.{kindAt, wordAt}
 use Rattle.parse_lines.specs.Lines.{sectionKind, endKind, testKind, elseKind, setKind, symbolKind, otherKind, lineKind}
 use Rattle.parse_lines.specs.declared.Span.{Span}
+use Rattle.parse_lines.proofs.Keys.{key-low}
 use Rattle.parse_rules.specs.Rules.{shapeRule, leftRule, reservedLabel, labelKey, labelled, labelStep, labelsFrom, labelsRule}
 use Rattle.parse_rules.specs.declared.Labelled.{Labelled}
+use Rattle.parse_verdict.proofs.Counts.{from-low}
 use Rattle.parse_units.specs.Places.{groundIn, labelledOn, mayLabel, labelRule, placeRule, lineFaults, unitFault}
 use Rattle.parse_units.proofs.Labelled.{may-before, may-first}
 use Rattle.parse_units.specs.declared.Row.{Row}
@@ -113,10 +114,6 @@ function-line t i a b = ifEq-yes _ _ a ∙ ap (λ (w : ℕ). symbolKind w (kindA
 
 -- ---- what a unit without a fault says
 
-key-low : (t : List ℕ) (n i number : ℕ) → number < 64 → keyAt t n i number < none
-unfolding keyAt
-key-low t n i number h = key-fault _ number h
-
 -- lines that make no row stand on no ground from 4 on
 stands-low : (k : ℕ) → k ≤ 33 → (1 ≤ k → 25 ≤ k) → standsIn k .hi ≤ 4
 unfolding standsIn
@@ -185,15 +182,6 @@ unfolding reservedLabel
 reserved-by t n i =
     either (λ (x : ℕ). none ≤ x → Free t i) (wordAt t i) 1 _ _ (λ a _ b. let z : ⊥ = omega arith in absurd z) (λ _.
     either (λ (x : ℕ). none ≤ x → Free t i) (wordAt t i) 52 _ _ (λ _ h. let z : ⊥ = omega (arith, key-low t n i 8 (omega arith)) in absurd z) (λ a _ _. a))
-
-step-low : (t : List ℕ) (n i : ℕ) (x : Labelled) → labelStep t n i x .fault ≤ x .fault
-unfolding labelStep
-step-low t n i x = either-eq (λ (y : Labelled). y .fault ≤ x .fault) _ 2 _ _ (λ _. omega arith) (λ _. omega arith)
-
-from-low : (left : ℕ) (t : List ℕ) (n i : ℕ) (x : Labelled) → labelsFrom left t n i x .fault ≤ x .fault
-unfolding labelsFrom
-from-low zero t n i x = omega arith
-from-low (suc left) t n i x = omega (arith, from-low left t n (i + 1) (labelStep t n i x), step-low t n i x)
 
 min-clean : (t : List ℕ) (n i c f : ℕ) → none ≤ min f (labelKey t n i c) → none ≤ reservedLabel t n i
 unfolding labelKey

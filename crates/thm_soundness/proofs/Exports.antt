@@ -25,7 +25,7 @@ use Rattle.parse_lines.specs.Lines.{lineKind}
 use Rattle.parse_lines.specs.declared.Span.{Span}
 use Rattle.parse_units.specs.Outline.{rowAt}
 use Rattle.parse_units.specs.Places.{groundIn, unitFault}
-use Rattle.parse_units.specs.Parse.{World, world, Result, result, begin, growBy, stateBehind, joinState, advance, sectionBehind, openRow, faultIn, unitStepOn, unitStep, parseFrom, parseOf}
+use Rattle.parse_units.specs.Parse.{World, world, Result, result, begin, growBy, stateBehind, joinState, advance, sectionBehind, openRow, faultIn, unitStep, parseFrom, parseOf}
 use Rattle.parse_units.specs.Fits.{UnitStepFits}
 use Rattle.parse_units.specs.declared.Row as outlined
 use Rattle.parse_units.specs.declared.State.{State}
@@ -41,6 +41,8 @@ use Rattle.res_skeleton.specs.Skeleton.{skeletonOf}
 use Rattle.res_scope.specs.Lines.{firstToken, endToken}
 use Rattle.res_exports.specs.Exports.{definitions, isDefinition, searchEnds, endsSearch, nowhere, seekOn, seekStep, definitionFrom}
 use Rattle.thm_outline.proofs.Lines.{first-is, end-is}
+use Rattle.thm_outline.proofs.Kept.{section-low}
+use Rattle.thm_outline.proofs.Steps.{refused-step, end-step, go-step}
 use Rattle.thm_outline.proofs.Grown.{Grown, grow-grown}
 use Rattle.thm_outline.proofs.Unit.{line-low, unit-stands}
 use Rattle.thm_acceptance.specs.Lines.{Line, lineFrom, linesFrom, linesOf, EachFrom, EachLine}
@@ -94,14 +96,6 @@ ground-top : (s : State) (o : outlined.Row) → s .top ≡ 0 → groundIn s o �
 unfolding groundIn
 ground-top s o e = ifEq-yes _ _ e
 
-section-low : (k section : ℕ) → section ≤ 3 → sectionBehind k section ≤ 3
-unfolding sectionBehind
-section-low k section h =
-    either-eq (λ (g : ℕ). g ≤ 3) k 25 _ _ (λ _. omega arith) (λ _.
-    either-eq (λ (g : ℕ). g ≤ 3) k 26 _ _ (λ _. omega arith) (λ _.
-    either-eq (λ (g : ℕ). g ≤ 3) k 32 _ _ (λ _. omega arith) (λ _.
-    either-eq (λ (g : ℕ). g ≤ 3) k 33 _ _ (λ _. omega arith) (λ _. h))))
-
 -- ---- the parser's walk, line by line
 
 -- what is known of a world
@@ -122,19 +116,7 @@ module _ (w : Width) (t : List ℕ) (n : ℕ) (x : World) (h : Fine t x) where
   abbrev on : World
   on = advance t n (unitAt t (x .state .at)) (lineKind t (unitAt t (x .state .at) .word)) x
 
-  refused-step : faultIn w t n u x < none → unitStep w t n x ≡ stop (result (Refused (faultIn w t n u x)) (x .table))
-  unfolding unitStep unitStepOn
-  refused-step l = ifLt-yes _ _ l
-
   module _ (c : none ≤ faultIn w t n u x) where
-    end-step : k ≡ 0 → unitStep w t n x ≡ stop (result (Accepted (x .state .count) (x .state .labels)) (x .table))
-    unfolding unitStep unitStepOn
-    end-step e = ifLt-no _ _ c ∙ ifEq-yes _ _ e
-
-    go-step : (k ≡ 0 → ⊥) → unitStep w t n x ≡ go on
-    unfolding unitStep unitStepOn
-    go-step d = ifLt-no _ _ c ∙ ifEq-no _ _ d
-
     clean : none ≤ unitFault w t n u k (groundIn (x .state) (openRow x)) (x .state)
     unfolding faultIn
     clean = c
@@ -166,12 +148,12 @@ module _ (w : Width) (t : List ℕ) (n : ℕ) (x : World) (h : Fine t x) where
 
     fine-on : (k ≡ 0 → ⊥) → Fine t on
     fine-on d =
-        let g : UnitStepGood t (x .state) (go on) = subst (UnitStepGood t (x .state)) (go-step d) (unit-step-good w t n (x .state) (x .table) (h .fits) (h .few)) in
+        let g : UnitStepGood t (x .state) (go on) = subst (UnitStepGood t (x .state)) (go-step w t n x c d) (unit-step-good w t n (x .state) (x .table) (h .fits) (h .few)) in
         let o = unit-order t (x .state .at) in
         record {
           fits = g .0 .0;
           few = g .0 .1;
-          section = subst (λ (v : ℕ). v ≤ 3) (sym section-on) (section-low k (x .state .section) (h .section));
+          section = omega (arith, section-on, section-low k (x .state .section) (let z : x .state .section < 4 = omega (arith, h .section) in z));
           ends = λ m a b. elim (decLt m (x .state .count)) [
             | yes e ↦ omega (arith, ap (λ (r : outlined.Row). r .next) (grown-on .stays m e), h .ends m a e, at-on, o .0, o .1, o .2)
             | no e ↦ omega (arith, grown-on .within m (omega arith) b .1, at-on)
@@ -196,12 +178,12 @@ module _ (w : Width) (t : List ℕ) (n : ℕ) (P : World → Result → Type 0) 
   by-lines a b c zero x h = a x none []
   by-lines a b c (suc fuel) x h =
       elim (decLt (faultIn w t n (unitAt t (x .state .at)) x) none) [
-        | yes l ↦ subst (P x) (sym (walk-stop (unitStep w t n) (result (Refused none) []) fuel x _ (refused-step w t n x h l))) (a x _ _)
+        | yes l ↦ subst (P x) (sym (walk-stop (unitStep w t n) (result (Refused none) []) fuel x _ (refused-step w t n x l))) (a x _ _)
         | no l ↦
             let g : none ≤ faultIn w t n (unitAt t (x .state .at)) x = omega arith in
             elim (ℕ-discrete (lineKind t (unitAt t (x .state .at) .word)) 0) [
-              | yes e ↦ subst (P x) (sym (walk-stop (unitStep w t n) (result (Refused none) []) fuel x _ (end-step w t n x h g e))) (b x h g e)
-              | no d ↦ subst (P x) (sym (walk-go (unitStep w t n) (result (Refused none) []) fuel x _ (go-step w t n x h g d)))
+              | yes e ↦ subst (P x) (sym (walk-stop (unitStep w t n) (result (Refused none) []) fuel x _ (end-step w t n x g e))) (b x h g e)
+              | no d ↦ subst (P x) (sym (walk-go (unitStep w t n) (result (Refused none) []) fuel x _ (go-step w t n x g d)))
                   (c x h g d _ (by-lines a b c fuel _ (fine-on w t n x h g d)))
             ]
       ]

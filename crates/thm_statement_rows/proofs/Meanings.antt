@@ -14,8 +14,8 @@ use borrow.Author.Tests.{eq-eqb, lt-ltb, le-leb}
 use Rattle.base_prelude.specs.Choice.{pick, ifLt, ifEq, ifTrue}
 use Rattle.base_prelude.specs.Fault.{none, key}
 use Rattle.base_prelude.proofs.Choice.{either, either-eq, either-true, ifEq-yes, ifEq-no, ifLt-yes, ifLt-no, true-false}
-use Rattle.base_prelude.proofs.Keys.{key-fault}
-use Rattle.parse_lines.specs.Tokens.{keyAt, kindAt, valueAt}
+use Rattle.parse_lines.specs.Tokens.{kindAt, valueAt}
+use Rattle.parse_lines.proofs.Keys.{no-key}
 use Rattle.prog_tables.specs.Tests.{both, oneOf, someBelow, firstFrom}
 use Rattle.prog_tables.specs.Statement.{Row, rowAt}
 use Rattle.prog_tables.specs.Nesting.{encloses}
@@ -32,13 +32,6 @@ use Rattle.res_scope.proofs.Cases.{from-start}
 use Rattle.res_names.specs.Naming.{dataFault, valueFault, setFault, functionFault, calleeFault, placeFault, gotoFault}
 use Rattle.res_rows.specs.Rows.{labelNumber, wordOfLet, wordOfParameter, localWord, labelTarget, plainOperand, atOperand, constantOperand, tokenOperand, addressConstant, addressOperand}
 use Rattle.thm_statement_rows.proofs.Views.{Alike, seen-same}
-
-key-low : (t : List ℕ) (n i number : ℕ) → number < 64 → keyAt t n i number < none
-unfolding keyAt
-key-low t n i number h = key-fault _ number h
-
-pub no-key : {X : Type 0} (t : List ℕ) (n i number : ℕ) → number < 64 → none ≤ keyAt t n i number → X
-no-key t n i number h g = let z : ⊥ = omega (arith, key-low t n i number h) in absurd z
 
 -- ---- what a fault of `none` says
 

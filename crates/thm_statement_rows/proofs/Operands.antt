@@ -14,6 +14,7 @@ use Rattle.base_prelude.specs.Choice.{pick, ifLt, ifEq, ifTrue}
 use Rattle.base_prelude.specs.Fault.{none}
 use Rattle.base_prelude.proofs.Choice.{either-eq, either-true, ifEq-yes, ifEq-no, true-false}
 use Rattle.parse_lines.specs.Tokens.{keyAt, kindAt, valueAt}
+use Rattle.parse_lines.proofs.Keys.{no-key}
 use Rattle.prog_tables.proofs.Each.{both-true}
 use Rattle.prog_tables.specs.Tests.{both, oneOf, given, all, allOf, someBelow}
 use Rattle.prog_tables.specs.Statement.{Row, rowAt, isCall}
@@ -32,7 +33,7 @@ use Rattle.res_scope.specs.declared.Meaning.the-variants as meaning
 use Rattle.res_names.specs.Naming.{dataFault, valueFault, setFault, functionFault, calleeFault, placeFault, gotoFault}
 use Rattle.res_rows.specs.Rows.{labelNumber, wordOfLet, wordOfParameter, localWord, labelTarget, plainOperand, atOperand, constantOperand, tokenOperand, addressConstant, addressOperand, operandsFrom}
 use Rattle.thm_statement_rows.proofs.Views.{viewing, Alike, seen-same}
-use Rattle.thm_statement_rows.proofs.Meanings.{IsLet, IsParameter, From, meaning-from, data-kind, function-good, place-good, no-key}
+use Rattle.thm_statement_rows.proofs.Meanings.{IsLet, IsParameter, From, meaning-from, data-kind, function-good, place-good}
 use Rattle.prog_tables.proofs.Each.{some-at}
 use Rattle.prog_tables.specs.Program.{Program}
 
