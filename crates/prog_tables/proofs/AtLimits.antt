@@ -5,21 +5,14 @@ use mathlib.Core.Bool.{true, false}
 use mathlib.Core.List.{List, [], _∷_, _++_}
 use Prim.Native.Nat.{ℕ, zero, suc, _+_, _*_, _/_, _%_}
 use lib.ListN.{replicate}
-use Rattle.base_prelude.specs.Choice.{ifLt, ifEq, ifTrue}
-use Rattle.base_prelude.specs.Lists.{sameList}
 use Rattle.base_limits.specs.declared.Width.the-variants.{Bits32}
 use Rattle.lang_kinds.specs.Kinds as kind
-use Rattle.lang_kinds.specs.Nesting.{statementIn, standsIn, enters, leaves, groundOf, isFrame}
-use Rattle.lang_words.specs.Words.{words, firstOf, isSpelled, isNumber, entryNamed, entryOf, numberOf, leastOperands}
 use Rattle.prog_tables.specs.Layout.{statementRow, frameHead, plain, constantOperand, dataLabel, exportedFunction}
-use Rattle.prog_tables.specs.Tests.{all, some, allOf, someOf, allBelow, someBelow, countBelow, greatestBelow, firstFrom}
-use Rattle.prog_tables.specs.Statement.{operandOf, operandKind, operandNumber, hasExpression, isTest, isOperator, isCall, expressionUses, usedBy, operandAt, slots, rowFrom, rowAt}
-use Rattle.prog_tables.specs.Label.{Tables, labelAt, isData, isFunctionLabel}
+use Rattle.prog_tables.specs.Statement.{rowAt}
+use Rattle.prog_tables.specs.Label.{Tables}
 use Rattle.prog_tables.specs.Program.{Program, programFrom}
-use Rattle.prog_tables.specs.Nesting.{behind, openBefore, groundIn, funcIn, scopeIn, upIn, isListed, mayStand, followsJump, stands, allClosed, isArm, isEndIf, nextArm, endIfOf, pastArm, targetOf, hasTarget, depthOf, encloses}
-use Rattle.prog_tables.specs.Frames.{isIn, letsBefore, blockNeed, needOf, frameSize, firstLet, blockWord, letWord, letSeen, isParameter, seenAt, inScope, localsAt}
-use Rattle.prog_tables.specs.Faults.{expressionListed, addressListed}
-use Rattle.prog_tables.specs.WellFormed.{shallow, aimed, labelled, jumps, calls, hasOperands, shaped, operandGood, operandsGood, addressGood, setsLocal, framed, fewLocals, rowTests, names, nameGood, nameNew, labelTests, countsGood, wellFormed}
+use Rattle.prog_tables.specs.WellFormed.{countsGood, wellFormed}
+use Rattle.prog_tables.proofs.Opened.{opened}
 use Rattle.prog_tables.proofs.Strong.{page}
 
 -- a row of function 0 without an address operand; only the kind of its first operand is given, all numbers of operands are 0
@@ -102,5 +95,5 @@ pub record AtLimits : Type 0 where
   pub statements-1025 : countsGood (at32 (zerosOf 1025)) ≡ false
 
 pub at-limits : AtLimits
-unfolding ifLt ifEq ifTrue sameList words firstOf isSpelled isNumber entryNamed entryOf numberOf leastOperands statementIn standsIn enters leaves groundOf isFrame all some allOf someOf allBelow someBelow countBelow greatestBelow firstFrom operandOf operandKind operandNumber hasExpression isTest isOperator isCall expressionUses usedBy operandAt slots rowFrom rowAt labelAt isData isFunctionLabel behind openBefore groundIn funcIn scopeIn upIn isListed mayStand followsJump stands allClosed isArm isEndIf nextArm endIfOf pastArm targetOf hasTarget depthOf encloses isIn letsBefore blockNeed needOf frameSize firstLet blockWord letWord letSeen isParameter seenAt inScope localsAt expressionListed addressListed shallow aimed labelled jumps calls hasOperands shaped operandGood operandsGood addressGood setsLocal framed fewLocals rowTests names nameGood nameNew labelTests countsGood wellFormed lets nested
+unfolding opened lets nested
 at-limits = record { parameters-8 = refl; parameters-9 = refl; blocks-16 = refl; blocks-17 = refl; locals-64 = refl; locals-65 = refl; data-32768 = refl; data-32769 = refl; labels-256 = refl; labels-257 = refl; statements-1024 = refl; statements-1025 = refl }
