@@ -2,7 +2,8 @@
 -- Assumes nothing.
 use mathlib.Core.Path.{_≡_, refl}
 use Prim.Native.Nat.{ℕ}
-use mathlib.Core.List.{List, [], _∷_}
+use mathlib.Core.List.{List, [], _∷_, _++_}
+use lib.ListN.{replicate}
 use Rattle.base_limits.specs.declared.Width.the-variants.{Bits32}
 use Rattle.base_limits.specs.declared.State.the-variants.{Running}
 use Rattle.prog_tables.specs.Label.{Tables}
@@ -75,6 +76,11 @@ auto-tops = refl
 memory-limit : (judged 3 0 5 0 (first 0 0) 65536 ∷ judged 3 0 5 0 (first 0 0) 65537 ∷ []) ≡ (No ∷ Somewhere ∷ [])
 unfolding opened
 memory-limit = refl
+
+-- "a [..] stack over the limits"
+stack-limit : (judged 3 0 5 0 (first 0 0 ++ replicate 16379 0) 8 ∷ judged 3 0 5 0 (first 0 0 ++ replicate 16380 0) 8 ∷ []) ≡ (No ∷ Somewhere ∷ [])
+unfolding opened
+stack-limit = refl
 
 -- "in the frame in use and each a return leaves, the first's two marks aside, a place to return to that is no call or a caller's frame
 -- that doesn't end where this one starts": one mark alone, a tail call, the caller's frame, the frame behind
