@@ -1,9 +1,10 @@
 -- What 35 is given for in a step, beside broken rows, and its place: for each cause of 01 a record on which it computes.
 -- Assumes nothing.
 use mathlib.Core.Path.{_≡_, refl}
-use Prim.Native.Nat.{ℕ}
+use Prim.Native.Nat.{ℕ, suc, _-_}
 use mathlib.Core.List.{List, [], _∷_, _++_}
-use lib.ListN.{replicate}
+use lib.ListN.{length, replicate}
+use Rattle.base_limits.specs.Limits.{stackWords}
 use Rattle.base_limits.specs.declared.Width.the-variants.{Bits32}
 use Rattle.base_limits.specs.declared.State.the-variants.{Running}
 use Rattle.prog_tables.specs.Label.{Tables}
@@ -40,6 +41,10 @@ judged next frame used top st m =
 -- the words of the first frame, with its auto top of entry and the word of its block
 abbrev first : ℕ → ℕ → List ℕ
 first top saved = 4294967295 ∷ 4294967295 ∷ top ∷ saved ∷ 0 ∷ []
+
+-- the first frame in a stack of n words
+abbrev wide : ℕ → List ℕ
+wide n = first 0 0 ++ replicate (n - length (first 0 0)) 0
 
 -- behind it one frame of g, and two
 abbrev second : ℕ → ℕ → ℕ → List ℕ
@@ -78,7 +83,7 @@ unfolding opened
 memory-limit = refl
 
 -- "a [..] stack over the limits"
-stack-limit : (judged 3 0 5 0 (first 0 0 ++ replicate 16379 0) 8 ∷ judged 3 0 5 0 (first 0 0 ++ replicate 16380 0) 8 ∷ []) ≡ (No ∷ Somewhere ∷ [])
+stack-limit : (judged 3 0 5 0 (wide stackWords) 8 ∷ judged 3 0 5 0 (wide (suc stackWords)) 8 ∷ []) ≡ (No ∷ Somewhere ∷ [])
 unfolding opened
 stack-limit = refl
 
