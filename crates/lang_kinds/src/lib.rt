@@ -476,7 +476,7 @@ pub fn ground_of(k: u32) -> u32
         return Ground::IN_BLOCK;
     }
     if k < Kind::IFEQ {
-        return 0;
+        return Ground::BEFORE_SECTIONS;
     }
     if k < Kind::ELSE {
         return Ground::IN_TEST_ARM;
@@ -484,7 +484,7 @@ pub fn ground_of(k: u32) -> u32
     if k == Kind::ELSE {
         return Ground::IN_ELSE_ARM;
     }
-    0
+    Ground::BEFORE_SECTIONS
 }
 
 // A function or a block.
