@@ -64,15 +64,15 @@ enters k = ifEq k kind.function true (ifEq k kind.block true (ifLt k kind.ifeq f
 unfoldable pub leaves : ℕ → Bool
 leaves k = ifEq k kind.endFunction true (ifEq k kind.endBlock true (ifLt k kind.else false (ifLt k kind.pastRows true false)))
 
--- the ground behind a row of this kind that is open; 0 for no such row
+-- the ground behind a row of this kind that is open; that before all sections for no such row
 unfoldable pub groundOf : ℕ → ℕ
 groundOf k =
     ifEq k kind.function ground.inFunction
     (ifEq k kind.block ground.inBlock
-    (ifLt k kind.ifeq 0
+    (ifLt k kind.ifeq ground.beforeSections
     (ifLt k kind.else ground.inTestArm
     (ifEq k kind.else ground.inElseArm
-    0))))
+    ground.beforeSections))))
 
 -- a function or a block: a frame, in which locals live
 unfoldable pub isFrame : ℕ → Bool

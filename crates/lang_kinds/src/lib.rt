@@ -332,56 +332,39 @@ pub fn all_token_words() -> TokenRows
     }
 }
 
+// The grounds from lo to before hi.
+fn between(lo: u32, hi: u32) -> Range
+    ensures { λ r. ⌜ r ≡ record { lo = lo; hi = hi } ⌝ }
+{
+    Range { lo: lo, hi: hi }
+}
+
 // Ends, tests and other statements.
 fn statement_range(k: u32) -> Range
     ensures { λ r. ⌜ r ≡ statementIn k ⌝ }
 {
     if k == Kind::FUNCTION {
-        return Range {
-            lo: Ground::FUNCTIONS_SECTION,
-            hi: Ground::DATA_SECTION,
-        };
+        return between(Ground::FUNCTIONS_SECTION, Ground::DATA_SECTION);
     }
     if k == Kind::END_FUNCTION {
-        return Range {
-            lo: Ground::IN_FUNCTION,
-            hi: Ground::IN_BLOCK,
-        };
+        return between(Ground::IN_FUNCTION, Ground::IN_BLOCK);
     }
     if k == Kind::END_BLOCK {
-        return Range {
-            lo: Ground::IN_BLOCK,
-            hi: Ground::IN_TEST_ARM,
-        };
+        return between(Ground::IN_BLOCK, Ground::IN_TEST_ARM);
     }
     if k == Kind::LET {
-        return Range {
-            lo: Ground::IN_FUNCTION,
-            hi: Ground::IN_TEST_ARM,
-        };
+        return between(Ground::IN_FUNCTION, Ground::IN_TEST_ARM);
     }
     if k < Kind::ELSE {
-        return Range {
-            lo: Ground::IN_FUNCTION,
-            hi: Ground::PAST_GROUNDS,
-        };
+        return between(Ground::IN_FUNCTION, Ground::PAST_GROUNDS);
     }
     if k < Kind::END_IF {
-        return Range {
-            lo: Ground::IN_TEST_ARM,
-            hi: Ground::IN_ELSE_ARM,
-        };
+        return between(Ground::IN_TEST_ARM, Ground::IN_ELSE_ARM);
     }
     if k == Kind::END_IF {
-        return Range {
-            lo: Ground::IN_TEST_ARM,
-            hi: Ground::PAST_GROUNDS,
-        };
+        return between(Ground::IN_TEST_ARM, Ground::PAST_GROUNDS);
     }
-    Range {
-        lo: Ground::BEFORE_SECTIONS,
-        hi: Ground::BEFORE_SECTIONS,
-    }
+    between(Ground::BEFORE_SECTIONS, Ground::BEFORE_SECTIONS)
 }
 
 // The grounds on which a kind may stand.
@@ -389,49 +372,28 @@ pub fn stands_in(k: u32) -> Range
     ensures { λ r. ⌜ r ≡ standsIn k ⌝ }
 {
     if k == Kind::EDGE {
-        return Range {
-            lo: Ground::BEFORE_SECTIONS,
-            hi: Ground::GROUP,
-        };
+        return between(Ground::BEFORE_SECTIONS, Ground::GROUP);
     }
     if k < Kind::SECTION_DATA {
         return statement_range(k);
     }
     if k < Kind::EXPORT {
-        return Range {
-            lo: Ground::BEFORE_SECTIONS,
-            hi: Ground::GROUP,
-        };
+        return between(Ground::BEFORE_SECTIONS, Ground::GROUP);
     }
     if k == Kind::EXPORT {
-        return Range {
-            lo: Ground::FUNCTIONS_SECTION,
-            hi: Ground::GROUP,
-        };
+        return between(Ground::FUNCTIONS_SECTION, Ground::GROUP);
     }
     if k == Kind::ALIGN {
-        return Range {
-            lo: Ground::FUNCTIONS_SECTION,
-            hi: Ground::IN_FUNCTION,
-        };
+        return between(Ground::FUNCTIONS_SECTION, Ground::IN_FUNCTION);
     }
     if k < Kind::GROUP {
-        return Range {
-            lo: Ground::DATA_SECTION,
-            hi: Ground::IN_FUNCTION,
-        };
+        return between(Ground::DATA_SECTION, Ground::IN_FUNCTION);
     }
     if k == Kind::GROUP {
-        return Range {
-            lo: Ground::DATA_SECTION,
-            hi: Ground::GROUP,
-        };
+        return between(Ground::DATA_SECTION, Ground::GROUP);
     }
     if k == Kind::END_GROUP {
-        return Range {
-            lo: Ground::GROUP,
-            hi: Ground::IN_FUNCTION,
-        };
+        return between(Ground::GROUP, Ground::IN_FUNCTION);
     }
     refused_range(k)
 }
@@ -441,21 +403,12 @@ fn refused_range(k: u32) -> Range
     ensures { λ r. ⌜ r ≡ refusedIn k ⌝ }
 {
     if k == Kind::LEFT_OUT {
-        return Range {
-            lo: Ground::BEFORE_SECTIONS,
-            hi: Ground::PAST_GROUNDS,
-        };
+        return between(Ground::BEFORE_SECTIONS, Ground::PAST_GROUNDS);
     }
     if k == Kind::UNKNOWN {
-        return Range {
-            lo: Ground::BEFORE_SECTIONS,
-            hi: Ground::PAST_GROUNDS,
-        };
+        return between(Ground::BEFORE_SECTIONS, Ground::PAST_GROUNDS);
     }
-    Range {
-        lo: Ground::BEFORE_SECTIONS,
-        hi: Ground::BEFORE_SECTIONS,
-    }
+    between(Ground::BEFORE_SECTIONS, Ground::BEFORE_SECTIONS)
 }
 
 // How many rows a line makes.
@@ -523,7 +476,7 @@ pub fn ground_of(k: u32) -> u32
         return Ground::IN_BLOCK;
     }
     if k < Kind::IFEQ {
-        return 0;
+        return Ground::BEFORE_SECTIONS;
     }
     if k < Kind::ELSE {
         return Ground::IN_TEST_ARM;
@@ -531,7 +484,7 @@ pub fn ground_of(k: u32) -> u32
     if k == Kind::ELSE {
         return Ground::IN_ELSE_ARM;
     }
-    0
+    Ground::BEFORE_SECTIONS
 }
 
 // A function or a block.

@@ -12,7 +12,7 @@ use Rattle.base_prelude.specs.Choice.{pick, ifLt, ifEq, ifTrue}
 use Rattle.base_prelude.proofs.Choice.{ifLt-no, ifEq-no}
 use Rattle.base_prelude.proofs.Table.{and, and-left, and-right, Each, each-at, under, under-at, agree, agree-is}
 use Rattle.parse_lines.specs.declared.Span.{Span}
-use Rattle.parse_shapes.specs.Shapes.{Shape, NoShape, Shaped, shapes, shapeIn, shapeOf, isShaped, formFits, endsInList, isListed}
+use Rattle.parse_shapes.specs.Shapes.{Shape, NoShape, Production, shapes, shapeIn, shapeOf, isShaped, formFits, endsInList, isListed}
 use Rattle.parse_shapes.specs.Forms.{laterFits, statementFits, otherFits, rangedForm}
 
 -- ---- numbers that are no kind
@@ -21,11 +21,11 @@ true-is : (b : Bool) → T b → b ≡ true
 true-is true t = refl
 true-is false t = absurd t
 
-abbrev kindsLow : List Shaped → Bool
+abbrev kindsLow : List Production → Bool
 kindsLow [] = true
 kindsLow (x ∷ xs) = and (ltb (x .kind) 36) (kindsLow xs)
 
-past-table : (xs : List Shaped) (k : ℕ) → T (kindsLow xs) → 36 ≤ k → shapeIn xs k ≡ NoShape
+past-table : (xs : List Production) (k : ℕ) → T (kindsLow xs) → 36 ≤ k → shapeIn xs k ≡ NoShape
 unfolding shapeIn
 past-table [] k t h = refl
 past-table (x ∷ xs) k t h =

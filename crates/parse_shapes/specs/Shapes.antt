@@ -86,51 +86,52 @@ pub data Shape : Type 0 where
   -- no line has this kind
   NoShape : Shape
 
-pub record Shaped : Type 0 where
+-- a production of the grammar: a kind of line and its shape
+pub record Production : Type 0 where
   pub kind : ℕ
   pub shape : Shape
 
-abbrev pub shaped : ℕ → Shape → Shaped
-shaped k s = record { kind = k; shape = s }
+abbrev pub production : ℕ → Shape → Production
+production k s = record { kind = k; shape = s }
 
 -- one line per kind, in the order of 000 and 001
-unfoldable pub shapes : List Shaped
+unfoldable pub shapes : List Production
 shapes =
-    shaped kind.edge Bare ∷
-    shaped kind.sectionData Bare ∷
-    shaped kind.sectionFunctions Bare ∷
-    shaped kind.export Name ∷
-    shaped kind.align OptionalInteger ∷
-    shaped kind.byte Integer ∷
-    shaped kind.word Integer ∷
-    shaped kind.string String ∷
-    shaped kind.group Bare ∷
-    shaped kind.endGroup Closing ∷
-    shaped kind.function Names ∷
-    shaped kind.endFunction Closing ∷
-    shaped kind.block Bare ∷
-    shaped kind.endBlock Closing ∷
-    shaped kind.call Call ∷
-    shaped kind.goto Name ∷
-    shaped kind.ifeq Operands ∷
-    shaped kind.ifge Operands ∷
-    shaped kind.ifgt Operands ∷
-    shaped kind.ifle Operands ∷
-    shaped kind.iflt Operands ∷
-    shaped kind.ifne Operands ∷
-    shaped kind.else Bare ∷
-    shaped kind.elseIf Test ∷
-    shaped kind.endIf Closing ∷
-    shaped kind.letLocal NameAndExpression ∷
-    shaped kind.return OptionalExpression ∷
-    shaped kind.set NameAndExpression ∷
-    shaped kind.setAt AddressAndExpression ∷
-    shaped kind.setByte Operands ∷
-    shaped kind.setWord Operands ∷
-    shaped kind.tailCall Call ∷
+    production kind.edge Bare ∷
+    production kind.sectionData Bare ∷
+    production kind.sectionFunctions Bare ∷
+    production kind.export Name ∷
+    production kind.align OptionalInteger ∷
+    production kind.byte Integer ∷
+    production kind.word Integer ∷
+    production kind.string String ∷
+    production kind.group Bare ∷
+    production kind.endGroup Closing ∷
+    production kind.function Names ∷
+    production kind.endFunction Closing ∷
+    production kind.block Bare ∷
+    production kind.endBlock Closing ∷
+    production kind.call Call ∷
+    production kind.goto Name ∷
+    production kind.ifeq Operands ∷
+    production kind.ifge Operands ∷
+    production kind.ifgt Operands ∷
+    production kind.ifle Operands ∷
+    production kind.iflt Operands ∷
+    production kind.ifne Operands ∷
+    production kind.else Bare ∷
+    production kind.elseIf Test ∷
+    production kind.endIf Closing ∷
+    production kind.letLocal NameAndExpression ∷
+    production kind.return OptionalExpression ∷
+    production kind.set NameAndExpression ∷
+    production kind.setAt AddressAndExpression ∷
+    production kind.setByte Operands ∷
+    production kind.setWord Operands ∷
+    production kind.tailCall Call ∷
     []
 
-unfoldable pub shapeIn : List Shaped → ℕ → Shape
+unfoldable pub shapeIn : List Production → ℕ → Shape
 shapeIn [] k = NoShape
 shapeIn (x ∷ xs) k = ifEq k (x .kind) (x .shape) (shapeIn xs k)
 

@@ -1,25 +1,29 @@
 -- How strong `wellFormed` is at the limits of 01: tables at a limit pass, tables one past it do not.
 -- Assumes nothing.
-use mathlib.Core.Path.{_≡_, refl}
-use mathlib.Core.Bool.{true, false}
+use mathlib.Core.Path.{_≡_, refl, sym, _∙_, ap}
+use mathlib.Core.Bool.{Bool, true, false, not}
 use mathlib.Core.List.{List, [], _∷_, _++_}
-use Prim.Native.Nat.{ℕ, zero, suc, _+_, _*_, _/_, _%_}
-use lib.ListN.{replicate}
-use Rattle.base_prelude.specs.Choice.{ifLt, ifEq, ifTrue}
-use Rattle.base_prelude.specs.Lists.{sameList}
+use Prim.Native.Nat.{ℕ, zero, suc, _+_, _*_, _/_, _%_, _<_, _≤_}
+use native.Mathlib.Omega.{arith}
+use borrow.Author.Tests.{lt-ltb, le-ltb, le-leb}
+use lib.Dec.{ltb, leb, eqb}
+use lib.ListN.{length, getD, replicate}
+use Rattle.base_prelude.specs.Choice.{pick, ifLt, ifTrue}
+use Rattle.base_prelude.proofs.Choice.{true-false}
+use Rattle.base_limits.specs.Limits.{statements, parameters}
 use Rattle.base_limits.specs.declared.Width.the-variants.{Bits32}
 use Rattle.lang_kinds.specs.Kinds as kind
-use Rattle.lang_kinds.specs.Nesting.{statementIn, standsIn, enters, leaves, groundOf, isFrame}
-use Rattle.lang_words.specs.Words.{words, firstOf, isSpelled, isNumber, entryNamed, entryOf, numberOf, leastOperands}
-use Rattle.prog_tables.specs.Layout.{statementRow, frameHead, plain, constantOperand, dataLabel, exportedFunction}
-use Rattle.prog_tables.specs.Tests.{all, some, allOf, someOf, allBelow, someBelow, countBelow, greatestBelow, firstFrom}
-use Rattle.prog_tables.specs.Statement.{operandOf, operandKind, operandNumber, hasExpression, isTest, isOperator, isCall, expressionUses, usedBy, operandAt, slots, rowFrom, rowAt}
-use Rattle.prog_tables.specs.Label.{Tables, labelAt, isData, isFunctionLabel}
+use Rattle.prog_tables.specs.Layout.{frameHead, noExpression, plain, constantOperand, dataLabel, exportedFunction}
+use Rattle.prog_tables.specs.Tests.{both, given, all, allOf, allBelow, countBelow, greatestBelow}
+use Rattle.prog_tables.specs.Statement.{Row, isCall, rowAt}
+use Rattle.prog_tables.specs.Label.{Tables, labelAt}
 use Rattle.prog_tables.specs.Program.{Program, programFrom}
-use Rattle.prog_tables.specs.Nesting.{behind, openBefore, groundIn, funcIn, scopeIn, upIn, isListed, mayStand, followsJump, stands, allClosed, isArm, isEndIf, nextArm, endIfOf, pastArm, targetOf, hasTarget, depthOf, encloses}
-use Rattle.prog_tables.specs.Frames.{isIn, letsBefore, blockNeed, needOf, frameSize, firstLet, blockWord, letWord, letSeen, isParameter, seenAt, inScope, localsAt}
-use Rattle.prog_tables.specs.Faults.{expressionListed, addressListed}
-use Rattle.prog_tables.specs.WellFormed.{shallow, aimed, labelled, jumps, calls, forwardCalls, hasOperands, shaped, operandGood, operandsGood, addressGood, setsLocal, framed, fewLocals, rowTests, names, nameGood, nameNew, labelTests, countsGood, wellFormed}
+use Rattle.prog_tables.specs.Nesting.{stands, allClosed, hasTarget}
+use Rattle.prog_tables.specs.Frames.{isIn, letsBefore, blockNeed, needOf, frameDepth, frameSize}
+use Rattle.prog_tables.specs.WellFormed.{shallow, aimed, jumps, calls, shaped, operandGood, operandsGood, addressGood, setsLocal, framed, fewLocals, rowTests, countsGood, rowGood, wellFormed}
+use Rattle.prog_tables.specs.declared.Operand.the-variants.{Unlisted}
+use Rattle.prog_tables.proofs.Each.{both-true, all-at}
+use Rattle.prog_tables.proofs.Opened.{opened}
 use Rattle.prog_tables.proofs.Strong.{page}
 
 -- a row of function 0 without an address operand; only the kind of its first operand is given, all numbers of operands are 0
@@ -60,11 +64,35 @@ blocksOf n = functionOf (functionRow 0 (frameHead + n) ++ nested n 1 0 ++ functi
 abbrev dataOf : ℕ → Tables
 dataOf d = record { statements = page .statements; count = page .count; labels = page .labels; labelCount = page .labelCount; names = page .names; dataLength = d }
 
--- n statement rows of zeros
-abbrev zerosOf : ℕ → Tables
-zerosOf n = record { statements = replicate (n * statementRow) 0; count = n; labels = []; labelCount = 0; names = []; dataLength = 0 }
+-- a row of function 0 without operands
+abbrev bareRow : ℕ → ℕ → ℕ → Row
+bareRow k up a = record { kind = k; func = 0; scope = 0; up = up; a = a; b = 0; expr = noExpression; callee = 0; count = 0; address = Unlisted; operands = [] }
 
--- no rows, and n labels of data with names of two bytes: as a view, for tables take long to read
+abbrev returnRow : Row
+returnRow = bareRow kind.return 1 0
+
+abbrev endRow : Row
+endRow = bareRow kind.endFunction 0 0
+
+-- a function with n times `return`, without labels: as a view, for tables take long to read
+abbrev returnRows : ℕ → ℕ → Row
+returnRows n zero = bareRow kind.function 0 frameHead
+returnRows n (suc i) = ifLt i n returnRow endRow
+
+abbrev returnsOf : ℕ → Program
+returnsOf n =
+    record {
+      width = Bits32;
+      rows = returnRows n;
+      count = suc (suc n);
+      labels = labelAt [] [];
+      labelCount = 0;
+      dataLength = 0;
+      statementsPast = false;
+      labelsPast = false;
+    }
+
+-- no rows, and n labels of data with names of two bytes: as a view too
 abbrev labelsOf : ℕ → Program
 labelsOf n =
     record {
@@ -80,6 +108,143 @@ labelsOf n =
 
 abbrev at32 : Tables → Program
 at32 = programFrom Bits32
+
+-- ---- a function of n `return`s is good
+
+none-counted : (p : ℕ → Bool) (c : ℕ) → ((i : ℕ) → p i ≡ false) → countBelow p c ≡ 0
+unfolding opened
+none-counted p zero h = refl
+none-counted p (suc c) h = rw (h c, none-counted p c h)
+
+none-greater : (g : ℕ → ℕ) (c : ℕ) → ((i : ℕ) → g i ≡ 0) → greatestBelow g c ≡ 0
+unfolding opened
+none-greater g zero h = refl
+none-greater g (suc c) h = rw (h c, none-greater g c h)
+
+no-let : (n i : ℕ) → isIn (returnRows n) kind.letLocal 0 i ≡ false
+unfolding opened
+no-let n zero = refl
+no-let n (suc i) = step (ltb i n)
+  where
+    step : (b : Bool) → both (eqb (pick b returnRow endRow .kind) kind.letLocal) (eqb (pick b returnRow endRow .scope) 0) ≡ false
+    step true = refl
+    step false = refl
+
+no-block : (n : ℕ) (need : ℕ → ℕ) (i : ℕ) → blockNeed (returnRows n) 0 need i ≡ 0
+unfolding opened
+no-block n need zero = refl
+no-block n need (suc i) = step (ltb i n)
+  where
+    step : (b : Bool) → ifTrue (both (eqb (pick b returnRow endRow .kind) kind.block) (eqb (pick b returnRow endRow .scope) 0)) (suc (need (suc i))) 0 ≡ 0
+    step true = refl
+    step false = refl
+
+-- the need of the frame is 0
+no-need : (n : ℕ) → needOf (returnRows n) (suc (suc n)) frameDepth 0 ≡ 0
+unfolding needOf letsBefore
+no-need n = rw (none-counted (isIn (returnRows n) kind.letLocal 0) (suc (suc n)) (no-let n), none-greater (blockNeed (returnRows n) 0 _) (suc (suc n)) (no-block n _))
+
+first-framed : (n : ℕ) → framed (returnRows n) (suc (suc n)) 0 ≡ true
+unfolding framed frameSize all
+first-framed n = rw (no-need n)
+
+unless : (p q : Bool) → not p ≡ true → given p q ≡ true
+unless true q h = true-false (sym h)
+unless false q h = refl
+
+-- what is asked of a row alone, where nothing but its place and its frame depends on other rows
+abbrev quiet : Row → List Bool
+quiet r =
+    not (eqb (r .kind) kind.block)
+    ∷ not (hasTarget (r .kind))
+    ∷ not (eqb (r .kind) kind.goto)
+    ∷ not (isCall (r .kind) (r .expr))
+    ∷ shaped (λ i. r) 0
+    ∷ not (eqb (r .kind) kind.setAt)
+    ∷ not (eqb (r .kind) kind.set)
+    ∷ given (eqb (r .kind) kind.function) (leb (r .b) parameters)
+    ∷ not (eqb (r .kind) kind.letLocal)
+    ∷ []
+
+quiet-good : (p : Program) (n : ℕ) → all (quiet (p .rows n)) ≡ true → p .rows n .operands ≡ [] → stands (p .rows) n ≡ true
+    → framed (p .rows) (p .count) n ≡ true → rowGood p n ≡ true
+unfolding rowTests all shallow aimed jumps calls shaped operandsGood addressGood setsLocal fewLocals allOf
+quiet-good p n q o h w =
+    both-true _ _ h
+    (both-true _ _ (unless (eqb (p .rows n .kind) kind.block) _ (test 0 (omega arith)))
+    (both-true _ _ (unless (hasTarget (p .rows n .kind)) _ (test 1 (omega arith)))
+    (both-true _ _ (unless (eqb (p .rows n .kind) kind.goto) _ (test 2 (omega arith)))
+    (both-true _ _ (unless (isCall (p .rows n .kind) (p .rows n .expr)) _ (test 3 (omega arith)))
+    (both-true (shaped (p .rows) n) _ (test 4 (omega arith))
+    (both-true _ _ (ap (allOf (operandGood p n)) o)
+    (both-true _ _ (unless (eqb (p .rows n .kind) kind.setAt) _ (test 5 (omega arith)))
+    (both-true _ _ (unless (eqb (p .rows n .kind) kind.set) _ (test 6 (omega arith)))
+    (both-true _ _ w (both-true _ _ (both-true _ _ (test 7 (omega arith)) (unless (eqb (p .rows n .kind) kind.letLocal) _ (test 8 (omega arith)))) refl))))))))))
+  where
+    test : (k : ℕ) → k < length (quiet (p .rows n)) → getD (quiet (p .rows n)) k true ≡ true
+    test k = all-at (quiet (p .rows n)) k q
+
+first-quiet : all (quiet (bareRow kind.function 0 frameHead)) ≡ true
+unfolding opened
+first-quiet = refl
+
+first-stands : (n : ℕ) → stands (returnRows n) 0 ≡ true
+unfolding opened
+first-stands n = refl
+
+first-good : (n : ℕ) → rowGood (returnsOf n) 0 ≡ true
+first-good n = quiet-good (returnsOf n) 0 first-quiet refl (first-stands n) (first-framed n)
+
+return-stands : (n i : ℕ) → i < n → stands (returnRows n) (suc i) ≡ true
+unfolding opened
+return-stands n zero h = rw (lt-ltb 0 n h)
+return-stands n (suc i) h = rw (lt-ltb (suc i) n h, lt-ltb i n (omega arith))
+
+end-stands : (n : ℕ) → stands (returnRows n) (suc n) ≡ true
+unfolding opened
+end-stands zero = refl
+end-stands (suc n) = rw (le-ltb (suc n) (suc n) (omega arith), lt-ltb n (suc n) (omega arith))
+
+framed-other : (f : ℕ → Row) (c n : ℕ) (b : Bool) → f n .kind ≡ pick b returnRow endRow .kind → framed f c n ≡ true
+unfolding framed all
+framed-other f c n true e = rw e
+framed-other f c n false e = rw e
+
+-- `return` or `end function`
+inner-good : (n i : ℕ) (b : Bool) → returnRows n (suc i) ≡ pick b returnRow endRow → stands (returnRows n) (suc i) ≡ true → rowGood (returnsOf n) (suc i) ≡ true
+unfolding opened
+inner-good n i b e h = quiet-good (returnsOf n) (suc i) (ap (λ (r : Row). all (quiet r)) e ∙ calm b) (ap (λ (r : Row). r .operands) e ∙ bare b) h (framed-other (returnRows n) (suc (suc n)) (suc i) b (ap (λ (r : Row). r .kind) e))
+  where
+    calm : (c : Bool) → all (quiet (pick c returnRow endRow)) ≡ true
+    calm true = refl
+    calm false = refl
+
+    bare : (c : Bool) → pick c returnRow endRow .operands ≡ []
+    bare true = refl
+    bare false = refl
+
+return-good : (n i : ℕ) → i < n → rowGood (returnsOf n) (suc i) ≡ true
+unfolding ifLt
+return-good n i h = inner-good n i true (rw (lt-ltb i n h)) (return-stands n i h)
+
+end-good : (n : ℕ) → rowGood (returnsOf n) (suc n) ≡ true
+unfolding ifLt
+end-good n = inner-good n n false (rw (le-ltb n n (omega arith))) (end-stands n)
+
+rows-good : (n i : ℕ) → i ≤ n → allBelow (rowGood (returnsOf n)) (suc i) ≡ true
+unfolding allBelow
+rows-good n zero h = both-true _ _ (first-good n) refl
+rows-good n (suc i) h = both-true _ _ (return-good n i h) (rows-good n i (omega arith))
+
+closed : (n : ℕ) → allClosed (returnRows n) (suc (suc n)) ≡ true
+unfolding opened
+closed n = rw (le-ltb n n (omega arith))
+
+returns-good : (n : ℕ) → suc (suc n) ≤ statements → wellFormed (returnsOf n) ≡ true
+unfolding wellFormed countsGood all allBelow allClosed
+returns-good n h =
+    both-true _ _ (both-true _ _ (le-leb (suc (suc n)) statements h) refl)
+    (both-true _ _ (closed n) (both-true _ _ (both-true _ _ (end-good n) (rows-good n n (omega arith))) refl))
 
 pub record AtLimits : Type 0 where
   -- "parameters and arguments 8"
@@ -97,10 +262,10 @@ pub record AtLimits : Type 0 where
   -- "labels 256"
   pub labels-256 : wellFormed (labelsOf 256) ≡ true
   pub labels-257 : wellFormed (labelsOf 257) ≡ false
-  -- "statements 1,024", of the counts alone: the tests of so many rows take too long
-  pub statements-1024 : countsGood (at32 (zerosOf 1024)) ≡ true
-  pub statements-1025 : countsGood (at32 (zerosOf 1025)) ≡ false
+  -- "statements 1,024"
+  pub statements-1024 : wellFormed (returnsOf 1022) ≡ true
+  pub statements-1025 : wellFormed (returnsOf 1023) ≡ false
 
 pub at-limits : AtLimits
-unfolding ifLt ifEq ifTrue sameList words firstOf isSpelled isNumber entryNamed entryOf numberOf leastOperands statementIn standsIn enters leaves groundOf isFrame all some allOf someOf allBelow someBelow countBelow greatestBelow firstFrom operandOf operandKind operandNumber hasExpression isTest isOperator isCall expressionUses usedBy operandAt slots rowFrom rowAt labelAt isData isFunctionLabel behind openBefore groundIn funcIn scopeIn upIn isListed mayStand followsJump stands allClosed isArm isEndIf nextArm endIfOf pastArm targetOf hasTarget depthOf encloses isIn letsBefore blockNeed needOf frameSize firstLet blockWord letWord letSeen isParameter seenAt inScope localsAt expressionListed addressListed shallow aimed labelled jumps calls forwardCalls hasOperands shaped operandGood operandsGood addressGood setsLocal framed fewLocals rowTests names nameGood nameNew labelTests countsGood wellFormed lets nested
-at-limits = record { parameters-8 = refl; parameters-9 = refl; blocks-16 = refl; blocks-17 = refl; locals-64 = refl; locals-65 = refl; data-32768 = refl; data-32769 = refl; labels-256 = refl; labels-257 = refl; statements-1024 = refl; statements-1025 = refl }
+unfolding opened lets nested
+at-limits = record { parameters-8 = refl; parameters-9 = refl; blocks-16 = refl; blocks-17 = refl; locals-64 = refl; locals-65 = refl; data-32768 = refl; data-32769 = refl; labels-256 = refl; labels-257 = refl; statements-1024 = returns-good 1022 (omega arith); statements-1025 = refl }

@@ -9,6 +9,7 @@ pub mod Sound
 pub mod Words
 pub mod Whole
 pub mod Unbroken
+pub mod Opened
 pub mod Strong
 pub mod AtLimits
 pub mod Samples

@@ -5,21 +5,14 @@ use mathlib.Core.Bool.{true, false}
 use mathlib.Core.List.{List, [], _∷_, _++_}
 use Prim.Native.Nat.{ℕ, _+_, _*_}
 use lib.ListN.{set, replicate}
-use Rattle.base_prelude.specs.Choice.{ifLt, ifEq, ifTrue}
-use Rattle.base_prelude.specs.Lists.{sameList}
 use Rattle.base_limits.specs.declared.Width.the-variants.{Bits32}
-use Rattle.lang_kinds.specs.Nesting.{statementIn, standsIn, enters, leaves, groundOf, isFrame}
-use Rattle.lang_words.specs.Words.{words, firstOf, isSpelled, isNumber, entryNamed, entryOf, numberOf, leastOperands}
 use Rattle.prog_tables.specs.Layout.{statementRow, labelRow}
-use Rattle.prog_tables.specs.Tests.{all, some, allOf, someOf, allBelow, someBelow, countBelow, greatestBelow, firstFrom}
-use Rattle.prog_tables.specs.Statement.{operandOf, operandKind, operandNumber, hasExpression, isTest, isOperator, isCall, expressionUses, usedBy, operandAt, slots, rowFrom, rowAt, slotWords, encode}
-use Rattle.prog_tables.specs.Label.{Tables, labelAt, isData, isFunctionLabel}
+use Rattle.prog_tables.specs.Label.{Tables}
 use Rattle.prog_tables.specs.Program.{Program, programFrom}
-use Rattle.prog_tables.specs.Nesting.{behind, openBefore, groundIn, funcIn, scopeIn, upIn, isListed, mayStand, followsJump, stands, allClosed, isArm, isEndIf, nextArm, endIfOf, pastArm, targetOf, hasTarget, depthOf, encloses}
-use Rattle.prog_tables.specs.Frames.{isIn, letsBefore, blockNeed, needOf, frameSize, firstLet, blockWord, letWord, letSeen, isParameter, seenAt, inScope, localsAt}
-use Rattle.prog_tables.specs.Faults.{expressionListed, inFunction, sizeAt, operandFault, addressListed, kindFault, targetFault, calleeFault, sizeFault, ownWord, hasWord, wordFault, operandsFault, addressFault, rowFault, labelFault, countFault, tablesFault}
-use Rattle.prog_tables.specs.WellFormed.{shallow, aimed, labelled, jumps, calls, forwardCalls, hasOperands, shaped, operandGood, operandsGood, addressGood, setsLocal, framed, fewLocals, rowTests, names, nameGood, nameNew, labelTests, countsGood, wellFormed}
-use Rattle.prog_tables.specs.Canonical.{usesWord, unusedZero, labelUnusedZero, zeroFrom, canonical}
+use Rattle.prog_tables.specs.Faults.{tablesFault}
+use Rattle.prog_tables.specs.WellFormed.{wellFormed}
+use Rattle.prog_tables.specs.Canonical.{canonical}
+use Rattle.prog_tables.proofs.Opened.{opened}
 
 -- 01, case 1
 abbrev pub page-rows : List ℕ
@@ -292,7 +285,7 @@ pub record Strong : Type 0 where
   pub unused : canonical (statement arms 8 5 9) ≡ false
 
 pub strong : Strong
-unfolding ifLt ifEq ifTrue sameList words firstOf isSpelled isNumber entryNamed entryOf numberOf leastOperands statementIn standsIn enters leaves groundOf isFrame all some allOf someOf allBelow someBelow countBelow greatestBelow firstFrom operandOf operandKind operandNumber hasExpression isTest isOperator isCall expressionUses usedBy operandAt slots rowFrom rowAt slotWords encode labelAt isData isFunctionLabel behind openBefore groundIn funcIn scopeIn upIn isListed mayStand followsJump stands allClosed isArm isEndIf nextArm endIfOf pastArm targetOf hasTarget depthOf encloses isIn letsBefore blockNeed needOf frameSize firstLet blockWord letWord letSeen isParameter seenAt inScope localsAt expressionListed inFunction sizeAt operandFault addressListed kindFault targetFault calleeFault sizeFault ownWord hasWord wordFault operandsFault addressFault rowFault labelFault countFault tablesFault shallow aimed labelled jumps calls forwardCalls hasOperands shaped operandGood operandsGood addressGood setsLocal framed fewLocals rowTests names nameGood nameNew labelTests countsGood wellFormed usesWord unusedZero labelUnusedZero zeroFrom canonical
+unfolding opened
 strong = record { page-good = refl; page-canonical = refl; page-sound = refl; arms-good = refl; arms-canonical = refl; arms-sound = refl; frames-good = refl; frames-canonical = refl; frames-sound = refl; kind = refl; func = refl; scope = refl; up = refl; cut = refl; let-in-if = refl; jump-test = refl; false-test = refl; false-else = refl; else-past = refl; jump = refl; goto-place = refl; goto-scope = refl; callee = refl; callee-label = refl; arguments = refl; operands = refl; operand-kind = refl; expression = refl; own-word = refl; header = refl; later-let = refl; address = refl; address-slot = refl; let-word = refl; base = refl; end-base = refl; own-lets = refl; before = refl; size = refl; size-small = refl; label-kind = refl; label-function = refl; label-place = refl; label-jump = refl; label-test = refl; label-address = refl; label-empty = refl; label-long = refl; label-reserved = refl; label-twice = refl; fault-word = refl; fault-header = refl; fault-address = refl; fault-address-end = refl; fault-block = refl; fault-size = refl; fault-target = refl; fault-else = refl; fault-goto = refl; fault-callee = refl; fault-arguments = refl; fault-kind = refl; fault-unused = refl; fault-label = refl; fault-label-end = refl; fault-place = refl; fault-name = refl; fault-count = refl; unused = refl }
 
 -- exports, and calls to a function that stands behind them
@@ -309,5 +302,5 @@ pub record Forward : Type 0 where
   pub behind : wellFormed (at32 (statement (label (label forward 1 0 4) 2 0 4) 1 7 0)) ≡ true
 
 pub forward-calls : Forward
-unfolding ifLt ifEq ifTrue sameList words firstOf isSpelled isNumber entryNamed entryOf numberOf leastOperands statementIn standsIn enters leaves groundOf isFrame all some allOf someOf allBelow someBelow countBelow greatestBelow firstFrom operandOf operandKind operandNumber hasExpression isTest isOperator isCall expressionUses usedBy operandAt slots rowFrom rowAt slotWords encode labelAt isData isFunctionLabel behind openBefore groundIn funcIn scopeIn upIn isListed mayStand followsJump stands allClosed isArm isEndIf nextArm endIfOf pastArm targetOf hasTarget depthOf encloses isIn letsBefore blockNeed needOf frameSize firstLet blockWord letWord letSeen isParameter seenAt inScope localsAt expressionListed inFunction sizeAt operandFault addressListed kindFault targetFault calleeFault sizeFault ownWord hasWord wordFault operandsFault addressFault rowFault labelFault countFault tablesFault shallow aimed labelled jumps calls forwardCalls hasOperands shaped operandGood operandsGood addressGood setsLocal framed fewLocals rowTests names nameGood nameNew labelTests countsGood wellFormed usesWord unusedZero labelUnusedZero zeroFrom canonical
+unfolding opened
 forward-calls = record { good = refl; one = refl; exported = refl; sound = refl; behind = refl }

@@ -101,8 +101,8 @@ operandAt t i = operandOf (getD t i 0) (getD t (i + 1) 0)
 -- the eight operand slots, of two words each, of the row whose first word is at a place
 unfoldable pub slots : List ℕ → ℕ → List Operand
 slots t at =
-    operandAt t (at + row.operands) ∷ operandAt t (at + row.second) ∷ operandAt t (at + row.third) ∷ operandAt t (at + 17) ∷ operandAt t (at + 19) ∷ operandAt t (at + 21)
-    ∷ operandAt t (at + 23) ∷ operandAt t (at + 25) ∷ []
+    operandAt t (at + row.operands) ∷ operandAt t (at + row.second) ∷ operandAt t (at + row.third) ∷ operandAt t (at + row.fourth) ∷ operandAt t (at + row.fifth) ∷ operandAt t (at + row.sixth)
+    ∷ operandAt t (at + row.seventh) ∷ operandAt t (at + row.eighth) ∷ []
 
 -- the row whose first word is at a place; words past the end are 0
 unfoldable pub rowFrom : List ℕ → ℕ → Row

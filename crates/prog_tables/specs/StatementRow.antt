@@ -50,6 +50,21 @@ second = 13
 abbrev pub third : ℕ
 third = 15
 
+abbrev pub fourth : ℕ
+fourth = 17
+
+abbrev pub fifth : ℕ
+fifth = 19
+
+abbrev pub sixth : ℕ
+sixth = 21
+
+abbrev pub seventh : ℕ
+seventh = 23
+
+abbrev pub eighth : ℕ
+eighth = 25
+
 -- in a skeleton row, in the place of the address: the statement's first token, and the token behind its line
 abbrev pub token : ℕ
 token = 9

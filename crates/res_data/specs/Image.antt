@@ -16,7 +16,7 @@ use Rattle.parse_lines.specs.Tokens.{tokenWord, valueAt}
 use Rattle.parse_lines.specs.Units.{unitAt}
 use Rattle.parse_lines.specs.Lines.{lineKind}
 use Rattle.parse_lines.specs.declared.Span.{Span}
-use Rattle.res_data.specs.Sizes.{nextAt, firstCursor}
+use Rattle.res_data.specs.Sizes.{nextAt, firstCursor, pastTokens}
 use Rattle.res_data.specs.declared.Cursor.{Cursor}
 use Rattle.res_data.specs.declared.Next.{Next}
 use Rattle.res_data.specs.declared.Next.the-variants.{On, Full, Over}
@@ -54,7 +54,7 @@ putUnit w s t m =
     (lineBytes w s t (unitAt t (m .cursor .at)) (lineKind t (unitAt t (m .cursor .at) .word)))
 
 unfoldable pub layStep : Width → List ℕ → List ℕ → Laying → Step Laying (List ℕ)
-layStep w s t m = laid (nextAt w t 4098 (m .cursor)) (putUnit w s t m) (m .image)
+layStep w s t m = laid (nextAt w t pastTokens (m .cursor)) (putUnit w s t m) (m .image)
 
 -- unit after unit
 unfoldable pub layFrom : Width → List ℕ → List ℕ → Laying → List ℕ

@@ -6,6 +6,7 @@ use lib.ListN.{length}
 use Rattle.base_prelude.specs.Choice.{ifLt, ifEq}
 use Rattle.base_prelude.specs.Fault.{none}
 use Rattle.base_prelude.specs.Walk.{Step, go, stop, walk}
+use Rattle.base_limits.specs.Limits as limits
 use Rattle.base_limits.specs.Width.{bytesOf, dataLimit}
 use Rattle.base_limits.specs.declared.Width.{Width}
 use Rattle.lang_kinds.specs.Kinds as kind
@@ -81,9 +82,13 @@ measureFrom w t end s = walk (measureStep w t end) (Length 0) (suc (length t)) s
 unfoldable pub measureOf : Width → List ℕ → ℕ → Measured
 measureOf w t end = measureFrom w t end firstCursor
 
--- all lines: no token has the number 4,098
+-- no token has this number
+abbrev pub pastTokens : ℕ
+pastTokens = limits.tokens + 2
+
+-- all lines
 abbrev pub lengthOf : Width → List ℕ → Measured
-lengthOf w t = measureOf w t 4098
+lengthOf w t = measureOf w t pastTokens
 
 -- 0 where data is too big
 unfoldable pub lengthIn : Measured → ℕ

@@ -3,7 +3,7 @@
 use mathlib.Core.Path.{_≡_, refl, sym, _∙_}
 use mathlib.Core.Bool.{Bool, true, false}
 use mathlib.Core.List.{List}
-use Prim.Native.Nat.{ℕ, _≤_, _<_}
+use Prim.Native.Nat.{ℕ, suc, _≤_, _<_}
 use native.Mathlib.Decide.{decLt}
 use native.Mathlib.Omega.{arith}
 use lib.Dec.{T, ltb}
@@ -11,41 +11,47 @@ use borrow.Author.Tests.{le-ltb}
 use Rattle.base_prelude.specs.Choice.{ifLt, ifEq}
 use Rattle.base_prelude.specs.Lists.{isAmong}
 use Rattle.base_prelude.proofs.Choice.{ifLt-no, ifEq-no}
+use Rattle.lang_kinds.specs.Kinds as kind
 use Rattle.base_prelude.proofs.Table.{under, under-at, agree, agree-is, low, among-past}
 use Rattle.res_exports.specs.Exports.{definitions, isDefinition, searchEnds, endsSearch}
 
+-- past every kind of line
+abbrev pastKinds : ℕ
+pastKinds = suc kind.unknown
+
+-- a test that agrees with a list below a bound, and past it is false, says what the list says
+test-by : (p : ℕ → Bool) (xs : List ℕ) → T (under (λ k. agree (isAmong k xs) (p k)) pastKinds) → T (low pastKinds xs) → ((k : ℕ) → pastKinds ≤ k → p k ≡ false)
+    → (k : ℕ) → p k ≡ isAmong k xs
+test-by p xs t l f k =
+    elim (decLt k pastKinds) [
+      | yes h ↦ sym (agree-is (isAmong k xs) (p k) (under-at (λ i. agree (isAmong i xs) (p i)) pastKinds k t h))
+      | no h ↦ f k (omega arith) ∙ sym (among-past pastKinds k xs l (omega arith))
+    ]
+
+-- one kind, or those from a to before b: past the bound there is none
+range-past : (i a b k : ℕ) → i < pastKinds → a ≤ pastKinds → b ≤ pastKinds → pastKinds ≤ k → ifEq k i true (ifLt k a false (ltb k b)) ≡ false
+range-past i a b k hi ha hb h = ifEq-no _ _ (λ q. omega arith) ∙ ifLt-no _ _ (omega arith) ∙ le-ltb k b (omega arith)
+
 abbrev pub definitionRange : ℕ → Bool
-definitionRange k = ifEq k 1 true (ifLt k 29 false (ltb k 33))
+definitionRange k = ifEq k kind.function true (ifLt k kind.byte false (ltb k kind.endGroup))
 
-definitionsAgree : ℕ → Bool
-definitionsAgree k = agree (isAmong k definitions) (definitionRange k)
-
-definitions-agree : T (under definitionsAgree 36)
-unfolding definitionsAgree isAmong ifEq ifLt
+definitions-agree : T (under (λ k. agree (isAmong k definitions) (definitionRange k)) pastKinds)
+unfolding isAmong ifEq ifLt
 definitions-agree = tt
 
 pub definition-by : (k : ℕ) (b : Bool) → b ≡ definitionRange k → b ≡ isDefinition k
-unfolding isDefinition definitionsAgree
+unfolding isDefinition
 definition-by k b e =
-    elim (decLt k 36) [
-      | yes l ↦ e ∙ sym (agree-is (isAmong k definitions) (definitionRange k) (under-at definitionsAgree 36 k definitions-agree l))
-      | no l ↦ e ∙ ifEq-no _ _ (λ q. omega arith) ∙ ifLt-no _ _ (omega arith) ∙ le-ltb k 33 (omega arith) ∙ sym (among-past 36 k definitions tt (omega arith))
-    ]
+    e ∙ test-by definitionRange definitions definitions-agree tt (λ i h. range-past kind.function kind.byte kind.endGroup i (omega arith) (omega arith) (omega arith) h) k
 
 abbrev pub endRange : ℕ → Bool
-endRange k = ifEq k 0 true (ifLt k 25 false (ltb k 27))
+endRange k = ifEq k kind.edge true (ifLt k kind.sectionData false (ltb k kind.export))
 
-endsAgree : ℕ → Bool
-endsAgree k = agree (isAmong k searchEnds) (endRange k)
-
-ends-agree : T (under endsAgree 36)
-unfolding endsAgree isAmong ifEq ifLt
+ends-agree : T (under (λ k. agree (isAmong k searchEnds) (endRange k)) pastKinds)
+unfolding isAmong ifEq ifLt
 ends-agree = tt
 
 pub ends-by : (k : ℕ) (b : Bool) → b ≡ endRange k → b ≡ endsSearch k
-unfolding endsSearch endsAgree
+unfolding endsSearch
 ends-by k b e =
-    elim (decLt k 36) [
-      | yes l ↦ e ∙ sym (agree-is (isAmong k searchEnds) (endRange k) (under-at endsAgree 36 k ends-agree l))
-      | no l ↦ e ∙ ifEq-no _ _ (λ q. omega arith) ∙ ifLt-no _ _ (omega arith) ∙ le-ltb k 27 (omega arith) ∙ sym (among-past 36 k searchEnds tt (omega arith))
-    ]
+    e ∙ test-by endRange searchEnds ends-agree tt (λ i h. range-past kind.edge kind.sectionData kind.export i (omega arith) (omega arith) (omega arith) h) k

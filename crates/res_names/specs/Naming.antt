@@ -17,7 +17,7 @@ use Rattle.prog_tables.specs.Tests.{firstFrom}
 use Rattle.prog_tables.specs.Statement.{Row, rowAt}
 use Rattle.res_scope.specs.Lines.{firstToken, endToken, labelToken, labelKind, labelStatement}
 use Rattle.res_scope.specs.Names.{letHere, parameterOf, labelOf, meaningOf}
-use Rattle.res_scope.specs.Parts.{partsOf}
+use Rattle.res_scope.specs.Parts.{noCallee, partsOf}
 use Rattle.res_scope.specs.declared.Meaning.{Meaning}
 use Rattle.res_scope.specs.declared.Meaning.the-variants.{Let, Parameter, Label, Unknown}
 use Rattle.res_scope.specs.declared.Parts.{Parts}
@@ -127,10 +127,10 @@ unfoldable pub operandsPart : ℕ → (ℕ → ℕ → Bool) → List ℕ → �
 operandsPart zero same t n k y l r i x = x
 operandsPart (suc left) same t n k y l r i x = operandsPart left same t n k y l r (i + 1) (valuePart same t n k y l r i x)
 
--- the function that is called; token 0 for none
+-- the function that is called
 unfoldable pub calleePart : (ℕ → ℕ → Bool) → List ℕ → ℕ → List ℕ → List ℕ → ℕ → ℕ → ℕ → ℕ → Naming → Naming
 calleePart same t n k y l r i count x =
-    ifEq i 0 x (judged i (calleeFault t n k y i count (meaningOf same k y l r i)) (meaningOf same k y l r i) x)
+    ifEq i noCallee x (judged i (calleeFault t n k y i count (meaningOf same k y l r i)) (meaningOf same k y l r i) x)
 
 unfoldable pub setPart : (ℕ → ℕ → Bool) → List ℕ → ℕ → List ℕ → List ℕ → ℕ → ℕ → ℕ → Naming → Naming
 setPart same t n k y l r i x = judged i (setFault t n i (meaningOf same k y l r i)) (meaningOf same k y l r i) x

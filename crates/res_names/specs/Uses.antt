@@ -12,7 +12,7 @@ use Rattle.parse_lines.specs.Tokens.{kindAt}
 use Rattle.prog_tables.specs.Statement.{rowAt}
 use Rattle.res_scope.specs.Lines.{firstToken, endToken}
 use Rattle.res_scope.specs.Names.{meaningOf}
-use Rattle.res_scope.specs.Parts.{partsOf}
+use Rattle.res_scope.specs.Parts.{noCallee, partsOf}
 use Rattle.res_scope.specs.declared.Meaning.{Meaning}
 use Rattle.res_scope.specs.declared.Meaning.the-variants.{Let, Parameter, Label, Unknown}
 use Rattle.res_scope.specs.declared.Parts.{Parts}
@@ -28,9 +28,9 @@ unfoldable pub operandNames : ℕ → List ℕ → ℕ → List ℕ
 operandNames zero t i = []
 operandNames (suc left) t i = operandName t i ++ operandNames left t (i + 1)
 
--- the function that is called; token 0 for none
+-- the function that is called
 unfoldable pub calleeNames : ℕ → List ℕ
-calleeNames i = ifEq i 0 [] (i ∷ [])
+calleeNames i = ifEq i noCallee [] (i ∷ [])
 
 -- the name behind the magic word: of `set`, of `set @`, of `goto`
 unfoldable pub headNames : List ℕ → ℕ → ℕ → List ℕ

@@ -16,7 +16,7 @@ use Rattle.prog_tables.specs.declared.Operand.{Operand}
 use Rattle.prog_tables.specs.declared.Operand.the-variants.{Constant, Local, Address, AtConstant, AtLocal, AtAddress, Unlisted}
 use Rattle.res_scope.specs.Lines.{firstToken, endToken}
 use Rattle.res_scope.specs.Names.{meaningOf}
-use Rattle.res_scope.specs.Parts.{partsOf}
+use Rattle.res_scope.specs.Parts.{noCallee, partsOf}
 use Rattle.res_scope.specs.declared.Meaning.{Meaning}
 use Rattle.res_scope.specs.declared.Meaning.the-variants.{Let, Parameter, Label, Unknown}
 use Rattle.res_scope.specs.declared.Parts.{Parts}
@@ -121,7 +121,7 @@ bOf k c r sort = ifEq sort kind.function (rowAt k r .b) (ifEq sort kind.block (l
 unfoldable pub calleeOf : (ℕ → ℕ → Bool) → List ℕ → List ℕ → ℕ → List ℕ → ℕ → ℕ → ℕ → ℕ
 calleeOf same k y l z r sort i =
     ifEq sort kind.block (localsAt (rowAt k) r % 4294967296)
-    (ifEq i 0 0 (labelTarget z (meaningOf same k y l r i)))
+    (ifEq i noCallee 0 (labelTarget z (meaningOf same k y l r i)))
 
 -- the operand behind the `@` of `set @`
 unfoldable pub addressOf : (ℕ → ℕ → Bool) → List ℕ → List ℕ → List ℕ → ℕ → List ℕ → List ℕ → ℕ → ℕ → ℕ → Operand

@@ -2,39 +2,31 @@
 -- Assumes nothing.
 use Prim.Native.Nat.{ℕ}
 use Rattle.parse_verdict.proofs.Opened as parsing
+use Rattle.prog_tables.proofs.Opened as tables
 use Rattle.base_word.specs.Bytes as m1
 use Rattle.base_word.specs.Word as m2
-use Rattle.prog_tables.specs.Canonical as m3
-use Rattle.prog_tables.specs.Faults as m4
-use Rattle.prog_tables.specs.Frames as m5
-use Rattle.prog_tables.specs.Label as m6
-use Rattle.prog_tables.specs.Layout as m7
-use Rattle.prog_tables.specs.Nesting as m8
-use Rattle.prog_tables.specs.Statement as m9
-use Rattle.prog_tables.specs.Tests as m10
-use Rattle.prog_tables.specs.WellFormed as m11
-use Rattle.res_skeleton.specs.Skeleton as m12
-use Rattle.res_frame_words.specs.Framing as m13
-use Rattle.res_scope.specs.Lines as m14
-use Rattle.res_scope.specs.Names as m15
-use Rattle.res_scope.specs.Parts as m16
-use Rattle.res_text.specs.Same as m17
-use Rattle.res_names.specs.Naming as m18
-use Rattle.res_exports.specs.Exports as m19
-use Rattle.res_data.specs.Image as m20
-use Rattle.res_data.specs.Sizes as m21
-use Rattle.res_labels.specs.Labelling as m22
-use Rattle.res_rows.specs.Rows as m23
-use Rattle.res_tokens.specs.TokenTable as m24
-use Rattle.check_judge.specs.Judge as m25
-use Rattle.check_fill.specs.Fill as m26
-use Rattle.check_source.specs.Check as m27
-use Rattle.thm_acceptance.specs.Accepts as m28
-use Rattle.thm_acceptance.specs.Faults as m29
-use Rattle.res_names.specs.Uses as m30
-use Rattle.thm_acceptance.specs.Lines as m31
-use Rattle.thm_acceptance.specs.LineRules as m32
+use Rattle.res_skeleton.specs.Skeleton as m3
+use Rattle.res_frame_words.specs.Framing as m4
+use Rattle.res_scope.specs.Lines as m5
+use Rattle.res_scope.specs.Names as m6
+use Rattle.res_scope.specs.Parts as m7
+use Rattle.res_text.specs.Same as m8
+use Rattle.res_names.specs.Naming as m9
+use Rattle.res_exports.specs.Exports as m10
+use Rattle.res_data.specs.Image as m11
+use Rattle.res_data.specs.Sizes as m12
+use Rattle.res_labels.specs.Labelling as m13
+use Rattle.res_rows.specs.Rows as m14
+use Rattle.res_tokens.specs.TokenTable as m15
+use Rattle.check_judge.specs.Judge as m16
+use Rattle.check_fill.specs.Fill as m17
+use Rattle.check_source.specs.Check as m18
+use Rattle.thm_acceptance.specs.Accepts as m19
+use Rattle.thm_acceptance.specs.Faults as m20
+use Rattle.res_names.specs.Uses as m21
+use Rattle.thm_acceptance.specs.Lines as m22
+use Rattle.thm_acceptance.specs.LineRules as m23
 
 unfoldable pub opened : ℕ
-unfolding parsing.opened m1.wordBytes m2.addOf m2.subOf m2.mulOf m2.divOf m2.modOf m2.shlOf m2.bsrOf m2.asrOf m2.rolOf m2.rorOf m2.andOf m2.orOf m2.xorOf m2.notOf m2.ltOf m2.gtOf m2.geOf m2.leOf m2.eqOf m2.neOf m3.usesWord m3.unusedZero m3.labelUnusedZero m3.zeroFrom m3.canonical m4.expressionListed m4.inFunction m4.sizeAt m4.operandFault m4.addressListed m4.kindFault m4.targetFault m4.calleeFault m4.sizeFault m4.ownWord m4.hasWord m4.wordFault m4.operandsFault m4.addressFault m4.rowFault m4.labelFault m4.countFault m4.tablesFault m5.isIn m5.letsBefore m5.blockNeed m5.needOf m5.frameSize m5.firstLet m5.blockWord m5.letWord m5.letSeen m5.isParameter m5.seenAt m5.inScope m5.localsAt m6.labelAt m6.isData m6.isFunctionLabel m7.sizesOf m7.numbersOf m8.behind m8.openBefore m8.groundIn m8.funcIn m8.scopeIn m8.upIn m8.isListed m8.mayStand m8.followsJump m8.stands m8.allClosed m8.isArm m8.isEndIf m8.nextArm m8.endIfOf m8.pastArm m8.targetOf m8.hasTarget m8.depthOf m8.encloses m9.operandOf m9.operandKind m9.operandNumber m9.hasExpression m9.isTest m9.isOperator m9.isCall m9.expressionUses m9.usedBy m9.operandAt m9.slots m9.rowFrom m9.rowAt m9.slotWords m9.encode m10.all m10.some m10.allOf m10.someOf m10.allBelow m10.someBelow m10.countBelow m10.greatestBelow m10.firstFrom m11.shallow m11.aimed m11.labelled m11.jumps m11.calls m11.forwardCalls m11.hasOperands m11.shaped m11.operandGood m11.operandsGood m11.addressGood m11.setsLocal m11.framed m11.fewLocals m11.rowTests m11.names m11.nameGood m11.nameNew m11.labelTests m11.countsGood m11.wellFormed m12.parametersOf m12.bare m12.statementOf m12.putRow m12.rowsIn m12.skeletonOf m12.tokenOf m12.nextOf m13.frameValue m13.wordOf m13.wordsIn m13.wordsOf m14.firstToken m14.endToken m14.labelToken m14.labelKind m14.labelStatement m15.hasName m15.sameNumber m15.lastFrom m15.letNamed m15.letHere m15.letOf m15.parameterOf m15.labelOf m15.labelMeaning m15.outerMeaning m15.meaningOf m16.symbolParts m16.expressionParts m16.returnParts m16.listsOperands m16.plainParts m16.partsOf m17.nameOf m17.sameText m18.dataFault m18.valueFault m18.setFault m18.functionFault m18.calleeFault m18.placeFault m18.gotoFault m18.parameterTaken m18.localTaken m18.letFault m18.parameterFault m18.labelFault m18.markUse m18.useOf m18.judged m18.valuePart m18.operandsPart m18.calleePart m18.setPart m18.gotoPart m18.parametersFault m18.declaredFault m18.headPart m18.bodyPart m18.statementPart m18.statementsPart m18.labelsFault m18.namesOf m19.isDefinition m19.endsSearch m19.seekOn m19.seekStep m19.definitionFrom m19.carriesLabel m19.carriedBy m19.useFault m19.missingFault m19.exportFault m19.flagged m19.judgedBy m19.exportPart m19.exportOn m19.exportStep m19.exportsFrom m19.exportsOf m19.carriedIn m19.exportedFrom m19.isExported m20.lineBytes m20.putBytes m20.putUnit m20.layStep m20.layFrom m20.imageOf m21.alignOf m21.fillOf m21.alignSize m21.sizeOf m21.cursorBehind m21.addLine m21.nextOf m21.nextAt m21.measureStep m21.measureFrom m21.measureOf m21.lengthIn m21.addressOf m21.bigIn m21.bigRule m22.outlineWord m22.flagAt m22.exportedKind m22.finalKind m22.finalNumber m22.labelWords m22.putWords m22.labelsFrom m22.labelTable m22.labelName m22.putName m22.namesFrom m22.nameTable m23.labelNumber m23.wordOfLet m23.wordOfParameter m23.localWord m23.labelTarget m23.plainOperand m23.atOperand m23.constantOperand m23.tokenOperand m23.addressConstant m23.addressOperand m23.operandsFrom m23.slotOperand m23.aOf m23.bOf m23.calleeOf m23.addressOf m23.rowWith m23.rowOf m23.headOf m23.putWords m23.putRow m23.rowsBelow m23.statementTable m24.copied m24.statementMarked m24.statementsMarked m24.tokenTable m25.sizeGroup m25.namesWith m25.namesJudged m25.faultGroup m25.nameGroup m25.outlineGroup m25.lineGroup m25.tokenGroup m25.judgeOf m26.zeroed m26.labelsIn m26.fillOf m27.refuse m27.accept m27.hasRoom m27.answerTo m27.checkOf m28.tokensIn m28.tokensOf m28.statementsIn m28.labelsIn m28.longRule m28.namesIn m28.nameFaults m28.roomRule m28.laterGroups m28.groupsOf m28.judge m28.countsIn m28.countsOf m29.labelFaults m29.operandFault m29.operandFaults m29.calleeFaults m29.parameterFaults m29.declaredFaults m29.headFaults m29.bodyFaults m29.statementFaults m29.statementsFaults m29.allNameFaults m29.lineFaults m29.exportFaultsFrom m29.exportFaults m30.operandName m30.operandNames m30.calleeNames m30.headNames m30.bodyNames m30.usesIn m30.isLabel m30.orElse m30.firstAmong m30.firstUseFrom m30.firstUse m31.lineFrom m31.linesFrom m31.linesOf m31.statementKinds m31.statementsBefore m31.labelsAmong m31.labelCount m31.labelsBefore m31.outer m31.withLocal m31.closedBy m31.openedBy m31.openedByAll m31.openBefore m31.localsIn m31.blocksIn m31.sectionBefore m31.groundAmong m31.groundBefore m32.isReserved
+unfolding parsing.opened tables.opened m1.wordBytes m2.addOf m2.subOf m2.mulOf m2.divOf m2.modOf m2.shlOf m2.bsrOf m2.asrOf m2.rolOf m2.rorOf m2.andOf m2.orOf m2.xorOf m2.notOf m2.ltOf m2.gtOf m2.geOf m2.leOf m2.eqOf m2.neOf m3.parametersOf m3.bare m3.statementOf m3.putRow m3.rowsIn m3.skeletonOf m3.tokenOf m3.nextOf m4.frameValue m4.wordOf m4.wordsIn m4.wordsOf m5.firstToken m5.endToken m5.labelToken m5.labelKind m5.labelStatement m6.hasName m6.sameNumber m6.lastFrom m6.letNamed m6.letHere m6.letOf m6.parameterOf m6.labelOf m6.labelMeaning m6.outerMeaning m6.meaningOf m7.symbolParts m7.expressionParts m7.returnParts m7.listsOperands m7.plainParts m7.partsOf m8.nameOf m8.sameText m9.dataFault m9.valueFault m9.setFault m9.functionFault m9.calleeFault m9.placeFault m9.gotoFault m9.parameterTaken m9.localTaken m9.letFault m9.parameterFault m9.labelFault m9.markUse m9.useOf m9.judged m9.valuePart m9.operandsPart m9.calleePart m9.setPart m9.gotoPart m9.parametersFault m9.declaredFault m9.headPart m9.bodyPart m9.statementPart m9.statementsPart m9.labelsFault m9.namesOf m10.isDefinition m10.endsSearch m10.seekOn m10.seekStep m10.definitionFrom m10.carriesLabel m10.carriedBy m10.useFault m10.missingFault m10.exportFault m10.flagged m10.judgedBy m10.exportPart m10.exportOn m10.exportStep m10.exportsFrom m10.exportsOf m10.carriedIn m10.exportedFrom m10.isExported m11.lineBytes m11.putBytes m11.putUnit m11.layStep m11.layFrom m11.imageOf m12.alignOf m12.fillOf m12.alignSize m12.sizeOf m12.cursorBehind m12.addLine m12.nextOf m12.nextAt m12.measureStep m12.measureFrom m12.measureOf m12.lengthIn m12.addressOf m12.bigIn m12.bigRule m13.outlineWord m13.flagAt m13.exportedKind m13.finalKind m13.finalNumber m13.labelWords m13.putWords m13.labelsFrom m13.labelTable m13.labelName m13.putName m13.namesFrom m13.nameTable m14.labelNumber m14.wordOfLet m14.wordOfParameter m14.localWord m14.labelTarget m14.plainOperand m14.atOperand m14.constantOperand m14.tokenOperand m14.addressConstant m14.addressOperand m14.operandsFrom m14.slotOperand m14.aOf m14.bOf m14.calleeOf m14.addressOf m14.rowWith m14.rowOf m14.headOf m14.putWords m14.putRow m14.rowsBelow m14.statementTable m15.copied m15.statementMarked m15.statementsMarked m15.tokenTable m16.sizeGroup m16.namesWith m16.namesJudged m16.faultGroup m16.nameGroup m16.outlineGroup m16.lineGroup m16.tokenGroup m16.judgeOf m17.zeroed m17.labelsIn m17.fillOf m18.refuse m18.accept m18.hasRoom m18.answerTo m18.checkOf m19.tokensIn m19.tokensOf m19.statementsIn m19.labelsIn m19.longRule m19.namesIn m19.nameFaults m19.roomRule m19.laterGroups m19.groupsOf m19.judge m19.countsIn m19.countsOf m20.labelFaults m20.operandFault m20.operandFaults m20.calleeFaults m20.parameterFaults m20.declaredFaults m20.headFaults m20.bodyFaults m20.statementFaults m20.statementsFaults m20.allNameFaults m20.lineFaults m20.exportFaultsFrom m20.exportFaults m21.operandName m21.operandNames m21.calleeNames m21.headNames m21.bodyNames m21.usesIn m21.isLabel m21.orElse m21.firstAmong m21.firstUseFrom m21.firstUse m22.lineFrom m22.linesFrom m22.linesOf m22.statementKinds m22.statementsBefore m22.labelsAmong m22.labelCount m22.labelsBefore m22.outer m22.withLocal m22.closedBy m22.openedBy m22.openedByAll m22.openBefore m22.localsIn m22.blocksIn m22.sectionBefore m22.groundAmong m22.groundBefore m23.isReserved
 opened = 0

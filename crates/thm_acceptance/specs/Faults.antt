@@ -15,7 +15,7 @@ use Rattle.parse_lines.specs.declared.Span.{Span}
 use Rattle.prog_tables.specs.Statement.{Row, rowAt}
 use Rattle.res_scope.specs.Lines.{firstToken, endToken}
 use Rattle.res_scope.specs.Names.{meaningOf}
-use Rattle.res_scope.specs.Parts.{partsOf}
+use Rattle.res_scope.specs.Parts.{noCallee, partsOf}
 use Rattle.res_scope.specs.declared.Parts.{Parts}
 use Rattle.res_names.specs.Naming.{valueFault, setFault, calleeFault, gotoFault, letFault, parameterFault, labelFault}
 use Rattle.res_exports.specs.Exports.{definitionFrom, carriedBy, exportFault}
@@ -40,9 +40,9 @@ unfoldable pub operandFaults : ℕ → (ℕ → ℕ → Bool) → List ℕ → �
 operandFaults zero same t n k y l r i = []
 operandFaults (suc left) same t n k y l r i = operandFault same t n k y l r i ++ operandFaults left same t n k y l r (i + 1)
 
--- the function that is called; token 0 for none
+-- the function that is called
 unfoldable pub calleeFaults : (ℕ → ℕ → Bool) → List ℕ → ℕ → List ℕ → List ℕ → ℕ → ℕ → ℕ → ℕ → List ℕ
-calleeFaults same t n k y l r i count = ifEq i 0 [] (calleeFault t n k y i count (meaningOf same k y l r i) ∷ [])
+calleeFaults same t n k y l r i count = ifEq i noCallee [] (calleeFault t n k y i count (meaningOf same k y l r i) ∷ [])
 
 -- so many parameters from token q on
 unfoldable pub parameterFaults : ℕ → (ℕ → ℕ → Bool) → List ℕ → ℕ → List ℕ → ℕ → ℕ → List ℕ

@@ -4,6 +4,7 @@ use mathlib.Core.Path.{_≡_}
 use Prim.Native.Nat.{ℕ, _+_, _≤_}
 use mathlib.Core.List.{List}
 use Rattle.base_prelude.specs.Fault.{none}
+use Rattle.base_limits.specs.Limits as limits
 use Rattle.base_limits.specs.declared.Width.{Width}
 use Rattle.lang_kinds.specs.Kinds as kind
 use Rattle.lang_kinds.specs.Nesting.{rowsOf, kindOfWord}
@@ -19,7 +20,7 @@ pub record Line (w : Width) (t : List ℕ) (n : ℕ) (u : Span) (k : ℕ) : Type
   pub at : ℕ
   pub unit : u ≡ unitAt t at
   pub kind : k ≡ lineKind t (u .word)
-  pub near : u .next ≤ 4097
+  pub near : u .next ≤ limits.tokens + 1
   pub shape : none ≤ shapeRule w t n u k
   pub tokens : none ≤ tokensRule t n u k
   pub list : none ≤ listRule t n u k

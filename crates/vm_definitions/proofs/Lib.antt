@@ -2,6 +2,7 @@ pub mod Opened
 pub mod Seen
 pub mod Answers
 pub mod Refused
+pub mod Named
 pub mod Invariant
 pub mod Chain
 pub mod Guard

@@ -170,25 +170,9 @@ module _ (w : Width) (m : List ℕ) (l top x y : ℕ) where
   unfolding stopIn firstOf
   word-agrees v = refl
 
-  asr-agrees : stopIn (answered top (word.asrOf (bitsOf w) x y)) ≡ firstOf w (length m) l (shiftsBy y ∷ [])
-  unfolding causeOf word.asrOf
-  asr-agrees = shift-cause top _ _ ∙ sym (first-one w (length m) l (shiftsBy y))
-
-  bsr-agrees : stopIn (answered top (word.bsrOf (bitsOf w) x y)) ≡ firstOf w (length m) l (shiftsBy y ∷ [])
-  unfolding causeOf word.bsrOf
-  bsr-agrees = shift-cause top _ _ ∙ sym (first-one w (length m) l (shiftsBy y))
-
-  rol-agrees : stopIn (answered top (word.rolOf (bitsOf w) x y)) ≡ firstOf w (length m) l (shiftsBy y ∷ [])
-  unfolding causeOf word.rolOf
-  rol-agrees = shift-cause top _ _ ∙ sym (first-one w (length m) l (shiftsBy y))
-
-  ror-agrees : stopIn (answered top (word.rorOf (bitsOf w) x y)) ≡ firstOf w (length m) l (shiftsBy y ∷ [])
-  unfolding causeOf word.rorOf
-  ror-agrees = shift-cause top _ _ ∙ sym (first-one w (length m) l (shiftsBy y))
-
-  shl-agrees : stopIn (answered top (word.shlOf (bitsOf w) x y)) ≡ firstOf w (length m) l (shiftsBy y ∷ [])
-  unfolding causeOf word.shlOf
-  shl-agrees = shift-cause top _ _ ∙ sym (first-one w (length m) l (shiftsBy y))
+  shift-agrees : (v : ℕ) → stopIn (answered top (word.shiftAnswer (bitsOf w) y v)) ≡ firstOf w (length m) l (shiftsBy y ∷ [])
+  unfolding causeOf
+  shift-agrees v = shift-cause top _ _ ∙ sym (first-one w (length m) l (shiftsBy y))
 
   reserve-agrees : (n : ℕ) → stopIn (reserved w (length m) top n) ≡ firstOf w (length m) l (reservesTo (roundUp w top + n) ∷ [])
   unfolding ifLt causeOf reserved
@@ -211,20 +195,20 @@ module _ (w : Width) (m : List ℕ) (l top x y : ℕ) where
   fetch-agrees = fetched-cause top _ _ ∙ sym (first-one w (length m) l (wordAt (wordAddress w x y)))
 
   pub applied-cause : (e : ℕ) → stopIn (applied w m top e x y) ≡ firstOf w (length m) l (operatorMeets w top e x y)
-  unfolding applied operatorMeets operators Every Agrees
+  unfolding applied operatorMeets operators Every Agrees word.asrOf word.bsrOf word.rolOf word.rorOf word.shlOf
   applied-cause e =
       each-operator Agrees e (
         word-agrees _,
         (
           word-agrees _,
           (
-            asr-agrees,
+            shift-agrees _,
             (
               reserve-agrees x,
               (
                 reserve-agrees (bytesOf w * x),
                 (
-                  bsr-agrees,
+                  shift-agrees _,
                   (
                     div-agrees,
                     (
@@ -240,13 +224,13 @@ module _ (w : Width) (m : List ℕ) (l top x y : ℕ) where
                               (
                                 word-agrees _,
                                 (
-                                  rol-agrees,
+                                  shift-agrees _,
                                   (
-                                    ror-agrees,
+                                    shift-agrees _,
                                     (
-                                      shl-agrees,
+                                      shift-agrees _,
                                       (
-                                        bsr-agrees,
+                                        shift-agrees _,
                                         (
                                           word-agrees _,
                                           (

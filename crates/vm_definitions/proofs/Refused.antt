@@ -1,8 +1,10 @@
 -- What 35 is given for in a step, beside broken rows, and its place: for each cause of 01 a record on which it computes.
 -- Assumes nothing.
 use mathlib.Core.Path.{_≡_, refl}
-use Prim.Native.Nat.{ℕ}
-use mathlib.Core.List.{List, [], _∷_}
+use Prim.Native.Nat.{ℕ, suc, _-_}
+use mathlib.Core.List.{List, [], _∷_, _++_}
+use lib.ListN.{length, replicate}
+use Rattle.base_limits.specs.Limits.{stackWords}
 use Rattle.base_limits.specs.declared.Width.the-variants.{Bits32}
 use Rattle.base_limits.specs.declared.State.the-variants.{Running}
 use Rattle.prog_tables.specs.Label.{Tables}
@@ -40,6 +42,10 @@ judged next frame used top st m =
 abbrev first : ℕ → ℕ → List ℕ
 first top saved = 4294967295 ∷ 4294967295 ∷ top ∷ saved ∷ 0 ∷ []
 
+-- the first frame in a stack of n words
+abbrev wide : ℕ → List ℕ
+wide n = first 0 0 ++ replicate (n - length (first 0 0)) 0
+
 -- behind it one frame of g, and two
 abbrev second : ℕ → ℕ → ℕ → List ℕ
 second place below top = 4294967295 ∷ 4294967295 ∷ 0 ∷ 0 ∷ 0 ∷ place ∷ below ∷ top ∷ []
@@ -75,6 +81,11 @@ auto-tops = refl
 memory-limit : (judged 3 0 5 0 (first 0 0) 65536 ∷ judged 3 0 5 0 (first 0 0) 65537 ∷ []) ≡ (No ∷ Somewhere ∷ [])
 unfolding opened
 memory-limit = refl
+
+-- "a [..] stack over the limits"
+stack-limit : (judged 3 0 5 0 (wide stackWords) 8 ∷ judged 3 0 5 0 (wide (suc stackWords)) 8 ∷ []) ≡ (No ∷ Somewhere ∷ [])
+unfolding opened
+stack-limit = refl
 
 -- "in the frame in use and each a return leaves, the first's two marks aside, a place to return to that is no call or a caller's frame
 -- that doesn't end where this one starts": one mark alone, a tail call, the caller's frame, the frame behind

@@ -10,6 +10,7 @@ use Rattle.base_word.specs.Word.{stopOf, addOf, subOf, mulOf, divOf, modOf, and
 use Rattle.base_word.specs.declared.Answer.{Answer}
 use Rattle.base_word.specs.declared.Answer.the-variants.{Word, Division, Shift}
 use Rattle.lang_words.specs.Numbers as op
+use Rattle.prog_tables.specs.Layout.{noExpression}
 use Rattle.vm_definitions.specs.Access.{byteAddress, wordAddress, byteGood}
 use Rattle.vm_definitions.specs.Operands.{fetchOf}
 use Rattle.vm_definitions.specs.declared.Read.{Read}
@@ -108,7 +109,7 @@ operators =
 
 -- no operator: a row whose expression has such a number is 35 before this (`expressionListed`); it gives 0 and meets nothing
 abbrev pub noOperator : Operator
-noOperator = operator 0 (gives (λ b x y. 0)) meetsNothing
+noOperator = operator noExpression (gives (λ b x y. 0)) meetsNothing
 
 -- the line with a number
 unfoldable pub lineIn : ℕ → List Operator → Operator

@@ -213,8 +213,9 @@ module _ (p : Program) (x : World) where
 
   -- ---- the statement
 
-  unfoldable pub effectOf : Effect
-  effectOf =
+  -- the row's effect by its kind; `other` for a kind that is not named
+  abbrev pub effectElse : Effect → Effect
+  effectElse other =
       -- "A call in any form": `call`, and `let`, `set`, `set @` and `return` with one
       ifTrue (isCalling rowOf) callOf
       -- `end function`, and `return` without a call: "A return hands its value there in the same step"
@@ -244,8 +245,15 @@ module _ (p : Program) (x : World) where
       -- "Reaching `else` goes to `end if`"; an `else if..` line begins with "a jump to `end if`"
       (ifEq (rowOf .kind) kind.else (goesTo (rowOf .a))
       (ifEq (rowOf .kind) kind.elseIf (goesTo (rowOf .a))
-      -- no statement: a `function` row and a kind that is not listed are 35 before this (`stepBroken`)
-      (goesTo (rowOf .a))))))))))))))))
+      -- a `function` row and a kind that is not listed are 35 before this (`stepBroken`)
+      other))))))))))))))
+
+  -- no step takes it: `no-other` (proofs/Named)
+  abbrev pub noStatement : Effect
+  noStatement = goesTo (rowOf .a)
+
+  unfoldable pub effectOf : Effect
+  effectOf = effectElse noStatement
 
 -- ---- a step
 

@@ -1,20 +1,17 @@
 use Rattle.base_prelude.proofs.Choice.{tests}
 use Rattle.lang_kinds.specs.Nesting.{standsIn}
 use Rattle.lang_kinds.proofs.Cases.{stands-statement, stands-refused}
-use native.Mathlib.Omega.{arith}
-use mathlib.Core.Path.{_≡_, refl, sym, _∙_, ap, subst}
-use Rattle.base_prelude.proofs.Choice.{tests}
-use Rattle.lang_kinds.specs.Nesting.{standsIn}
-use Rattle.lang_kinds.proofs.Cases.{stands-statement, stands-refused}
-use native.Mathlib.Omega.{arith}
-use mathlib.Core.Path.{_≡_, refl, sym, _∙_, ap, subst}
 use borrow.Author.Needs.{needs}
 use Rattle.lang_kinds.proofs.stands_in.Statement.{statement}
 use Rattle.lang_kinds.proofs.stands_in.Tie as tie
 use Rattle.lang_kinds.proofs.stands_in.Reads as reads
 use Rattle.lang_kinds.proofs.stands_in.Lts as lts
-use Rattle.lang_kinds.proofs.statement_range.Reads as statement-range-reads
+use Rattle.lang_kinds.proofs.between.Reads as between-reads
 use Rattle.lang_kinds.proofs.refused_range.Reads as refused-range-reads
+use Rattle.lang_kinds.proofs.statement_range.Reads as statement-range-reads
+
+between-requires : tie.Need-between-requires
+between-requires c κs = search needs
 
 returns : tie.Need-returns
 unfolding standsIn
@@ -28,30 +25,48 @@ returns-2 : tie.Need-returns-2
 returns-2 c =
     search stands-statement
 
+between-requires-2 : tie.Need-between-requires-2
+between-requires-2 c κs = search needs
+
 returns-3 : tie.Need-returns-3
 unfolding standsIn
 returns-3 c =
     search tests depth 16
+
+between-requires-3 : tie.Need-between-requires-3
+between-requires-3 c κs = search needs
 
 returns-4 : tie.Need-returns-4
 unfolding standsIn
 returns-4 c =
     search tests depth 16
 
+between-requires-4 : tie.Need-between-requires-4
+between-requires-4 c κs = search needs
+
 returns-5 : tie.Need-returns-5
 unfolding standsIn
 returns-5 c =
     search tests depth 16
+
+between-requires-5 : tie.Need-between-requires-5
+between-requires-5 c κs = search needs
 
 returns-6 : tie.Need-returns-6
 unfolding standsIn
 returns-6 c =
     search tests depth 16
 
+between-requires-6 : tie.Need-between-requires-6
+between-requires-6 c κs = search needs
+
 returns-7 : tie.Need-returns-7
 unfolding standsIn
 returns-7 c =
     search tests depth 16
+
+between-requires-7 : tie.Need-between-requires-7
+between-requires-7 c κs = search needs
 
 returns-8 : tie.Need-returns-8
 unfolding standsIn
@@ -69,14 +84,21 @@ pub stands-in-spec : {M : Type 1} → statement M
 stands-in-spec =
     tie.close
     (tie.spec
+    between-requires
     returns
     statement-range-requires
     returns-2
+    between-requires-2
     returns-3
+    between-requires-3
     returns-4
+    between-requires-4
     returns-5
+    between-requires-5
     returns-6
+    between-requires-6
     returns-7
+    between-requires-7
     returns-8
     refused-range-requires
     returns-9)
