@@ -20,7 +20,7 @@ use Rattle.prog_tables.specs.Label.{Tables, labelAt}
 use Rattle.prog_tables.specs.Program.{Program, programFrom}
 use Rattle.prog_tables.specs.Nesting.{stands, allClosed, hasTarget}
 use Rattle.prog_tables.specs.Frames.{isIn, letsBefore, blockNeed, needOf, frameDepth, frameSize}
-use Rattle.prog_tables.specs.WellFormed.{shallow, aimed, jumps, calls, shaped, operandGood, operandsGood, addressGood, setsLocal, framed, fewLocals, rowTests, countsGood, rowGood, wellFormed}
+use Rattle.prog_tables.specs.WellFormed.{shallow, aimed, jumps, calls, forwardCalls, shaped, operandGood, operandsGood, addressGood, setsLocal, framed, fewLocals, rowTests, countsGood, rowGood, wellFormed}
 use Rattle.prog_tables.specs.declared.Operand.the-variants.{Unlisted}
 use Rattle.prog_tables.proofs.Each.{both-true, all-at}
 use Rattle.prog_tables.proofs.Opened.{opened}
@@ -152,6 +152,10 @@ unless : (p q : Bool) → not p ≡ true → given p q ≡ true
 unless true q h = true-false (sym h)
 unless false q h = refl
 
+unless-first : (p r q : Bool) → not p ≡ true → given (both p r) q ≡ true
+unless-first true r q h = true-false (sym h)
+unless-first false r q h = refl
+
 -- what is asked of a row alone, where nothing but its place and its frame depends on other rows
 abbrev quiet : Row → List Bool
 quiet r =
@@ -168,7 +172,7 @@ quiet r =
 
 quiet-good : (p : Program) (n : ℕ) → all (quiet (p .rows n)) ≡ true → p .rows n .operands ≡ [] → stands (p .rows) n ≡ true
     → framed (p .rows) (p .count) n ≡ true → rowGood p n ≡ true
-unfolding rowTests all shallow aimed jumps calls shaped operandsGood addressGood setsLocal fewLocals allOf
+unfolding rowTests all shallow aimed jumps calls forwardCalls shaped operandsGood addressGood setsLocal fewLocals allOf
 quiet-good p n q o h w =
     both-true _ _ h
     (both-true _ _ (unless (eqb (p .rows n .kind) kind.block) _ (test 0 (omega arith)))
@@ -179,7 +183,9 @@ quiet-good p n q o h w =
     (both-true _ _ (ap (allOf (operandGood p n)) o)
     (both-true _ _ (unless (eqb (p .rows n .kind) kind.setAt) _ (test 5 (omega arith)))
     (both-true _ _ (unless (eqb (p .rows n .kind) kind.set) _ (test 6 (omega arith)))
-    (both-true _ _ w (both-true _ _ (both-true _ _ (test 7 (omega arith)) (unless (eqb (p .rows n .kind) kind.letLocal) _ (test 8 (omega arith)))) refl))))))))))
+    (both-true _ _ w
+    (both-true _ _ (both-true _ _ (test 7 (omega arith)) (unless (eqb (p .rows n .kind) kind.letLocal) _ (test 8 (omega arith))))
+    (both-true _ _ (unless-first (isCall (p .rows n .kind) (p .rows n .expr)) _ _ (test 3 (omega arith))) refl)))))))))))
   where
     test : (k : ℕ) → k < length (quiet (p .rows n)) → getD (quiet (p .rows n)) k true ≡ true
     test k = all-at (quiet (p .rows n)) k q
