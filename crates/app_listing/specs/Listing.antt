@@ -2,7 +2,7 @@
 -- Assumes nothing.
 use Prim.Native.Nat.{ℕ, _%_}
 use mathlib.Core.List.{List}
-use Rattle.base_limits.specs.Limits.{tokenWords, dataBytes}
+use Rattle.base_limits.specs.Limits.{tokenWords, dataBytes, wordValues}
 use Rattle.base_limits.specs.declared.Width.the-variants.{Bits32}
 use Rattle.prog_tables.specs.Layout.{statementWords, labelWords, nameTable}
 use Rattle.check_source.specs.Check.{Lent, lent, Filled, checkOf}
@@ -17,7 +17,7 @@ fullTables = lent tokenWords statementWords labelWords nameTable dataBytes
 -- the page of an answer; a place has 32 bits
 unfoldable pub pageBy : List ℕ → Checked → List ℕ → List ℕ → List ℕ → List ℕ
 pageBy s (Accepted tokens statements labels size) table names rows = acceptedPage statements labels size table names rows
-pageBy s (Refused number place) table names rows = refusedPage s number (place % 4294967296)
+pageBy s (Refused number place) table names rows = refusedPage s number (place % wordValues)
 
 unfoldable pub pageOf : List ℕ → Filled → List ℕ
 pageOf s x = pageBy s (x .answer) (x .labels) (x .names) (x .statements)

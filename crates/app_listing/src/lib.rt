@@ -22,7 +22,7 @@ fn page_of(x: Checked, s: &[u8], table: &[u32], names: &[u8], rows: &[u32], out:
             size,
         } => app_page::accepted_page(statements, labels, size, table, names, rows, out),
         Checked::Refused { number, place } => {
-            app_page::refused_page(s, number, (place % 4294967296) as u32, out)
+            app_page::refused_page(s, number, (place as u64 % Machine::WORD_VALUES) as u32, out)
         }
     }
 }

@@ -7,6 +7,7 @@ ghost use mathlib.Core.Path.{_≡_};
 ghost use mathlib.Core.List.{[], _∷_, _++_};
 ghost use Prim.Native.Nat.{_+_, _*_, _/_, _%_, _≤_, _<_};
 ghost use lib.ListN.{length, take, drop};
+ghost use Rattle.base_limits.specs.Limits.{wordValues};
 ghost use Rattle.prog_tables.specs.Label.{labelAt};
 ghost use Rattle.app_page.specs.Bytes.{digitsWithin, decimal, field, hexDigit, nameByte, nameBytesOf, newlines, label-word, refused-word, line-word, byte-word, line-end};
 ghost use Rattle.app_page.specs.Sheet.{sheet, put};
@@ -308,8 +309,8 @@ pub fn accepted_page(
 
 // How often byte 10 stands in a text.
 fn newlines_in(s: &[u8]) -> u64
-    requires { ⌜ length (now s) ≤ 4294967296 ⌝ }
-    ensures { λ r. ⌜ (r ≡ newlines (now (s .entry))) × (r ≤ 4294967296) ⌝ }
+    requires { ⌜ length (now s) ≤ wordValues ⌝ }
+    ensures { λ r. ⌜ (r ≡ newlines (now (s .entry))) × (r ≤ wordValues) ⌝ }
 {
     let mut lines: u64 = 0;
     let mut i: usize = 0;

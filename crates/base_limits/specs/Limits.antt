@@ -52,6 +52,10 @@ memoryBytes = 65536
 abbrev pub stackWords : ℕ
 stackWords = 16384
 
+-- "`align` takes 1 to 4,096"
+abbrev pub alignment : ℕ
+alignment = 4096
+
 -- how many numbers a word of 32 bits holds, and the greatest of them; words of tables have 32 bits at both widths
 abbrev pub wordValues : ℕ
 wordValues = 4294967296
@@ -92,6 +96,8 @@ limitsOf =
       «data_bytes» = dataBytes;
       «memory_bytes» = memoryBytes;
       «stack_words» = stackWords;
+      alignment = alignment;
+      «word_values» = wordValues;
       «token_row» = tokenRow;
       «token_words» = tokenWords;
       mark = greatestWord;

@@ -52,6 +52,11 @@ impl Machine {
 
     pub const STACK_WORDS: usize = 16384;
 
+    pub const ALIGNMENT: u32 = 4096;
+
+    // How many numbers a word of 32 bits holds.
+    pub const WORD_VALUES: u64 = 4294967296;
+
     pub const TOKEN_ROW: usize = 8;
 
     pub const TOKEN_WORDS: usize = 32768;
@@ -170,6 +175,8 @@ pub struct Limits {
     pub data_bytes: usize,
     pub memory_bytes: usize,
     pub stack_words: usize,
+    pub alignment: u32,
+    pub word_values: u64,
     pub token_row: usize,
     pub token_words: usize,
     pub mark: u32,
@@ -192,6 +199,8 @@ pub fn all_limits() -> Limits
         data_bytes: Machine::DATA_BYTES,
         memory_bytes: Machine::MEMORY_BYTES,
         stack_words: Machine::STACK_WORDS,
+        alignment: Machine::ALIGNMENT,
+        word_values: Machine::WORD_VALUES,
         token_row: Machine::TOKEN_ROW,
         token_words: Machine::TOKEN_WORDS,
         mark: Machine::MARK,

@@ -2,6 +2,7 @@
 -- Assumes nothing.
 use Prim.Native.Nat.{ℕ, _%_}
 use mathlib.Core.List.{List, [], _∷_}
+use Rattle.base_limits.specs.Limits.{wordValues}
 use Rattle.base_prelude.specs.Lists.{overlay}
 use Rattle.check_source.specs.Check.{Filled}
 use Rattle.check_source.specs.declared.Checked.{Checked}
@@ -15,7 +16,7 @@ answerNumber (Refused number place) = number
 -- number, place, tokens, statements, labels, bytes of data; 0 where the case has none. The words have 32 bits
 unfoldable pub resultWords : Checked → List ℕ
 resultWords (Accepted tokens statements labels size) = 0 ∷ 0 ∷ tokens ∷ statements ∷ labels ∷ size ∷ []
-resultWords (Refused number place) = number ∷ place % 4294967296 ∷ 0 ∷ 0 ∷ 0 ∷ 0 ∷ []
+resultWords (Refused number place) = number ∷ place % wordValues ∷ 0 ∷ 0 ∷ 0 ∷ 0 ∷ []
 
 -- the number given back, and what the buffers then hold
 pub record Told : Type 0 where

@@ -27,7 +27,7 @@ fn put_answer(x: Checked, out: &mut [u32]) -> u32
         Checked::Refused { number, place } => c_words::put_six(
             out,
             number,
-            (place % 4294967296) as u32,
+            (place as u64 % Machine::WORD_VALUES) as u32,
             0,
             0,
             0,

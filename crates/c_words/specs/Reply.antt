@@ -6,6 +6,7 @@ use mathlib.Core.Bool.{Bool, true, false}
 use mathlib.Core.List.{List, [], _∷_}
 use lib.Dec.{eqb}
 use lib.ListN.{getD}
+use Rattle.base_limits.specs.Limits.{wordValues}
 use Rattle.base_prelude.specs.Choice.{ifEq, ifTrue}
 use Rattle.base_prelude.specs.Lists.{overlay}
 use Rattle.base_limits.specs.declared.State.{State}
@@ -75,7 +76,7 @@ outcomeNumber o = brokenNumber (o .broken) (o .machine .state)
 
 unfoldable pub outcomeWords : Outcome → List ℕ
 outcomeWords o =
-    outcomeNumber o ∷ brokenPlace (o .broken) (o .machine .state) ∷ o .count % 4294967296 ∷ o .count / 4294967296
+    outcomeNumber o ∷ brokenPlace (o .broken) (o .machine .state) ∷ o .count % wordValues ∷ o .count / wordValues
     ∷ finishedFlag (o .machine .state) ∷ finishedWord (o .machine .state) ∷ []
 
 -- the call changed the record, whose state's number was s: a step was counted, or a running record has stopped

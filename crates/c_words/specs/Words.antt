@@ -1,6 +1,7 @@
 -- The words of the record that a host lends, and the numbers in them. Words 7 to 15 are not used.
 -- Assumes nothing.
 use Prim.Native.Nat.{ℕ}
+use Rattle.base_limits.specs.Limits.{greatestWord}
 use Rattle.c_words.specs.declared.Numbers.{Numbers}
 
 abbrev pub state : ℕ
@@ -48,7 +49,7 @@ stopped = 3
 -- ---- no place
 
 abbrev pub nowhere : ℕ
-nowhere = 4294967295
+nowhere = greatestWord
 
 -- all of them, as `all_numbers` gives them
 unfoldable pub numbersOf : Numbers

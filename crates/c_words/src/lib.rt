@@ -8,6 +8,7 @@ use vm_definitions::Started;
 ghost use mathlib.Core.Path.{_≡_};
 ghost use mathlib.Core.List.{[], _∷_};
 ghost use Prim.Native.Nat.{_≤_, _/_, _%_};
+ghost use Rattle.base_limits.specs.Limits.{wordValues};
 ghost use Rattle.base_prelude.specs.Lists.{overlay};
 ghost use Rattle.c_words.specs.Placed.{placed, threeAt};
 ghost use lib.ListN.{length, getD};
@@ -53,7 +54,7 @@ impl StateNumber {
 pub struct Place {}
 
 impl Place {
-    pub const NONE: u32 = 4294967295;
+    pub const NONE: u32 = Machine::MARK;
 }
 
 // The numbers of this crate.
@@ -319,16 +320,16 @@ fn finished_word(s: State) -> u32
 
 // The lower half of a count.
 fn low_half(n: u64) -> u32
-    ensures { λ r. ⌜ r ≡ n % 4294967296 ⌝ }
+    ensures { λ r. ⌜ r ≡ n % wordValues ⌝ }
 {
-    (n % 4294967296) as u32
+    (n % Machine::WORD_VALUES) as u32
 }
 
 // The upper half of a count.
 fn high_half(n: u64) -> u32
-    ensures { λ r. ⌜ r ≡ n / 4294967296 ⌝ }
+    ensures { λ r. ⌜ r ≡ n / wordValues ⌝ }
 {
-    (n / 4294967296) as u32
+    (n / Machine::WORD_VALUES) as u32
 }
 
 // Writes what a step or a run came to in six words, and gives its number.

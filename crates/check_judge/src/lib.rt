@@ -120,7 +120,7 @@ pub fn judge(
     match lex_source::lex(w, s, t) {
         Lexed::Tokens(n) => judge_tokens(
             w,
-            (s.len() % 4294967296) as u32,
+            (s.len() as u64 % Machine::WORD_VALUES) as u32,
             t,
             n as u32,
             k,

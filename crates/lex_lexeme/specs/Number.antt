@@ -5,6 +5,7 @@ use Prim.Native.Nat.{ℕ, zero, suc, _+_, _-_, _*_, _%_, _^_, min}
 use mathlib.Core.Bool.{Bool}
 use mathlib.Core.List.{List, [], _∷_}
 use lib.ListN.{length}
+use Rattle.base_limits.specs.Limits.{wordValues}
 use Rattle.base_prelude.specs.Choice.{ifLt, ifTrue}
 use Rattle.base_prelude.specs.Bytes.{byteAt}
 use Rattle.base_limits.specs.Width.{bitsOf}
@@ -64,7 +65,7 @@ integerOf w negative v =
 -- what the code keeps of digits: how many, their value where it is below 2 ^ 32, the place behind them
 unfoldable pub decimalFrom : ℕ → ℕ → Digits → Decimal
 decimalFrom count value d =
-    record { count = count + length (d .digits); value = min (valueFrom value (d .digits)) 4294967296; next = d .next }
+    record { count = count + length (d .digits); value = min (valueFrom value (d .digits)) wordValues; next = d .next }
 
 unfoldable pub decimalOf : Digits → Decimal
 decimalOf d = decimalFrom 0 0 d

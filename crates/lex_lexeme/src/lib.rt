@@ -1,10 +1,12 @@
 // Tokens as they are read: gaps, integers, symbols, strings, and the marks `%` and `@`.
+use base_limits::Machine;
 use base_limits::Width;
 use lang_kinds::Token;
 use lex_spelling::Ending;
 ghost use mathlib.Core.Path.{_≡_};
 ghost use Prim.Native.Nat.{_+_, _*_, _≤_, _<_, _-_, _^_, min};
 ghost use lib.ListN.{length};
+ghost use Rattle.base_limits.specs.Limits.{wordValues};
 ghost use Rattle.base_limits.specs.Width.{bitsOf};
 ghost use Rattle.lex_lexeme.specs.Number.{digitFrom, digitAt, digitsAt, decimalOf, halfOf, wholeOf, integerOf};
 ghost use Rattle.lex_lexeme.specs.Gap.{commentEnd, gapSkip, gapEnd};
@@ -77,10 +79,10 @@ fn read_digit(s: &[u8], at: usize) -> Digit
 
 // One digit more, at most 2^32.
 fn push(value: u64, digit: u32) -> u64
-    requires { ⌜ value ≤ 4294967296 ⌝ }
-    ensures { λ r. ⌜ r ≡ min (value * 10 + digit) 4294967296 ⌝ }
+    requires { ⌜ value ≤ wordValues ⌝ }
+    ensures { λ r. ⌜ r ≡ min (value * 10 + digit) wordValues ⌝ }
 {
-    base_prelude::least(value * 10 + digit as u64, 4294967296)
+    base_prelude::least(value * 10 + digit as u64, Machine::WORD_VALUES)
 }
 
 fn read_digits(s: &[u8], at: usize) -> Decimal
@@ -120,7 +122,7 @@ fn whole_of(w: Width) -> u64
     ensures { λ r. ⌜ r ≡ wholeOf w ⌝ }
 {
     match w {
-        Width::Bits32 => 4294967296,
+        Width::Bits32 => Machine::WORD_VALUES,
         Width::Bits16 => 65536,
     }
 }

@@ -5,7 +5,7 @@ use mathlib.Core.Bool.{true}
 use mathlib.Core.List.{List}
 use Prim.Native.Nat.{ℕ, _+_, _*_, _≤_, _<_}
 use lib.ListN.{length}
-use Rattle.base_limits.specs.Limits.{tokens, nameBytes, tokenRow}
+use Rattle.base_limits.specs.Limits.{tokens, nameBytes, tokenRow, wordValues}
 use Rattle.lex_spelling.specs.Text.{nameAt}
 use Rattle.lex_lexeme.specs.declared.Lexeme.{Lexeme}
 use Rattle.lex_lexeme.specs.declared.Reading.{Reading}
@@ -15,9 +15,9 @@ use Rattle.lex_lexeme.specs.Reading.{isNamed}
 pub record LexemeFits (s t : List ℕ) (n : ℕ) (x : Lexeme) : Type 0 where
   pub room : n * tokenRow + tokenRow ≤ length t
   pub few : n < tokens
-  pub first : x .first < 4294967296
-  pub next : x .next < 4294967296
-  pub size : x .size < 4294967296
+  pub first : x .first < wordValues
+  pub next : x .next < wordValues
+  pub size : x .size < wordValues
   pub named : isNamed (x .kind) ≡ true → (x .size ≡ length (nameAt s (x .start))) × (x .size ≤ nameBytes)
 
 abbrev pub ReadingFits : List ℕ → List ℕ → ℕ → Reading → Type 0

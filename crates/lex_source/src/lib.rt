@@ -71,7 +71,7 @@ fn substitute_value(w: Width, k: u32) -> u32
 }
 
 fn value_of(w: Width, kind: u32, value: u32, size: usize, word: u32) -> u32
-    requires { ⌜ size < 4294967296 ⌝ }
+    requires { ⌜ size < limits.wordValues ⌝ }
     ensures { λ r. ⌜ r ≡ tokenValue w kind value size word ⌝ }
 {
     if is_substitute(kind) {

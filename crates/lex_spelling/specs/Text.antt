@@ -4,6 +4,7 @@ use Prim.Native.Nat.{ℕ, zero, suc, _+_, _*_, _%_}
 use mathlib.Core.Bool.{Bool, true, false}
 use mathlib.Core.List.{List, [], _∷_}
 use lib.ListN.{length}
+use Rattle.base_limits.specs.Limits.{wordValues}
 use Rattle.base_prelude.specs.Choice.{ifLt, ifEq, ifTrue}
 use Rattle.base_prelude.specs.Bytes.{byteAt}
 use Rattle.lex_spelling.specs.Classes.{isNameByte}
@@ -72,7 +73,7 @@ stringAt s at = spelledAt true s at .bytes
 
 -- a hash of bytes, modulo 2 ^ 32
 unfoldable pub mix : ℕ → ℕ → ℕ
-mix h v = (h * 16777619 + v) % 4294967296
+mix h v = (h * 16777619 + v) % wordValues
 
 unfoldable pub hashFrom : ℕ → List ℕ → ℕ
 hashFrom h [] = h

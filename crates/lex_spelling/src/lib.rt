@@ -1,4 +1,5 @@
 // Characters and texts: continuations, escapes, and the decoded bytes of symbols and strings.
+use base_limits::Machine;
 ghost use mathlib.Core.Path.{_≡_};
 ghost use Prim.Native.Nat.{_≤_, _<_};
 ghost use lib.ListN.{length};
@@ -319,7 +320,7 @@ pub fn read_character(quoted: bool, s: &[u8], at: usize) -> Character
 fn mixed(hash: u32, value: u32) -> u32
     ensures { λ r. ⌜ r ≡ mix hash value ⌝ }
 {
-    ((hash as u64 * 16777619 + value as u64) % 4294967296) as u32
+    ((hash as u64 * 16777619 + value as u64) % Machine::WORD_VALUES) as u32
 }
 
 // The text of a string (quoted) or a symbol from a place on, measured.

@@ -96,7 +96,7 @@ pub fn all_from(t: &[u32], lo: u32, hi: u32, i: u32, next: u32) -> bool
 }
 
 fn span_from(t: &[u32], first: u32, word: u32) -> Span
-    requires { ⌜ (length (now t) ≡ limits.tokenWords) × (word < 4294967295) ⌝ }
+    requires { ⌜ (length (now t) ≡ limits.tokenWords) × (word < limits.greatestWord) ⌝ }
     ensures { λ r. ⌜ r ≡ spanFrom (now (t .entry)) first word ⌝ }
 {
     Span {
@@ -244,7 +244,7 @@ fn other_kind(kind: u32, w: u32) -> u32
 
 // The kind of the line whose magic word is a token.
 pub fn line_kind(t: &[u32], i: u32) -> u32
-    requires { ⌜ i < 4294967295 ⌝ }
+    requires { ⌜ i < limits.greatestWord ⌝ }
     ensures { λ r. ⌜ r ≡ lineKind (now (t .entry)) i ⌝ }
 {
     let kind = kind_at(t, i);

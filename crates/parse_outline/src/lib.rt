@@ -90,7 +90,7 @@ fn put_label(x: &mut [u32], c: u32, token: u32, kind: u32, number: u32)
 }
 
 fn mark_token(t: &[u32], x: &mut [u32], i: u32, kind: u32, number: u32, c: u32) -> u32
-    requires { ⌜ (length (now x) ≡ labelWords) × (c < 4294967295) ⌝ }
+    requires { ⌜ (length (now x) ≡ labelWords) × (c < limits.greatestWord) ⌝ }
     ensures { λ r. ⌜ marked r (now (x .exit)) ≡ markToken (now (t .entry)) i kind number (marked c (now (x .entry))) ⌝ }
 {
     if parse_lines::kind_at(t, i) == Token::LABEL {

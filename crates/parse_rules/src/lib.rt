@@ -235,7 +235,7 @@ fn label_key(t: &[u32], n: u32, i: u32, c: u32) -> u64
 }
 
 fn label_step(t: &[u32], n: u32, i: u32, x: Labelled) -> Labelled
-    requires { ⌜ x .count < 4294967295 ⌝ }
+    requires { ⌜ x .count < limits.greatestWord ⌝ }
     ensures { λ r. ⌜ r ≡ labelStep (now (t .entry)) n i x ⌝ }
 {
     if parse_lines::kind_at(t, i) == Token::LABEL {

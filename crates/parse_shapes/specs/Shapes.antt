@@ -5,6 +5,7 @@ use Prim.Native.Nat.{ℕ, _+_, _-_, _^_}
 use mathlib.Core.Bool.{Bool, true, false}
 use mathlib.Core.List.{List, [], _∷_}
 use Rattle.base_prelude.specs.Choice.{ifLt, ifEq, ifTrue}
+use Rattle.base_limits.specs.Limits.{alignment}
 use Rattle.base_limits.specs.Width.{bitsOf}
 use Rattle.base_limits.specs.declared.Width.{Width}
 use Rattle.lang_kinds.specs.Kinds as kind
@@ -198,11 +199,8 @@ unfoldable pub byteFits : Width → ℕ → Bool
 byteFits w v = ifLt v 256 true (ifLt v (2 ^ bitsOf w - 128) false true)
 
 -- "`align` takes 1 to 4,096"
-abbrev pub pastAlign : ℕ
-pastAlign = 4097
-
 unfoldable pub alignFits : ℕ → Bool
-alignFits v = ifLt v 1 false (ifLt v pastAlign true false)
+alignFits v = ifLt v 1 false (ifLt alignment v false true)
 
 -- "Out of range here is refusal 7."
 unfoldable pub rangeFits : Width → List ℕ → Span → ℕ → Bool

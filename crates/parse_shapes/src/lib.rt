@@ -1,4 +1,5 @@
 // Shapes of lines: how many tokens stand behind the magic word, and of which kinds.
+use base_limits::Machine;
 use base_limits::Width;
 use lang_kinds::Kind;
 use lang_kinds::Token;
@@ -56,7 +57,7 @@ fn operands_from(t: &[u32], i: u32, next: u32) -> bool
 
 // A function's name, then its arguments.
 fn call_from(t: &[u32], i: u32, next: u32) -> bool
-    requires { ⌜ (length (now t) ≡ limits.tokenWords) × (i < 4294967295) ⌝ }
+    requires { ⌜ (length (now t) ≡ limits.tokenWords) × (i < limits.greatestWord) ⌝ }
     ensures { λ r. ⌜ r ≡ callFrom (now (t .entry)) i next ⌝ }
 {
     if is_name(t, i) {
@@ -89,7 +90,7 @@ fn tokens_between(i: u32, next: u32) -> u32
 }
 
 fn operator_from(t: &[u32], i: u32, next: u32) -> bool
-    requires { ⌜ (length (now t) ≡ limits.tokenWords) × (i < 4294967295) ⌝ }
+    requires { ⌜ (length (now t) ≡ limits.tokenWords) × (i < limits.greatestWord) ⌝ }
     ensures { λ r. ⌜ r ≡ operatorFrom (now (t .entry)) i next ⌝ }
 {
     if tokens_between(i + 1, next) == lang_words::least_operands(parse_lines::word_at(t, i)) {
@@ -99,7 +100,7 @@ fn operator_from(t: &[u32], i: u32, next: u32) -> bool
 }
 
 fn operand_at(t: &[u32], i: u32, next: u32) -> bool
-    requires { ⌜ (length (now t) ≡ limits.tokenWords) × (i < 4294967295) ⌝ }
+    requires { ⌜ (length (now t) ≡ limits.tokenWords) × (i < limits.greatestWord) ⌝ }
     ensures { λ r. ⌜ r ≡ operandAt (now (t .entry)) i next ⌝ }
 {
     if next == i + 1 {
@@ -157,14 +158,14 @@ pub fn is_listed(k: u32) -> bool
 
 // The tokens behind the magic word.
 pub fn operand_count(u: Span) -> u32
-    requires { ⌜ u .word < 4294967295 ⌝ }
+    requires { ⌜ u .word < limits.greatestWord ⌝ }
     ensures { λ r. ⌜ r ≡ operandCount u ⌝ }
 {
     tokens_between(u.word + 1, u.next)
 }
 
 fn count_fits(t: &[u32], u: Span, k: u32) -> bool
-    requires { ⌜ u .word < 4294967295 ⌝ }
+    requires { ⌜ u .word < limits.greatestWord ⌝ }
     ensures { λ r. ⌜ r ≡ countFits (now (t .entry)) u k ⌝ }
 {
     let n = operand_count(u);
@@ -341,19 +342,16 @@ fn byte_fits(w: Width, v: u32) -> bool
     true
 }
 
-// Above what `align` takes.
-const PAST_ALIGN: u32 = 4097;
-
 fn align_fits(v: u32) -> bool
     ensures { λ r. ⌜ r ≡ alignFits v ⌝ }
 {
     if v < 1 {
         return false;
     }
-    if v < PAST_ALIGN {
-        return true;
+    if Machine::ALIGNMENT < v {
+        return false;
     }
-    false
+    true
 }
 
 fn range_fits(w: Width, t: &[u32], u: Span, k: u32) -> bool

@@ -394,7 +394,7 @@ fn unit_fault(w: Width, t: &[u32], n: u32, u: Span, k: u32, g: u32, s: State) ->
 }
 
 fn put_state(s: State, n: u32, r: Row) -> State
-    requires { ⌜ n < 4294967295 ⌝ }
+    requires { ⌜ n < limits.greatestWord ⌝ }
     ensures { λ x. ⌜ x ≡ putState s n r ⌝ }
 {
     State {

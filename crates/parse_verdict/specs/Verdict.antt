@@ -4,6 +4,7 @@ use Prim.Native.Nat.{ℕ, zero, suc, _+_, _<_, _≤_}
 use mathlib.Core.Path.{_≡_}
 use mathlib.Core.List.{List, [], _∷_}
 use lib.ListN.{length}
+use Rattle.base_limits.specs.Limits.{wordValues}
 use Rattle.base_prelude.specs.Choice.{ifEq}
 use Rattle.base_prelude.specs.Fault.{none, leastOf}
 use Rattle.base_prelude.specs.Lists.{zeros}
@@ -61,4 +62,4 @@ keyOf (Refused k) = k
 pub record Rising (t : List ℕ) (n : ℕ) : Type 0 where
   pub rises : (i : ℕ) → token.newline ≤ kindAt t i → placeAt t n i < placeAt t n (i + 1)
   pub ends : (i : ℕ) → kindAt t i ≡ token.sourceEnd → kindAt t (i + 1) ≡ token.sourceEnd
-  pub low : (i : ℕ) → placeAt t n i < 4294967296
+  pub low : (i : ℕ) → placeAt t n i < wordValues

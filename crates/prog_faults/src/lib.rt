@@ -3,6 +3,7 @@ use base_limits::Machine;
 use lang_kinds::Kind;
 use prog_tables::ExpressionKind;
 use prog_tables::Operand;
+use prog_tables::Table;
 ghost use mathlib.Core.Path.{_≡_};
 ghost use mathlib.Core.List.{[], _∷_};
 ghost use Prim.Native.Nat.{_+_, _*_, _≤_, _<_, min};
@@ -216,7 +217,7 @@ fn size_fault(t: &[u32], c: u32, l: &[u32], lc: u32, d: u32, n: u32) -> bool
     if k == Kind::FUNCTION {
         let a = prog_tables::a_at(t, n);
         let p = prog_tables::parameters_at(t, n);
-        let least = 3 + p as u64;
+        let least = Table::FRAME_HEAD as u64 + p as u64;
         let size = a as u64;
         return size < least;
     }

@@ -36,7 +36,7 @@ pub enum Measured {
 }
 
 fn align_of(w: Width, t: &[u32], u: Span) -> u32
-    requires { ⌜ u .word < 4294967295 ⌝ }
+    requires { ⌜ u .word < limits.greatestWord ⌝ }
     ensures { λ r. ⌜ r ≡ alignOf w (now (t .entry)) u ⌝ }
 {
     if parse_shapes::operand_count(u) == 0 {
@@ -55,7 +55,7 @@ fn fill_of(n: u32, len: u32) -> u32
 }
 
 fn align_size(w: Width, t: &[u32], u: Span, section: u32, len: u32) -> u32
-    requires { ⌜ u .word < 4294967295 ⌝ }
+    requires { ⌜ u .word < limits.greatestWord ⌝ }
     ensures { λ r. ⌜ r ≡ alignSize w (now (t .entry)) u section len ⌝ }
 {
     if section < Ground::DATA_SECTION {
@@ -65,7 +65,7 @@ fn align_size(w: Width, t: &[u32], u: Span, section: u32, len: u32) -> u32
 }
 
 fn size_of(w: Width, t: &[u32], u: Span, k: u32, section: u32, len: u32) -> u32
-    requires { ⌜ u .word < 4294967295 ⌝ }
+    requires { ⌜ u .word < limits.greatestWord ⌝ }
     ensures { λ r. ⌜ r ≡ sizeOf w (now (t .entry)) u k section len ⌝ }
 {
     if k == Kind::BYTE {
@@ -94,7 +94,7 @@ fn room_behind(w: Width, size: u32) -> usize
 }
 
 fn cursor_behind(u: Span, k: u32, more: u32, s: Cursor) -> Cursor
-    requires { ⌜ s .size + more < 4294967296 ⌝ }
+    requires { ⌜ s .size + more < limits.wordValues ⌝ }
     ensures { λ r. ⌜ r ≡ cursorBehind u k more s ⌝ }
 {
     Cursor {
@@ -114,7 +114,7 @@ fn add_line(w: Width, u: Span, k: u32, more: u32, s: Cursor) -> Next
 }
 
 fn next_of(w: Width, t: &[u32], end: u32, u: Span, k: u32, s: Cursor) -> Next
-    requires { ⌜ u .word < 4294967295 ⌝ }
+    requires { ⌜ u .word < limits.greatestWord ⌝ }
     ensures { λ r. ⌜ r ≡ nextOf w (now (t .entry)) end u k s ⌝ }
 {
     if k == Kind::EDGE {
@@ -190,7 +190,7 @@ fn write_number(count: usize, value: u32, out: &mut [u8])
 }
 
 fn write_line(w: Width, s: &[u8], t: &[u32], u: Span, k: u32, out: &mut [u8])
-    requires { ⌜ u .word < 4294967295 ⌝ }
+    requires { ⌜ u .word < limits.greatestWord ⌝ }
     ensures { λ _. ⌜ now (out .exit) ≡ overlay (lineBytes w (now (s .entry)) (now (t .entry)) u k) (now (out .entry)) ⌝ }
 {
     if k == Kind::BYTE {
@@ -212,7 +212,7 @@ fn write_line(w: Width, s: &[u8], t: &[u32], u: Span, k: u32, out: &mut [u8])
 }
 
 fn put_line(w: Width, s: &[u8], t: &[u32], u: Span, k: u32, size: u32, out: &mut [u8])
-    requires { ⌜ u .word < 4294967295 ⌝ }
+    requires { ⌜ u .word < limits.greatestWord ⌝ }
     ensures { λ _. ⌜ now (out .exit) ≡ putBytes (now (out .entry)) size (lineBytes w (now (s .entry)) (now (t .entry)) u k) ⌝ }
 {
     let from = size as usize;

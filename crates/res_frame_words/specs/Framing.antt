@@ -23,7 +23,7 @@ frameValue f c n =
 
 -- table words have 32 bits
 unfoldable pub wordOf : (ℕ → Row) → ℕ → ℕ → ℕ
-wordOf f c n = frameValue f c n % 4294967296
+wordOf f c n = frameValue f c n % limits.wordValues
 
 -- the words of rows 0 to n - 1, in the table w
 unfoldable pub wordsIn : List ℕ → (ℕ → Row) → ℕ → ℕ → List ℕ

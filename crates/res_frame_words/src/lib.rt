@@ -49,7 +49,7 @@ fn word_of(k: &[u32], c: u32, n: u32) -> u32
     requires { ⌜ (c ≤ limits.statements) × (n < c) ⌝ }
     ensures { λ r. ⌜ r ≡ wordOf (rowAt (now (k .entry))) c n ⌝ }
 {
-    (value_of(k, c, n) % 4294967296) as u32
+    (value_of(k, c, n) % Machine::WORD_VALUES) as u32
 }
 
 fn put_words(k: &[u32], c: u32, out: &mut [u32])

@@ -4,6 +4,7 @@ use Prim.Native.Nat.{ℕ, zero, suc, _+_, _-_, _*_, _%_, min}
 use mathlib.Core.Bool.{Bool}
 use mathlib.Core.List.{List, [], _∷_, _++_}
 use lib.ListN.{length, getD, take, drop}
+use Rattle.base_limits.specs.Limits.{wordValues}
 use Rattle.base_prelude.specs.Choice.{ifLt, ifEq}
 use Rattle.lang_kinds.specs.Kinds as kind
 use Rattle.lang_kinds.specs.Tokens as token
@@ -36,7 +37,7 @@ wordOfLet w m = getD w m 0
 
 -- "3 on the parameters": the word of parameter j; table words have 32 bits
 unfoldable pub wordOfParameter : ℕ → ℕ
-wordOfParameter j = (frameHead + j) % 4294967296
+wordOfParameter j = (frameHead + j) % wordValues
 
 -- a local's word
 unfoldable pub localWord : List ℕ → Meaning → ℕ
@@ -120,7 +121,7 @@ bOf k c r sort = ifEq sort kind.function (rowAt k r .b) (ifEq sort kind.block (l
 -- of a block the locals in scope before it; else the function that token i names, 0 for no token
 unfoldable pub calleeOf : (ℕ → ℕ → Bool) → List ℕ → List ℕ → ℕ → List ℕ → ℕ → ℕ → ℕ → ℕ
 calleeOf same k y l z r sort i =
-    ifEq sort kind.block (localsAt (rowAt k) r % 4294967296)
+    ifEq sort kind.block (localsAt (rowAt k) r % wordValues)
     (ifEq i noCallee 0 (labelTarget z (meaningOf same k y l r i)))
 
 -- the operand behind the `@` of `set @`

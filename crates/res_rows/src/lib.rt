@@ -48,7 +48,7 @@ fn word_of_let(w: &[u32], m: u32) -> u32
 fn word_of_parameter(j: u32) -> u32
     ensures { λ x. ⌜ x ≡ wordOfParameter j ⌝ }
 {
-    ((3 + j as u64) % 4294967296) as u32
+    ((Table::FRAME_HEAD as u64 + j as u64) % Machine::WORD_VALUES) as u32
 }
 
 fn local_word(w: &[u32], m: Meaning) -> u32
@@ -204,7 +204,7 @@ fn callee_of(t: &[u32], k: &[u32], y: &[u32], l: u32, z: &[u32], r: u32, kind: u
     ensures { λ x. ⌜ x ≡ calleeOf (sameNumber (now (t .entry))) (now (k .entry)) (now (y .entry)) l (now (z .entry)) r kind i ⌝ }
 {
     if kind == Kind::BLOCK {
-        return (prog_frames::locals_at(k, r) % 4294967296) as u32;
+        return (prog_frames::locals_at(k, r) % Machine::WORD_VALUES) as u32;
     }
     if i == 0 {
         return 0;
@@ -260,7 +260,7 @@ fn operand_number(o: Operand) -> u32
 }
 
 fn count_from(next: u32, first: u32) -> u32
-    ensures { λ x. ⌜ (x ≡ next - first) × (first + x < 4294967296) ⌝ }
+    ensures { λ x. ⌜ (x ≡ next - first) × (first + x < limits.wordValues) ⌝ }
 {
     if next < first {
         return 0;
@@ -341,7 +341,7 @@ fn slot_operand(
     count: u32,
     j: u32,
 ) -> Operand
-    requires { ⌜ first + count < 4294967296 ⌝ }
+    requires { ⌜ first + count < limits.wordValues ⌝ }
     ensures { λ x. ⌜ x ≡ slotOperand (sameNumber (now (t .entry))) (now (t .entry)) (now (k .entry)) (now (y .entry)) l (now (w .entry)) (now (z .entry)) r first count j ⌝ }
 {
     if j < count {
@@ -364,7 +364,7 @@ fn put_slot(
     out: &mut [u32],
     at: usize,
 )
-    requires { ⌜ (first + count < 4294967296) × (at + 2 ≤ length (now out)) ⌝ }
+    requires { ⌜ (first + count < limits.wordValues) × (at + 2 ≤ length (now out)) ⌝ }
     ensures { λ _. ⌜ now (out .exit) ≡ putWords (now (out .entry)) at (operandWords (slotOperand (sameNumber (now (t .entry))) (now (t .entry)) (now (k .entry)) (now (y .entry)) l (now (w .entry)) (now (z .entry)) r first count j)) ⌝ }
 {
     let o = slot_operand(t, k, y, l, w, z, r, first, count, j);
@@ -384,7 +384,7 @@ fn put_slots(
     out: &mut [u32],
     at: usize,
 )
-    requires { ⌜ (first + count < 4294967296) × (at + limits.parameters * 2 ≤ length (now out)) ⌝ }
+    requires { ⌜ (first + count < limits.wordValues) × (at + limits.parameters * 2 ≤ length (now out)) ⌝ }
     ensures { λ _. ⌜ now (out .exit) ≡ putWords (now (out .entry)) at (slotWords limits.parameters (operandsFrom (min count limits.parameters) (sameNumber (now (t .entry))) (now (t .entry)) (now (k .entry)) (now (y .entry)) l (now (w .entry)) (now (z .entry)) r first)) ⌝ }
 {
     let mut j: u32 = 0;

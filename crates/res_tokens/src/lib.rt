@@ -20,7 +20,7 @@ fn copy_words(t: &[u32], m: usize, out: &mut [u32])
 }
 
 fn mark_statement(k: &[u32], n: u32, r: u32, out: &mut [u32])
-    requires { ⌜ (n * tokenRow ≤ length (now out)) × (r < 4294967295) ⌝ }
+    requires { ⌜ (n * tokenRow ≤ length (now out)) × (r < limits.greatestWord) ⌝ }
     ensures { λ _. ⌜ now (out .exit) ≡ statementMarked (now (k .entry)) n r (now (out .entry)) ⌝ }
 {
     let i = res_scope::first_token(k, r);

@@ -4,6 +4,7 @@ use Prim.Native.Nat.{ℕ, suc, _+_, _-_, _*_}
 use mathlib.Core.Bool.{Bool, true, false}
 use mathlib.Core.List.{List}
 use lib.ListN.{length}
+use Rattle.base_limits.specs.Limits.{wordValues}
 use Rattle.base_prelude.specs.Choice.{ifLt, ifEq, ifTrue}
 use Rattle.base_prelude.specs.Bytes.{byteAt}
 use Rattle.base_prelude.specs.Walk.{Step, go, stop, walk}
@@ -11,7 +12,7 @@ use Rattle.test_lines.specs.Lines.{oneMore, Count, count}
 
 -- above every number
 abbrev pub noNumber : ℕ
-noNumber = 4294967296
+noNumber = wordValues
 
 unfoldable pub fieldStep : List ℕ → ℕ → Count → Step Count ℕ
 fieldStep l k q =

@@ -1,9 +1,11 @@
 // Files of cases: lines, fields, numbers, source text with bytes in hex.
+use base_limits::Machine;
 use base_limits::Width;
 use base_prelude::byte_at;
 ghost use mathlib.Core.Path.{_≡_};
 ghost use Prim.Native.Nat.{_≤_, _<_, _-_, _%_};
 ghost use lib.ListN.{length, take, drop};
+ghost use Rattle.base_limits.specs.Limits.{wordValues};
 ghost use Rattle.test_lines.specs.Lines.{oneMore, widthOf, isComment, lineEnd, startsWith, placeOf};
 ghost use Rattle.test_lines.specs.Fields.{fieldStart, withDigit, numberFrom, numberAt, fieldOf, hasNumbers};
 ghost use Rattle.test_lines.specs.Sources.{hexOf, hexByte, textByte, spelledSize, source, addByte, addText, addTimes, addLine, isSource, addSource};
@@ -16,7 +18,7 @@ impl Case {
     pub const SOURCE: usize = 16401;
 
     // Above every number.
-    pub const NO_NUMBER: u64 = 4294967296;
+    pub const NO_NUMBER: u64 = Machine::WORD_VALUES;
 }
 
 pub fn one_more(n: u64) -> u64
@@ -27,9 +29,9 @@ pub fn one_more(n: u64) -> u64
 
 // The low half of a number.
 pub fn narrow(n: u64) -> u32
-    ensures { λ r. ⌜ r ≡ n % 4294967296 ⌝ }
+    ensures { λ r. ⌜ r ≡ n % wordValues ⌝ }
 {
-    (n % 4294967296) as u32
+    (n % Machine::WORD_VALUES) as u32
 }
 
 pub fn width_of(bits: u32) -> Width

@@ -16,6 +16,7 @@ ghost use mathlib.Core.Path.{_≡_};
 ghost use mathlib.Core.List.{[], _∷_, _++_};
 ghost use Prim.Native.Nat.{_+_, _-_, _%_, _≤_, _<_};
 ghost use lib.ListN.{length, take, set, replicate};
+ghost use Rattle.base_limits.specs.Limits.{wordValues};
 ghost use Rattle.test_lines.specs.Sources.{source};
 ghost use Rattle.app_page.specs.Bytes.{digitsWithin, decimal, field};
 ghost use Rattle.vm_definitions.specs.Access.{storeFrom};
@@ -594,7 +595,7 @@ fn put(m: &mut [u8], i: usize, v: u8)
 
 // Bytes from a place on.
 pub fn copy_bytes(from: &[u8], to: &mut [u8], at: usize)
-    requires { ⌜ (at < 1099511627776) × (length (now from) < 4294967296) ⌝ }
+    requires { ⌜ (at < 1099511627776) × (length (now from) < wordValues) ⌝ }
     ensures { λ _. ⌜ now (to .exit) ≡ storeFrom (now (to .entry)) at (now (from .entry)) ⌝ }
 {
     let mut i: usize = 0;

@@ -3,6 +3,7 @@ ghost use mathlib.Core.Path.{_≡_};
 ghost use mathlib.Core.List.{[], _∷_};
 ghost use Prim.Native.Nat.{_+_, _-_, _%_, _≤_, _<_};
 ghost use lib.ListN.{length, set, take, replicate};
+ghost use Rattle.base_limits.specs.Limits.{wordValues};
 ghost use Rattle.base_limits.specs.declared.Width.the-variants.{Bits32};
 ghost use Rattle.base_word.specs.Bytes.{wordBytes};
 ghost use Rattle.vm_definitions.specs.Access.{storeFrom};
@@ -33,7 +34,7 @@ pub fn put_zeros(st: &mut [u32], at: usize, n: u32)
 // Words from a place on.
 pub fn put_words(st: &mut [u32], at: usize, ws: &[u32])
     requires { ⌜ at < 1099511627776 ⌝ }
-    requires { ⌜ length (now ws) < 4294967296 ⌝ }
+    requires { ⌜ length (now ws) < wordValues ⌝ }
     ensures { λ _. ⌜ now (st .exit) ≡ storeFrom (now (st .entry)) at (now (ws .entry)) ⌝ }
 {
     let mut i: usize = 0;
@@ -75,7 +76,7 @@ pub fn build_frame(
     args: &[u32],
     size: u32,
 )
-    requires { ⌜ length (now args) < 4294967296 ⌝ }
+    requires { ⌜ length (now args) < wordValues ⌝ }
     ensures { λ _. ⌜ now (st .exit) ≡ storeFrom (now (st .entry)) at (frameWords Bits32 call frame top (now (args .entry)) size) ⌝ }
 {
     put_head(st, at, call, frame, top);

@@ -2,6 +2,7 @@
 use lang_kinds::Kind;
 use prog_tables::ExpressionKind;
 use prog_tables::OperandKind;
+use prog_tables::Table;
 use vm_definitions::Read;
 use vm_definitions::Worked;
 ghost use mathlib.Core.Path.{_≡_};
@@ -178,7 +179,7 @@ pub fn size_of(t: &[u32], c: u32, g: u32) -> u32
     if k == Kind::FUNCTION {
         let size = prog_tables::a_in(t, g);
         let p = prog_tables::b_in(t, g);
-        if (size as u64) < 3 + p as u64 {
+        if (size as u64) < Table::FRAME_HEAD as u64 + p as u64 {
             return 0;
         }
         return size;

@@ -9,10 +9,11 @@ use lib.ListN.{length, getD, set, replicate}
 use lib.Dec.{eqb, ltb, leb}
 use borrow.Author.Tests.{eq-eqb, ne-eqb, lt-ltb, le-ltb, leb-true, ltb-true}
 use Rattle.base_prelude.specs.Choice.{ifLt, ifEq, ifTrue}
+use Rattle.base_prelude.proofs.Choice.{either}
 use Rattle.base_limits.specs.declared.Width.the-variants.{Bits32}
 use Rattle.base_word.specs.Bytes.{wordBytes}
 use Rattle.prog_tables.specs.Tests.{both}
-use Rattle.prog_tables.specs.Statement.{isTest, operandAt}
+use Rattle.prog_tables.specs.Statement.{isTest, expressionUses, operandAt}
 use Rattle.prog_tables.proofs.Each.{both-right}
 use Rattle.vm_definitions.specs.Access.{byteAddress, wordAddress, byteGood, wordGood, storeFrom}
 use Rattle.vm_definitions.specs.Operands.{onRead}
@@ -148,6 +149,17 @@ module _ (t : List ℕ) (d size : ℕ) (st : List ℕ) (s : ℕ) (m : List ℕ) 
       pub assign-stop : (k : ℕ) → x ≡ Stop k → taken Stays st m ≡ quickAssign t d size st s m n top
       unfolding quickAssign assignedBy ifLt
       assign-stop k q = rw (← e, le-ltb a 3 l, lt-ltb a size h, ← p, q)
+
+  -- a call is none of the statements of a plain run
+  assign-none : (x : ℕ) → x ≡ getD t (n * 27 + 6) 0 → x ≡ 2 → taken Stays st m ≡ assignedBy t d size st s m n top (goodWork t (n * 27) size d st s m top)
+  unfolding assignedBy goodWork expressionUses ifEq
+  assign-none x e q = rw (← e, q)
+
+  pub assign-call : (x : ℕ) → x ≡ getD t (n * 27 + 6) 0 → x ≡ 2 → taken Stays st m ≡ quickAssign t d size st s m n top
+  unfolding quickAssign
+  assign-call x e q =
+      either (λ (y : Taken). taken Stays st m ≡ y) (getD t (n * 27 + 4) 0) 3 _ _ (λ l. refl)
+      (λ l. either (λ (y : Taken). taken Stays st m ≡ y) (getD t (n * 27 + 4) 0) size _ _ (λ h. assign-none x e q) (λ h. refl))
 
   -- `set-byte` and `set-word`
   module _ (x : Three) (p : x ≡ threeRead t (n * 27) d size st s m) where

@@ -1,5 +1,6 @@
 // A plain run: statements inside one frame that neither call nor return, each taken with few tests. What is not taken is left to the exact step.
 use lang_kinds::Kind;
+use prog_tables::ExpressionKind;
 use prog_tables::OperandKind;
 use prog_tables::Table;
 use vm_definitions::Read;
@@ -54,6 +55,27 @@ fn assign(t: &[u32], d: u32, size: u32, st: &mut [u32], s: u32, m: &[u8], n: u32
         }
         Worked::Stop(_) => Move::Stays,
     }
+}
+
+// `let` and `set` of a local; a call is not looked at further.
+fn set_local(
+    t: &[u32],
+    d: u32,
+    size: u32,
+    st: &mut [u32],
+    s: u32,
+    m: &[u8],
+    n: u32,
+    top: u32,
+) -> Move
+    requires { ⌜ (n < greatestWord) × (placeOf n + statementRow ≤ length (now t)) × (s + size ≤ length (now st)) × (length (now m) ≤ memoryBytes) ⌝ }
+    ensures { λ r. ⌜ taken r (now (st .exit)) (now (m .entry)) ≡ quickAssign (now (t .entry)) d size (now (st .entry)) s (now (m .entry)) n top ⌝ }
+{
+    let e = prog_tables::expression_in(t, n);
+    if e == ExpressionKind::CALL {
+        return Move::Stays;
+    }
+    assign(t, d, size, st, s, m, n, top)
 }
 
 // Whether row a is a row of function g.
@@ -341,8 +363,8 @@ fn take_form(
     match k {
         Kind::BLOCK => enter_block(t, size, st, s, m, n, top),
         Kind::END_BLOCK => leave_block(t, size, st, s, m.len(), n),
-        Kind::LET => assign(t, d, size, st, s, m, n, top),
-        Kind::SET => assign(t, d, size, st, s, m, n, top),
+        Kind::LET => set_local(t, d, size, st, s, m, n, top),
+        Kind::SET => set_local(t, d, size, st, s, m, n, top),
         Kind::SET_AT => set_at(t, d, size, st, s, m, n, top),
         Kind::SET_BYTE => set_byte(t, d, size, st, s, m, n, top),
         Kind::SET_WORD => set_word(t, d, size, st, s, m, n, top),

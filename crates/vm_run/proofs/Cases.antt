@@ -16,7 +16,7 @@ use Rattle.base_limits.specs.declared.Width.the-variants.{Bits32}
 use Rattle.base_limits.specs.declared.State.{State}
 use Rattle.base_limits.specs.declared.State.the-variants.{Running, Finished, Stopped}
 use Rattle.base_limits.specs.declared.Machine.{Machine}
-use Rattle.base_limits.specs.Record.{movedTo}
+use Rattle.base_limits.specs.Record.{movedTo, ofParts}
 use Rattle.prog_tables.specs.Statement.{Row, rowAt}
 use Rattle.prog_tables.specs.Program.{Program, programFrom, lentProgram}
 use Rattle.prog_tables.specs.Label.{labelAt}
@@ -97,6 +97,11 @@ module _ (f : ℕ → Row) (c m : ℕ) (r : Machine) (st : List ℕ) (b : Bool) 
 
 pub ruleset usable = (usable-on, usable-off)
 
+-- the parts of a record that keeps running
+pub keeps-running : (r q : Machine) (n frame used top : ℕ) → r .state ≡ Running → q ≡ ofParts Running n frame used top → q ≡ movedTo r n frame used top
+unfolding ofParts movedTo
+keeps-running r q n frame used top s e = rw s e
+
 module _ (t : List ℕ) (c : ℕ) (lw : List ℕ) (lc g d size : ℕ) (r : Machine) (k : ℕ) (st m : List ℕ) (y : Transfer) (st′ : List ℕ)
     (e : transferred y st′ ≡ transferOf t c lw lc g d size st (r .frame) (r .used) m (r .next) (r .top)) where
   by-transfer : plainRunEnd t c lw lc d g size k (world r st m) ≡ endBy t c lw lc d k (world r st m) y st′
@@ -139,7 +144,12 @@ module _ (t : List ℕ) (c : ℕ) (lw : List ℕ) (lc d size budget : ℕ) (r : 
 
 pub ruleset in-frame = (in-frame-ends, in-frame-whole)
 
--- the record that a plain run leaves stands in the same frame
+-- the record that a plain run leaves is running
+pub moved-running : (r q : Machine) (n top : ℕ) → q ≡ movedTo r n (r .frame) (r .used) top → r .state ≡ Running → q .state ≡ Running
+unfolding movedTo
+moved-running r q n top e s = rw e s
+
+-- it stands in the same frame
 pub moved-room : (r q : Machine) (n top size : ℕ) (st st′ : List ℕ) → q ≡ movedTo r n (r .frame) (r .used) top → r .frame + size ≤ length st → length st′ ≡ length st → q .frame + size ≤ length st′
 unfolding movedTo
 moved-room r q n top size st st′ e l h = rw (e, h) l
@@ -156,6 +166,9 @@ module _ (t : List ℕ) (c : ℕ) (lw : List ℕ) (lc d budget : ℕ) (r : Machi
   module _ (h : z ≡ 0 → ⊥) where
     usable-in-frame : InFrame t c (rowAt t (r .next) .func) z r st m
     usable-in-frame = usable-good t c r st m z (sym e) h
+
+    pub usable-running : r .state ≡ Running
+    usable-running = usable-in-frame .state
 
     pub usable-room : r .frame + z ≤ length st
     usable-room = let x = usable-in-frame in omega (arith, x .ends, x .room)

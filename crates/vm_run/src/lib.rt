@@ -8,7 +8,9 @@ ghost use mathlib.Core.Path.{_≡_};
 ghost use Prim.Native.Nat.{_+_, _*_, _≤_, _<_};
 ghost use lib.ListN.{length};
 ghost use Rattle.base_limits.specs.Limits.{memoryBytes, stackWords};
+ghost use Rattle.base_limits.specs.Record.{movedTo};
 ghost use Rattle.base_limits.specs.declared.Width.the-variants.{Bits32};
+ghost use Rattle.base_limits.specs.declared.State.the-variants.{Running};
 ghost use Rattle.prog_tables.specs.Statement.{rowAt};
 ghost use Rattle.prog_tables.specs.Program.{programFrom};
 ghost use Rattle.vm_definitions.specs.Step.{stepOf, runOf};
@@ -91,6 +93,14 @@ fn usable_size(t: &[u32], c: u32, m: usize, q: Machine, st: &[u32]) -> u32
     0
 }
 
+// A running record in another frame; its state is written, not copied.
+fn keep_running(r: Machine, n: u32, frame: u32, used: u32, top: u32) -> Machine
+    requires { ⌜ r .state ≡ Running ⌝ }
+    ensures { λ q. ⌜ q ≡ movedTo r n frame used top ⌝ }
+{
+    Machine::of_parts(State::Running, n, frame, used, top)
+}
+
 // The statement that a plain run of so many steps ends at: a call or a return, or else the exact step where there was none before it.
 fn end_plain(
     t: &[u32],
@@ -105,7 +115,7 @@ fn end_plain(
     st: &mut [u32],
     m: &mut [u8],
 ) -> Outcome
-    requires { ⌜ (c * statementRow ≤ length (now t)) × (r .frame + size ≤ length (now st)) × (length (now st) ≤ stackWords) × (length (now m) ≤ memoryBytes) × (count < 18446744073709551615) ⌝ }
+    requires { ⌜ (r .state ≡ Running) × (c * statementRow ≤ length (now t)) × (r .frame + size ≤ length (now st)) × (length (now st) ≤ stackWords) × (length (now m) ≤ memoryBytes) × (count < 18446744073709551615) ⌝ }
     ensures { λ o. ⌜ left o (now (st .exit)) (now (m .exit)) ≡ plainRunEnd (now (t .entry)) c (now (l .entry)) lc d g size count (world r (now (st .entry)) (now (m .entry))) ⌝ }
 {
     let y = vm_quick_calls::take_transfer(
@@ -130,7 +140,7 @@ fn end_plain(
             used,
             top,
         } => Outcome {
-            machine: Machine::moved(r, next, frame, used, top),
+            machine: keep_running(r, next, frame, used, top),
             count: count + 1,
             broken: Broken::No,
         },
@@ -160,13 +170,13 @@ fn advance_in_frame(
     st: &mut [u32],
     m: &mut [u8],
 ) -> Outcome
-    requires { ⌜ (c * statementRow ≤ length (now t)) × (r .frame + size ≤ length (now st)) × (length (now st) ≤ stackWords) × (length (now m) ≤ memoryBytes) ⌝ }
+    requires { ⌜ (r .state ≡ Running) × (c * statementRow ≤ length (now t)) × (r .frame + size ≤ length (now st)) × (length (now st) ≤ stackWords) × (length (now m) ≤ memoryBytes) ⌝ }
     ensures { λ o. ⌜ left o (now (st .exit)) (now (m .exit)) ≡ stepsInFrame (now (t .entry)) c (now (l .entry)) lc d size budget (world r (now (st .entry)) (now (m .entry))) ⌝ }
 {
     let g = prog_tables::func_at(t, r.next);
     let x = vm_quick_statements::run_plain(t, c, g, d, size, budget, st, r.frame, m, r.next, r.top);
     let count = x.count;
-    let q = Machine::moved(r, x.next, r.frame, r.used, x.top);
+    let q = keep_running(r, x.next, r.frame, r.used, x.top);
     if count < budget {
         return end_plain(t, c, l, lc, g, d, size, q, count, st, m);
     }

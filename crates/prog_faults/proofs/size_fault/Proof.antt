@@ -22,6 +22,9 @@ parameters-at-requires c κs = search needs
 cast-least : tie.Need-cast-least
 cast-least c = search needs
 
+cast-least-2 : tie.Need-cast-least-2
+cast-least-2 c = search needs
+
 add-least : tie.Need-add-least
 add-least c = search needs
 
@@ -44,6 +47,7 @@ size-fault-spec =
     a-at-requires
     parameters-at-requires
     cast-least
+    cast-least-2
     add-least
     cast-size
     returns

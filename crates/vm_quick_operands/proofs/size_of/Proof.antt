@@ -24,6 +24,9 @@ cast-if3 c = search needs
 cast-if3-2 : tie.Need-cast-if3-2
 cast-if3-2 c = search needs
 
+cast-if3-3 : tie.Need-cast-if3-3
+cast-if3-3 c = search needs
+
 add-if3 : tie.Need-add-if3
 add-if3 c = search needs
 
@@ -49,6 +52,7 @@ size-of-spec =
     b-in-requires
     cast-if3
     cast-if3-2
+    cast-if3-3
     add-if3
     returns-2
     returns-3

@@ -30,11 +30,11 @@ enter-block-requires c κs = search needs
 leave-block-requires : tie.Need-leave-block-requires
 leave-block-requires c κs = search needs
 
-assign-requires : tie.Need-assign-requires
-assign-requires c κs = search needs
+set-local-requires : tie.Need-set-local-requires
+set-local-requires c κs = search needs
 
-assign-requires-2 : tie.Need-assign-requires-2
-assign-requires-2 c κs = search needs
+set-local-requires-2 : tie.Need-set-local-requires-2
+set-local-requires-2 c κs = search needs
 
 set-at-requires : tie.Need-set-at-requires
 set-at-requires c κs = search needs
@@ -156,8 +156,8 @@ take-form-spec =
     returns
     enter-block-requires
     leave-block-requires
-    assign-requires
-    assign-requires-2
+    set-local-requires
+    set-local-requires-2
     set-at-requires
     set-byte-requires
     set-word-requires

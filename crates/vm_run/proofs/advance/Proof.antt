@@ -1,4 +1,4 @@
-use Rattle.vm_run.proofs.Cases.{somes, usable-room, usable-stack, usable-memory}
+use Rattle.vm_run.proofs.Cases.{somes, usable-running, usable-room, usable-stack, usable-memory}
 use native.Mathlib.Omega.{arith}
 use mathlib.Core.Path.{_≡_, refl, sym, _∙_, ap, subst}
 use borrow.Author.Needs.{needs}
@@ -28,7 +28,7 @@ returns c =
 
 advance-in-frame-requires : tie.Need-advance-in-frame-requires
 advance-in-frame-requires c κs =
-    (search needs, search usable-room, search usable-stack, search usable-memory)
+    (search usable-running, search needs, search usable-room, search usable-stack, search usable-memory)
 
 same-length-3 : tie.Need-same-length-3
 same-length-3 c = search needs

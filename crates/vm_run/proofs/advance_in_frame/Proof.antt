@@ -1,4 +1,4 @@
-use Rattle.vm_run.proofs.Cases.{in-frame, moved-room}
+use Rattle.vm_run.proofs.Cases.{in-frame, moved-running, moved-room}
 use native.Mathlib.Omega.{arith}
 use mathlib.Core.Path.{_≡_, refl, sym, _∙_, ap, subst}
 use borrow.Author.Needs.{needs}
@@ -16,12 +16,12 @@ func-at-requires c κs = search needs
 run-plain-requires : tie.Need-run-plain-requires
 run-plain-requires c κs = search needs
 
-moved-requires : tie.Need-moved-requires
-moved-requires c κs = search needs
+keep-running-requires : tie.Need-keep-running-requires
+keep-running-requires c κs = search needs
 
 end-plain-requires : tie.Need-end-plain-requires
 end-plain-requires c κs =
-    (search needs, search moved-room, search needs, search needs, search needs)
+    (search moved-running, search needs, search moved-room, search needs, search needs, search needs)
 
 same-length : tie.Need-same-length
 same-length c = search needs
@@ -49,7 +49,7 @@ advance-in-frame-spec =
     (tie.spec
     func-at-requires
     run-plain-requires
-    moved-requires
+    keep-running-requires
     end-plain-requires
     same-length
     same-length-2

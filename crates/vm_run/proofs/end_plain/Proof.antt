@@ -16,8 +16,8 @@ enum-known-y : tie.Need-enum-known-y
 enum-known-y c = search needs
 
 -- src/lib.rt:146:22
-moved-requires : tie.Need-moved-requires
-moved-requires c κs = search needs
+keep-running-requires : tie.Need-keep-running-requires
+keep-running-requires c κs = search needs
 
 -- src/lib.rt:147:20
 add-t23 : tie.Need-add-t23
@@ -73,7 +73,7 @@ end-plain-spec =
     (tie.spec
     take-transfer-requires
     enum-known-y
-    moved-requires
+    keep-running-requires
     add-t23
     enum-told
     same-length
