@@ -33,31 +33,38 @@ use Rattle.thm_acceptance.proofs.Paged.{LineFine}
 
 -- ---- what is read
 
+behind-map : (r : Reading) (P Q : ℕ → Type 0) → ((next : ℕ) → P next → Q next) → Behind r P → Behind r Q
+behind-map End P Q f h = tt
+behind-map (Lone p) P Q f h = tt
+behind-map (Broken p) P Q f h = tt
+behind-map (Open p) P Q f h = tt
+behind-map (Whole x) P Q f h = f (x .next) h
+
+behind-both : (r : Reading) (P Q : ℕ → Type 0) → Behind r P → Behind r Q → Behind r (λ (next : ℕ). P next × Q next)
+behind-both End P Q h g = tt
+behind-both (Lone p) P Q h g = tt
+behind-both (Broken p) P Q h g = tt
+behind-both (Open p) P Q h g = tt
+behind-both (Whole x) P Q h g = (h, g)
+
 module _ (w : Width) (s : List ℕ) where
   read-map : (P Q : ℕ → Reading → Type 0) → ((n : ℕ) (r : Reading) → P n r → Q n r) → (left n at : ℕ) → EachReadFrom left w s P n at → EachReadFrom left w s Q n at
   read-map P Q f zero n at h = tt
-  read-map P Q f (suc left) n at h = (f n (nextRead w s at) (h .0), behind (nextRead w s at) (λ next. read-map P Q f left (suc n) next) (h .1))
-    where
-      behind : (r : Reading) → ((next : ℕ) → EachReadFrom left w s P (suc n) next → EachReadFrom left w s Q (suc n) next)
-          → Behind r (λ (next : ℕ). EachReadFrom left w s P (suc n) next) → Behind r (λ (next : ℕ). EachReadFrom left w s Q (suc n) next)
-      behind End g x = tt
-      behind (Lone p) g x = tt
-      behind (Broken p) g x = tt
-      behind (Open p) g x = tt
-      behind (Whole y) g x = g (y .next) x
+  read-map P Q f (suc left) n at h = (
+    f n (nextRead w s at) (h .0),
+    behind-map (nextRead w s at) (EachReadFrom left w s P (suc n)) (EachReadFrom left w s Q (suc n)) (λ next. read-map P Q f left (suc n) next) (h .1),
+  )
 
-  read-both : (P Q : ℕ → Reading → Type 0) (left n at : ℕ) → EachReadFrom left w s P n at → EachReadFrom left w s Q n at → EachReadFrom left w s (λ m r. P m r × Q m r) n at
+  abbrev Both : (ℕ → Reading → Type 0) → (ℕ → Reading → Type 0) → ℕ → Reading → Type 0
+  Both P Q n r = P n r × Q n r
+
+  read-both : (P Q : ℕ → Reading → Type 0) (left n at : ℕ) → EachReadFrom left w s P n at → EachReadFrom left w s Q n at → EachReadFrom left w s (Both P Q) n at
   read-both P Q zero n at h g = tt
-  read-both P Q (suc left) n at h g = ((h .0, g .0), behind (nextRead w s at) (λ next. read-both P Q left (suc n) next) (h .1) (g .1))
-    where
-      behind : (r : Reading) → ((next : ℕ) → EachReadFrom left w s P (suc n) next → EachReadFrom left w s Q (suc n) next → EachReadFrom left w s (λ m r. P m r × Q m r) (suc n) next)
-          → Behind r (λ (next : ℕ). EachReadFrom left w s P (suc n) next) → Behind r (λ (next : ℕ). EachReadFrom left w s Q (suc n) next)
-          → Behind r (λ (next : ℕ). EachReadFrom left w s (λ m r. P m r × Q m r) (suc n) next)
-      behind End g x y = tt
-      behind (Lone p) g x y = tt
-      behind (Broken p) g x y = tt
-      behind (Open p) g x y = tt
-      behind (Whole z) g x y = g (z .next) x y
+  read-both P Q (suc left) n at h g = (
+    (h .0, g .0),
+    behind-map (nextRead w s at) _ (EachReadFrom left w s (Both P Q) (suc n)) (λ next x. read-both P Q left (suc n) next (x .0) (x .1))
+        (behind-both (nextRead w s at) (EachReadFrom left w s P (suc n)) (EachReadFrom left w s Q (suc n)) (h .1) (g .1)),
+  )
 
   -- a read without a fault
   abbrev Read : ℕ → Reading → Type 0

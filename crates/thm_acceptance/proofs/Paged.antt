@@ -379,27 +379,23 @@ stands-5 : (standsIn 5 .lo ≡ 4) × (standsIn 5 .hi ≡ 6)
 unfolding standsIn statementIn ifEq ifLt
 stands-5 = (refl, refl)
 
-rowHigh : ℕ → Bool
-rowHigh k = implies (leb 2 k) (leb 4 (standsIn k .lo))
+-- from kind a on, rows stand on grounds from g on
+highFrom : ℕ → ℕ → ℕ → Bool
+highFrom a g k = implies (leb a k) (leb g (standsIn k .lo))
 
-row-all : T (under rowHigh 23)
-unfolding rowHigh standsIn statementIn ifEq ifLt
-row-all = tt
+high-from : (a g k : ℕ) → T (under (highFrom a g) 23) → a ≤ k → k < 23 → g ≤ standsIn k .lo
+unfolding highFrom
+high-from a g k t l h = leb-true g _ (imply (leb a k) (leb g (standsIn k .lo)) (under-at (highFrom a g) 23 k t h) (le-leb a k l))
+
+rows-high : T (under (highFrom 2 4) 23) × T (under (highFrom 20 6) 23)
+unfolding highFrom standsIn statementIn ifEq ifLt
+rows-high = (tt, tt)
 
 row-high : (k : ℕ) → 2 ≤ k → k < 23 → 4 ≤ standsIn k .lo
-unfolding rowHigh
-row-high k l h = leb-true 4 _ (imply (leb 2 k) (leb 4 (standsIn k .lo)) (under-at rowHigh 23 k row-all h) (le-leb 2 k l))
-
-armHigh : ℕ → Bool
-armHigh k = implies (leb 20 k) (leb 6 (standsIn k .lo))
-
-arm-all : T (under armHigh 23)
-unfolding armHigh standsIn statementIn ifEq ifLt
-arm-all = tt
+row-high k l h = high-from 2 4 k (rows-high .0) l h
 
 arm-high : (k : ℕ) → 20 ≤ k → k < 23 → 6 ≤ standsIn k .lo
-unfolding armHigh
-arm-high k l h = leb-true 6 _ (imply (leb 20 k) (leb 6 (standsIn k .lo)) (under-at armHigh 23 k arm-all h) (le-leb 20 k l))
+arm-high k l h = high-from 20 6 k (rows-high .1) l h
 
 low-at : (k j : ℕ) → k ≡ j → standsIn k .lo ≡ standsIn j .lo
 low-at k j e = ap (λ (i : ℕ). standsIn i .lo) e
