@@ -21,9 +21,6 @@ enum-known-x-2 c = search needs
 cast-refused-page : tie.Need-cast-refused-page
 cast-refused-page c = search needs
 
-cast-refused-page-2 : tie.Need-cast-refused-page-2
-cast-refused-page-2 c = search needs
-
 refused-page-requires : tie.Need-refused-page-requires
 refused-page-requires c κs = search needs
 
@@ -49,7 +46,6 @@ page-of-spec =
     accepted-page-requires
     enum-known-x-2
     cast-refused-page
-    cast-refused-page-2
     refused-page-requires
     same-length
     returns

@@ -20,9 +20,6 @@ enum-known-x-2 c = search needs
 cast-put-six : tie.Need-cast-put-six
 cast-put-six c = search needs
 
-cast-put-six-2 : tie.Need-cast-put-six-2
-cast-put-six-2 c = search needs
-
 put-six-requires-2 : tie.Need-put-six-requires-2
 put-six-requires-2 c κs = search needs
 
@@ -48,7 +45,6 @@ put-answer-spec =
     put-six-requires
     enum-known-x-2
     cast-put-six
-    cast-put-six-2
     put-six-requires-2
     same-length
     returns

@@ -19,10 +19,7 @@ cast-judge-tokens : tie.Need-cast-judge-tokens
 cast-judge-tokens c = search needs
 
 cast-judge-tokens-2 : tie.Need-cast-judge-tokens-2
-cast-judge-tokens-2 c = search needs
-
-cast-judge-tokens-3 : tie.Need-cast-judge-tokens-3
-cast-judge-tokens-3 c =
+cast-judge-tokens-2 c =
     search (token-count, needs)
 
 judge-tokens-requires : tie.Need-judge-tokens-requires
@@ -48,7 +45,6 @@ judge-spec =
     enum-known-n
     cast-judge-tokens
     cast-judge-tokens-2
-    cast-judge-tokens-3
     judge-tokens-requires
     enum-known-number
     returns
