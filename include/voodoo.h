@@ -130,7 +130,7 @@ enum {
  * aligned. No two of the seven buffers may overlap. What they held before does not
  * matter.
  *
- * It uses at most 286 KB of stack (measured, bench/run); have 512 KB free.
+ * It uses at most 288 KB of stack (measured, bench/run); have 512 KB free.
  */
 uint32_t voodoo_check(
     const uint8_t *source, size_t source_bytes,
