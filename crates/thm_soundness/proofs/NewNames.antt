@@ -25,7 +25,7 @@ use Rattle.res_names.specs.Naming.{labelFault}
 use Rattle.res_text.specs.Same.{nameOf, sameText}
 use Rattle.parse_verdict.specs.Verdict.{Clean}
 use Rattle.thm_acceptance.specs.Faults.{labelFaults, statementsFaults, allNameFaults}
-use Rattle.thm_statement_rows.proofs.Meanings.{no-key}
+use Rattle.parse_lines.proofs.Keys.{no-key}
 use Rattle.thm_statement_rows.proofs.Statements.{clean-left}
 
 label-clean : (left : ℕ) (same : ℕ → ℕ → Bool) (t : List ℕ) (n : ℕ) (y : List ℕ) (l j e : ℕ) → Clean (labelFaults left same t n y l j) → j ≤ e → e < j + left → none ≤ labelFault same t n y l e
