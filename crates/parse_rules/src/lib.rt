@@ -23,7 +23,7 @@ pub struct Labelled {
 
 // 7: an unknown word or shape.
 pub fn shape_rule(w: Width, t: &[u32], n: u32, u: Span, k: u32) -> u64
-    requires { ⌜ (length (now t) ≡ limits.tokenWords) × (u .word < 4294967292) ⌝ }
+    requires { ⌜ (length (now t) ≡ limits.tokenWords) × (u .word < limits.greatestWord - 3) ⌝ }
     ensures { λ r. ⌜ r ≡ shapeRule w (now (t .entry)) n u k ⌝ }
 {
     if k == Kind::EDGE {
@@ -75,7 +75,7 @@ fn head_at(t: &[u32], i: u32) -> u32
 
 // The token that is a reserved word in its own place.
 fn own_word(t: &[u32], u: Span, k: u32) -> u32
-    requires { ⌜ u .word < 4294967292 ⌝ }
+    requires { ⌜ u .word < limits.greatestWord - 3 ⌝ }
     ensures { λ r. ⌜ r ≡ ownWord (now (t .entry)) u k ⌝ }
 {
     if k == Kind::END_FUNCTION {
@@ -179,7 +179,7 @@ fn tokens_least(t: &[u32], n: u32, own: u32, from: u32, next: u32) -> u64
 
 // Reserved words as names, and substitutes.
 pub fn tokens_rule(t: &[u32], n: u32, u: Span, k: u32) -> u64
-    requires { ⌜ u .word < 4294967292 ⌝ }
+    requires { ⌜ u .word < limits.greatestWord - 3 ⌝ }
     ensures { λ r. ⌜ r ≡ tokensRule (now (t .entry)) n u k ⌝ }
 {
     tokens_least(t, n, own_word(t, u, k), u.word + 1, u.next)

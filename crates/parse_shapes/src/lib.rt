@@ -110,7 +110,7 @@ fn operand_at(t: &[u32], i: u32, next: u32) -> bool
 }
 
 fn symbol_from(t: &[u32], i: u32, next: u32) -> bool
-    requires { ⌜ (length (now t) ≡ limits.tokenWords) × (i < 4294967294) ⌝ }
+    requires { ⌜ (length (now t) ≡ limits.tokenWords) × (i < limits.greatestWord - 1) ⌝ }
     ensures { λ r. ⌜ r ≡ symbolFrom (now (t .entry)) i next ⌝ }
 {
     let w = parse_lines::word_at(t, i);
@@ -125,7 +125,7 @@ fn symbol_from(t: &[u32], i: u32, next: u32) -> bool
 
 // An expression from a token to the line's end.
 fn expression_from(t: &[u32], i: u32, next: u32) -> bool
-    requires { ⌜ (length (now t) ≡ limits.tokenWords) × (i < 4294967294) ⌝ }
+    requires { ⌜ (length (now t) ≡ limits.tokenWords) × (i < limits.greatestWord - 1) ⌝ }
     ensures { λ r. ⌜ r ≡ expressionFrom (now (t .entry)) i next ⌝ }
 {
     if is_name(t, i) {
@@ -184,7 +184,7 @@ fn count_fits(t: &[u32], u: Span, k: u32) -> bool
 
 // let and set: a name, then an expression.
 fn named_expression(t: &[u32], word: u32, next: u32) -> bool
-    requires { ⌜ (length (now t) ≡ limits.tokenWords) × (word < 4294967292) ⌝ }
+    requires { ⌜ (length (now t) ≡ limits.tokenWords) × (word < limits.greatestWord - 3) ⌝ }
     ensures { λ r. ⌜ r ≡ ifTrue (isName (now (t .entry)) (word + 1)) (expressionFrom (now (t .entry)) (word + 2) next) false ⌝ }
 {
     if is_name(t, word + 1) {
@@ -194,7 +194,7 @@ fn named_expression(t: &[u32], word: u32, next: u32) -> bool
 }
 
 fn return_fits(t: &[u32], u: Span) -> bool
-    requires { ⌜ (length (now t) ≡ limits.tokenWords) × (u .word < 4294967292) ⌝ }
+    requires { ⌜ (length (now t) ≡ limits.tokenWords) × (u .word < limits.greatestWord - 3) ⌝ }
     ensures { λ r. ⌜ r ≡ ifEq (operandCount u) 0 true (expressionFrom (now (t .entry)) (u .word + 1) (u .next)) ⌝ }
 {
     if operand_count(u) == 0 {
@@ -204,7 +204,7 @@ fn return_fits(t: &[u32], u: Span) -> bool
 }
 
 fn else_if_fits(t: &[u32], u: Span) -> bool
-    requires { ⌜ (length (now t) ≡ limits.tokenWords) × (u .word < 4294967292) ⌝ }
+    requires { ⌜ (length (now t) ≡ limits.tokenWords) × (u .word < limits.greatestWord - 3) ⌝ }
     ensures { λ r. ⌜ r ≡ ifEq (operandCount u) 3 (operandsFrom (now (t .entry)) (u .word + 2) (u .next)) false ⌝ }
 {
     if operand_count(u) == 3 {
@@ -214,7 +214,7 @@ fn else_if_fits(t: &[u32], u: Span) -> bool
 }
 
 fn later_fits(t: &[u32], u: Span, k: u32) -> bool
-    requires { ⌜ (length (now t) ≡ limits.tokenWords) × (u .word < 4294967292) ⌝ }
+    requires { ⌜ (length (now t) ≡ limits.tokenWords) × (u .word < limits.greatestWord - 3) ⌝ }
     ensures { λ r. ⌜ r ≡ laterFits (now (t .entry)) u k ⌝ }
 {
     if k == Kind::GOTO {
@@ -236,7 +236,7 @@ fn later_fits(t: &[u32], u: Span, k: u32) -> bool
 }
 
 fn statement_fits(t: &[u32], u: Span, k: u32) -> bool
-    requires { ⌜ (length (now t) ≡ limits.tokenWords) × (u .word < 4294967292) ⌝ }
+    requires { ⌜ (length (now t) ≡ limits.tokenWords) × (u .word < limits.greatestWord - 3) ⌝ }
     ensures { λ r. ⌜ r ≡ statementFits (now (t .entry)) u k ⌝ }
 {
     if k == Kind::FUNCTION {
@@ -258,7 +258,7 @@ fn statement_fits(t: &[u32], u: Span, k: u32) -> bool
 }
 
 fn align_form(t: &[u32], u: Span) -> bool
-    requires { ⌜ u .word < 4294967292 ⌝ }
+    requires { ⌜ u .word < limits.greatestWord - 3 ⌝ }
     ensures { λ r. ⌜ r ≡ ifEq (operandCount u) 0 true (isInteger (now (t .entry)) (u .word + 1)) ⌝ }
 {
     if operand_count(u) == 0 {
@@ -268,7 +268,7 @@ fn align_form(t: &[u32], u: Span) -> bool
 }
 
 fn other_fits(t: &[u32], u: Span, k: u32) -> bool
-    requires { ⌜ u .word < 4294967292 ⌝ }
+    requires { ⌜ u .word < limits.greatestWord - 3 ⌝ }
     ensures { λ r. ⌜ r ≡ otherFits (now (t .entry)) u k ⌝ }
 {
     if k == Kind::EXPORT {
@@ -290,7 +290,7 @@ fn other_fits(t: &[u32], u: Span, k: u32) -> bool
 }
 
 fn form_fits(t: &[u32], u: Span, k: u32) -> bool
-    requires { ⌜ (length (now t) ≡ limits.tokenWords) × (u .word < 4294967292) ⌝ }
+    requires { ⌜ (length (now t) ≡ limits.tokenWords) × (u .word < limits.greatestWord - 3) ⌝ }
     ensures { λ r. ⌜ r ≡ formFits (now (t .entry)) u k ⌝ }
 {
     if k < Kind::SECTION_DATA {
@@ -355,7 +355,7 @@ fn align_fits(v: u32) -> bool
 }
 
 fn range_fits(w: Width, t: &[u32], u: Span, k: u32) -> bool
-    requires { ⌜ u .word < 4294967292 ⌝ }
+    requires { ⌜ u .word < limits.greatestWord - 3 ⌝ }
     ensures { λ r. ⌜ r ≡ rangeFits w (now (t .entry)) u k ⌝ }
 {
     if is_known(t, u.word + 1) {
@@ -372,7 +372,7 @@ fn range_fits(w: Width, t: &[u32], u: Span, k: u32) -> bool
 
 // A line of a known kind in right shape.
 pub fn shape_fits(w: Width, t: &[u32], u: Span, k: u32) -> bool
-    requires { ⌜ (length (now t) ≡ limits.tokenWords) × (u .word < 4294967292) ⌝ }
+    requires { ⌜ (length (now t) ≡ limits.tokenWords) × (u .word < limits.greatestWord - 3) ⌝ }
     ensures { λ r. ⌜ r ≡ shapeFits w (now (t .entry)) u k ⌝ }
 {
     if count_fits(t, u, k) {

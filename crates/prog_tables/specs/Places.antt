@@ -54,3 +54,11 @@ slotPlace at i = at + row.operands + i * 2
 -- operand i of row n
 abbrev pub slotAt : List ℕ → ℕ → ℕ → Operand
 slotAt t n i = operandAt t (slotPlace (placeOf n) i)
+
+-- ---- words of a skeleton row: the first token of statement n, and the token behind its line
+
+abbrev pub tokenIn : List ℕ → ℕ → ℕ
+tokenIn k n = getD k (placeOf n + row.token) 0
+
+abbrev pub nextIn : List ℕ → ℕ → ℕ
+nextIn k n = getD k (placeOf n + row.next) 0

@@ -6,7 +6,7 @@ ghost use mathlib.Core.Path.{_≡_};
 ghost use Prim.Native.Nat.{_+_, _≤_, _<_};
 ghost use lib.ListN.{length, getD};
 ghost use Rattle.prog_tables.specs.Layout.{statementRow, operandSlots, sizesOf, numbersOf};
-ghost use Rattle.prog_tables.specs.Places.{placeOf, kindFrom, funcFrom, aFrom, bFrom, exprFrom, addressKind, addressPlace, firstPlace, secondPlace, thirdPlace, slotPlace, slotAt};
+ghost use Rattle.prog_tables.specs.Places.{placeOf, kindFrom, funcFrom, aFrom, bFrom, exprFrom, addressKind, addressPlace, firstPlace, secondPlace, thirdPlace, slotPlace, slotAt, tokenIn, nextIn};
 ghost use Rattle.prog_tables.specs.Statement.{operandOf, hasExpression, isTest, isOperator, isCall, expressionUses, usedBy, operandAt, rowAt};
 
 // An operand: a constant, a local's word, a data address, or the word at one of these. Unlisted is any other kind.
@@ -303,6 +303,20 @@ pub fn kind_at(t: &[u32], n: u32) -> u32
     ensures { λ r. ⌜ r ≡ rowAt (now (t .entry)) n .kind ⌝ }
 {
     word_at(t, n as usize * Table::STATEMENT_ROW)
+}
+
+// In a skeleton row: the statement's first token.
+pub fn token_at(k: &[u32], n: u32) -> u32
+    ensures { λ r. ⌜ r ≡ tokenIn (now (k .entry)) n ⌝ }
+{
+    word_at(k, n as usize * Table::STATEMENT_ROW + StatementRow::TOKEN)
+}
+
+// In a skeleton row: the token behind the statement's line.
+pub fn next_at(k: &[u32], n: u32) -> u32
+    ensures { λ r. ⌜ r ≡ nextIn (now (k .entry)) n ⌝ }
+{
+    word_at(k, n as usize * Table::STATEMENT_ROW + StatementRow::NEXT)
 }
 
 // The frame that a row stands in.

@@ -4,16 +4,16 @@ use Prim.Native.Nat.{ℕ, _+_, _*_, _-_, min}
 use mathlib.Core.List.{List}
 use lib.ListN.{getD}
 use Rattle.base_limits.specs.Limits as limits
-use Rattle.prog_tables.specs.StatementRow as row
 use Rattle.prog_tables.specs.OutlineLabel as outline
-use Rattle.prog_tables.specs.Layout.{statementRow, labelRow}
+use Rattle.prog_tables.specs.Layout.{labelRow}
+use Rattle.prog_tables.specs.Places.{tokenIn, nextIn}
 
 -- the magic word's token of statement n, and the token behind its line; no token has a number past their limit
 unfoldable pub firstToken : List ℕ → ℕ → ℕ
-firstToken k n = min (getD k (n * statementRow + row.token) 0) (limits.tokens + 1)
+firstToken k n = min (tokenIn k n) (limits.tokens + 1)
 
 unfoldable pub endToken : List ℕ → ℕ → ℕ
-endToken k n = min (getD k (n * statementRow + row.next) 0) (limits.tokens + 1)
+endToken k n = min (nextIn k n) (limits.tokens + 1)
 
 -- label j: its token, its kind (1 data, 3 function, 5 place), and what it names
 unfoldable pub labelToken : List ℕ → ℕ → ℕ

@@ -6,7 +6,6 @@ use lang_kinds::TokenRow;
 use lang_words::Word;
 use prog_tables::ExpressionKind;
 use prog_tables::OutlineLabel;
-use prog_tables::StatementRow;
 use prog_tables::Table;
 ghost use mathlib.Core.Path.{_≡_};
 ghost use Rattle.base_limits.specs.Limits as limits;
@@ -49,14 +48,14 @@ fn clamp(i: u32) -> u32
 pub fn first_token(k: &[u32], n: u32) -> u32
     ensures { λ r. ⌜ r ≡ firstToken (now (k .entry)) n ⌝ }
 {
-    clamp(prog_tables::word_at(k, n as usize * Table::STATEMENT_ROW + StatementRow::TOKEN))
+    clamp(prog_tables::token_at(k, n))
 }
 
 // The token behind a statement's line.
 pub fn end_token(k: &[u32], n: u32) -> u32
     ensures { λ r. ⌜ r ≡ endToken (now (k .entry)) n ⌝ }
 {
-    clamp(prog_tables::word_at(k, n as usize * Table::STATEMENT_ROW + StatementRow::NEXT))
+    clamp(prog_tables::next_at(k, n))
 }
 
 // The token of a label.

@@ -11,6 +11,7 @@ use Rattle.parse_units.specs.Outline.{rowAt}
 use Rattle.parse_units.specs.declared.Row.{Row}
 use Rattle.prog_tables.specs.StatementRow as row
 use Rattle.prog_tables.specs.Layout.{statementRow, statementWords}
+use Rattle.prog_tables.specs.Places.{tokenIn, nextIn}
 use Rattle.res_skeleton.specs.declared.SkeletonRow.{SkeletonRow}
 
 -- the parameters of a function are its operands; no other row has any
@@ -53,8 +54,8 @@ skeletonOf x c = rowsIn (zeros statementWords) x c
 
 -- the first token of statement n
 unfoldable pub tokenOf : List ℕ → ℕ → ℕ
-tokenOf k n = getD k (n * statementRow + row.token) 0
+tokenOf k n = tokenIn k n
 
 -- the token behind its line
 unfoldable pub nextOf : List ℕ → ℕ → ℕ
-nextOf k n = getD k (n * statementRow + row.next) 0
+nextOf k n = nextIn k n

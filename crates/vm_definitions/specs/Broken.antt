@@ -84,7 +84,9 @@ module _ (p : Program) (m : ℕ) (r : Machine) (st : List ℕ) where
 
   -- "a memory or stack over the limits"
   unfoldable pub limitFault : Bool
-  limitFault = oneOf (ltb (memoryLimit (p .width)) m) (ltb stackWords (length st))
+  limitFault =
+      oneOf (ltb (memoryLimit (p .width)) m)
+      (ltb stackWords (length st))
 
   -- "in the frame in use and each a return leaves, the first's two marks aside, a place to return to that is no call or a caller's
   -- frame that doesn't end where this one starts"

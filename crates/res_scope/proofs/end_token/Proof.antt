@@ -7,16 +7,10 @@ use Rattle.res_scope.proofs.end_token.Tie as tie
 use Rattle.res_scope.proofs.end_token.Reads as reads
 use Rattle.res_scope.proofs.end_token.Lts as lts
 use Rattle.res_scope.proofs.clamp.Reads as clamp-reads
-use Rattle.prog_tables.proofs.word_at.Reads as word-at-reads
+use Rattle.prog_tables.proofs.next_at.Reads as next-at-reads
 
-mul-word-at : tie.Need-mul-word-at
-mul-word-at c = search needs
-
-add-word-at : tie.Need-add-word-at
-add-word-at c = search needs
-
-word-at-requires : tie.Need-word-at-requires
-word-at-requires c κs = search needs
+next-at-requires : tie.Need-next-at-requires
+next-at-requires c κs = search needs
 
 clamp-requires : tie.Need-clamp-requires
 clamp-requires c κs = search needs
@@ -28,4 +22,4 @@ returns c =
 
 pub end-token-spec : {M : Type 1} → statement M
 end-token-spec =
-    tie.close (tie.spec mul-word-at add-word-at word-at-requires clamp-requires returns)
+    tie.close (tie.spec next-at-requires clamp-requires returns)

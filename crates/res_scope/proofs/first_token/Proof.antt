@@ -7,16 +7,10 @@ use Rattle.res_scope.proofs.first_token.Tie as tie
 use Rattle.res_scope.proofs.first_token.Reads as reads
 use Rattle.res_scope.proofs.first_token.Lts as lts
 use Rattle.res_scope.proofs.clamp.Reads as clamp-reads
-use Rattle.prog_tables.proofs.word_at.Reads as word-at-reads
+use Rattle.prog_tables.proofs.token_at.Reads as token-at-reads
 
-mul-word-at : tie.Need-mul-word-at
-mul-word-at c = search needs
-
-add-word-at : tie.Need-add-word-at
-add-word-at c = search needs
-
-word-at-requires : tie.Need-word-at-requires
-word-at-requires c κs = search needs
+token-at-requires : tie.Need-token-at-requires
+token-at-requires c κs = search needs
 
 clamp-requires : tie.Need-clamp-requires
 clamp-requires c κs = search needs
@@ -28,4 +22,4 @@ returns c =
 
 pub first-token-spec : {M : Type 1} → statement M
 first-token-spec =
-    tie.close (tie.spec mul-word-at add-word-at word-at-requires clamp-requires returns)
+    tie.close (tie.spec token-at-requires clamp-requires returns)
