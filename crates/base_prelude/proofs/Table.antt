@@ -5,7 +5,7 @@ use mathlib.Core.Bool.{Bool, true, false}
 use mathlib.Core.List.{List, [], _∷_}
 use Prim.Native.Nat.{ℕ, zero, suc, _+_, _<_, _≤_}
 use native.Mathlib.Nat.{add-zero, zero-add, add-suc, suc-add, le-of-suc-le-suc, not-suc-le-zero}
-use native.Mathlib.Decide.{ℕ-discrete}
+use native.Mathlib.Decide.{decLt, ℕ-discrete}
 use native.Mathlib.Omega.{arith}
 use lib.Dec.{T, ltb}
 use lib.ListN.{length, getD}
@@ -95,3 +95,12 @@ among-past m k (x ∷ xs) t h =
     true-is : (b : Bool) → T b → b ≡ true
     true-is true t = refl
     true-is false t = absurd t
+
+-- a test that agrees with a list below the bound, and from it on is false, says what the list says
+pub among-by : (m : ℕ) (p : ℕ → Bool) (xs : List ℕ) → T (under (λ k. agree (isAmong k xs) (p k)) m) → T (low m xs) → ((k : ℕ) → m ≤ k → p k ≡ false)
+    → (k : ℕ) → p k ≡ isAmong k xs
+among-by m p xs t l f k =
+    elim (decLt k m) [
+      | yes h ↦ sym (agree-is (isAmong k xs) (p k) (under-at (λ i. agree (isAmong i xs) (p i)) m k t h))
+      | no h ↦ f k (omega arith) ∙ sym (among-past m k xs l (omega arith))
+    ]

@@ -2,3 +2,4 @@ pub mod Digits
 pub mod Gaps
 pub mod Cases
 pub mod Within
+pub mod Broken

@@ -26,7 +26,7 @@ use Rattle.lex_spelling.proofs.Ends.{name-byte, joined-from, joined-in}
 use Rattle.lex_spelling.proofs.Cases.{character-past}
 
 -- a value below its bound was read from a byte
-hex-byte : (c : ℕ) → hexOf c < 16 → c < 256
+pub hex-byte : (c : ℕ) → hexOf c < 16 → c < 256
 unfolding hexOf
 hex-byte c =
     either (λ (v : ℕ). v < 16 → c < 256) c 48 _ _ (λ h _. omega arith) (λ _.
@@ -36,7 +36,7 @@ hex-byte c =
     either (λ (v : ℕ). v < 16 → c < 256) c 97 _ _ (λ h _. omega arith) (λ _.
     either (λ (v : ℕ). v < 16 → c < 256) c 103 _ _ (λ h _. omega arith) (λ _ h. let z : ⊥ = omega arith in absurd z))))))
 
-plain-byte : (c : ℕ) → plainOf c < 256 → c < 256
+pub plain-byte : (c : ℕ) → plainOf c < 256 → c < 256
 unfolding plainOf
 plain-byte c =
     either-eq (λ (v : ℕ). v < 256 → c < 256) c 92 _ _ (λ h _. omega arith) (λ _.
@@ -50,9 +50,15 @@ abbrev pub EscapeIn : List ℕ → ℕ → Escaped → Type 0
 EscapeIn s at (Byte value next) = (at < next) × (next ≤ length s) × (value < 256)
 EscapeIn s at (Bad place) = (at ≤ place) × (place ≤ length s)
 
-bad-in : (s : List ℕ) (at : ℕ) → at < length s → EscapeIn s at (Bad (badPlace s at))
+pub bad-in : (s : List ℕ) (at : ℕ) → at < length s → EscapeIn s at (Bad (badPlace s at))
 unfolding badPlace
-bad-in s at w = (omega arith, omega arith)
+bad-in s at w =
+    either-eq (λ (p : ℕ). EscapeIn s at (Bad p)) (byteAt s (at + 1)) 120 _ _
+    (λ e. let v : at + 1 < length s = byte-within s (at + 1) (omega arith) in
+    either (λ (p : ℕ). EscapeIn s at (Bad p)) (hexOf (byteAt s (at + 2))) 16 _ _
+    (λ h. let u : at + 2 < length s = byte-within s (at + 2) (hex-byte (byteAt s (at + 2)) h) in (omega arith, omega arith))
+    (λ _. (omega arith, omega arith)))
+    (λ _. (omega arith, omega arith))
 
 pub escape-in : (s : List ℕ) (at : ℕ) → at < length s → EscapeIn s at (escapeAt s at)
 unfolding escapeAt hexAt plainAt

@@ -58,6 +58,22 @@ module _ (s : List ℕ) (at c : ℕ) (p : c ≡ byteAt s at) where
 
 pub ruleset joints = (joint-none, joint-yes, joint-no)
 
+module _ (s : List ℕ) (at c : ℕ) (p : c ≡ byteAt s (at + 1)) where
+  pub place-plain : (c ≡ 120 → ⊥) → at + 1 ≡ badPlace s at
+  unfolding badPlace
+  place-plain e = rw (← p) (search tests)
+
+  module _ (e : c ≡ 120) (x a : ℕ) (q : x ≡ byteAt s (at + 2)) (f : a ≡ hexOf x) where
+    pub place-first : 16 ≤ a → at + 2 ≡ badPlace s at
+    unfolding badPlace
+    place-first h = rw (← p, ← q, ← f) (search tests)
+
+    pub place-second : a < 16 → at + 3 ≡ badPlace s at
+    unfolding badPlace
+    place-second h = rw (← p, ← q, ← f) (search tests)
+
+pub ruleset places = (place-plain, place-first, place-second)
+
 module _ (s : List ℕ) (at : ℕ) where
   pub plain-good : (v : ℕ) → v < 256 → Byte v (at + 2) ≡ plainAt s at v
   unfolding plainAt

@@ -17,9 +17,13 @@ unfoldable pub plainOf : ℕ → ℕ
 plainOf c =
     ifEq c 92 92 (ifEq c 34 34 (ifEq c 110 10 (ifEq c 114 13 (ifEq c 116 9 (ifEq c 32 32 256)))))
 
--- refusal 3, "bad escape": its place is the backslash
+-- "For refusal 3 the place becomes the first byte that breaks the escape (the source's length if it ends there)": the byte after
+-- the backslash, or after `\x` the first of two that is no hex digit
 unfoldable pub badPlace : List ℕ → ℕ → ℕ
-badPlace s at = at
+badPlace s at =
+    ifEq (byteAt s (at + 1)) 120
+    (ifLt (hexOf (byteAt s (at + 2))) 16 (at + 3) (at + 2))
+    (at + 1)
 
 unfoldable pub plainAt : List ℕ → ℕ → ℕ → Escaped
 plainAt s at v = ifLt v 256 (Byte v (at + 2)) (Bad (badPlace s at))

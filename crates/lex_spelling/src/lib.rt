@@ -193,11 +193,18 @@ fn plain(c: u32) -> u32
     }
 }
 
-// The place that the refusal of a bad escape names.
+// The first byte that breaks a bad escape, or the end.
 fn bad_place(s: &[u8], at: usize) -> usize
+    requires { ⌜ at < length (now s) ⌝ }
     ensures { λ r. ⌜ r ≡ badPlace (now (s .entry)) at ⌝ }
 {
-    at
+    if base_prelude::byte_at(s, at + 1) == 120 {
+        if hex(base_prelude::byte_at(s, at + 2)) < 16 {
+            return at + 3;
+        }
+        return at + 2;
+    }
+    at + 1
 }
 
 fn plain_at(s: &[u8], at: usize, v: u32) -> Escaped

@@ -9,7 +9,7 @@ use Rattle.base_prelude.specs.Fault.{none, key}
 use Rattle.base_limits.specs.Limits.{tokens}
 use Rattle.base_limits.specs.declared.Width.the-variants.{Bits32}
 use Rattle.lex_source.specs.Token.{Token}
-use Rattle.lex_source.specs.Lex.{state, lexOf, tableOf}
+use Rattle.lex_source.specs.Lex.{state, refused, lexOf, tableOf}
 use Rattle.parse_verdict.specs.Verdict.{allFaults, Rising}
 use Rattle.parse_verdict.specs.Lexing.{tokenFaults, lexFaults}
 use Rattle.parse_verdict.proofs.Opened.{opened}
@@ -18,6 +18,21 @@ use Rattle.parse_verdict.proofs.Opened.{opened}
 every-token : lexFaults Bits32 (53 ∷ 120 ∷ 32 ∷ 54 ∷ 121 ∷ []) ≡ key 1 2 ∷ none ∷ key 4 2 ∷ none ∷ none ∷ []
 unfolding opened
 every-token = refl
+
+-- `ab\; !`: 3 at `;`, where no token is read, so neither 2 at `;` nor 2 at `!`
+broken-last : lexFaults Bits32 (97 ∷ 98 ∷ 92 ∷ 59 ∷ 32 ∷ 33 ∷ []) ≡ key 3 3 ∷ []
+unfolding opened
+broken-last = refl
+
+-- `"a\`, the source's end: 3 at it, and not 4 at the quote
+broken-end : lexFaults Bits32 (34 ∷ 97 ∷ 92 ∷ []) ≡ key 3 3 ∷ []
+unfolding opened
+broken-end = refl
+
+-- `5\q`: 2 at the backslash, which no integer may be followed by
+no-escape : lexOf Bits32 (53 ∷ 92 ∷ 113 ∷ []) ≡ refused (key 1 2)
+unfolding opened
+no-escape = refl
 
 -- some token
 one : Token

@@ -38,17 +38,17 @@ not-refused k ts e = let z : _≡_ {A = ℕ} 0 1 = cc in omega arith
 
 module _ (w : Width) (s : List ℕ) where
   -- what is read from a state, and its fault
-  abbrev readIn : State → Reading
+  abbrev pub readIn : State → Reading
   readIn q = nextRead w s (q .at)
 
-  abbrev faultIn : State → ℕ
+  abbrev pub faultIn : State → ℕ
   faultIn q = faultOf s (length (q .tokens)) (nextRead w s (q .at))
 
-  step-fault : (q : State) → faultIn q < none → lexStep w s q ≡ stop (refused (faultIn q))
+  pub step-fault : (q : State) → faultIn q < none → lexStep w s q ≡ stop (refused (faultIn q))
   unfolding lexStep readStep
   step-fault q h = ifLt-yes _ _ h
 
-  step-fine : (q : State) → none ≤ faultIn q → lexStep w s q ≡ tokenStep w s q (readIn q)
+  pub step-fine : (q : State) → none ≤ faultIn q → lexStep w s q ≡ tokenStep w s q (readIn q)
   unfolding lexStep readStep
   step-fine q h = ifLt-no _ _ h
 
@@ -259,11 +259,11 @@ module _ (w : Width) (s : List ℕ) (l : length s ≤ 16384) where
   skip-first k q h = omega (arith, cons-is k q, least-none (behindIn k q))
 
   -- what stops without a fault has the key none
-  abbrev StopsClean : Step State Outcome → Type 0
+  abbrev pub StopsClean : Step State Outcome → Type 0
   StopsClean (go y) = Unit {0}
   StopsClean (stop r) = lexKey r ≡ none
 
-  token-stops : (q : State) (r : Reading) → StopsClean (tokenStep w s q r)
+  pub token-stops : (q : State) (r : Reading) → StopsClean (tokenStep w s q r)
   unfolding tokenStep
   token-stops q End = refl
   token-stops q (Lone p) = refl

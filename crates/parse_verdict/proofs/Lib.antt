@@ -3,5 +3,6 @@ pub mod Decided
 pub mod Lexed
 pub mod Counts
 pub mod Lexing
+pub mod Escapes
 pub mod Opened
 pub mod Examples

@@ -1,10 +1,8 @@
 -- The ranges of kinds that the code tests say what the lists of specs/Exports say.
 -- Assumes nothing.
-use mathlib.Core.Path.{_≡_, refl, sym, _∙_}
+use mathlib.Core.Path.{_≡_, _∙_}
 use mathlib.Core.Bool.{Bool, true, false}
-use mathlib.Core.List.{List}
 use Prim.Native.Nat.{ℕ, suc, _≤_, _<_}
-use native.Mathlib.Decide.{decLt}
 use native.Mathlib.Omega.{arith}
 use lib.Dec.{T, ltb}
 use borrow.Author.Tests.{le-ltb}
@@ -12,21 +10,12 @@ use Rattle.base_prelude.specs.Choice.{ifLt, ifEq}
 use Rattle.base_prelude.specs.Lists.{isAmong}
 use Rattle.base_prelude.proofs.Choice.{ifLt-no, ifEq-no}
 use Rattle.lang_kinds.specs.Kinds as kind
-use Rattle.base_prelude.proofs.Table.{under, under-at, agree, agree-is, low, among-past}
+use Rattle.base_prelude.proofs.Table.{under, agree, among-by}
 use Rattle.res_exports.specs.Exports.{definitions, isDefinition, searchEnds, endsSearch}
 
 -- past every kind of line
 abbrev pastKinds : ℕ
 pastKinds = suc kind.unknown
-
--- a test that agrees with a list below a bound, and past it is false, says what the list says
-test-by : (p : ℕ → Bool) (xs : List ℕ) → T (under (λ k. agree (isAmong k xs) (p k)) pastKinds) → T (low pastKinds xs) → ((k : ℕ) → pastKinds ≤ k → p k ≡ false)
-    → (k : ℕ) → p k ≡ isAmong k xs
-test-by p xs t l f k =
-    elim (decLt k pastKinds) [
-      | yes h ↦ sym (agree-is (isAmong k xs) (p k) (under-at (λ i. agree (isAmong i xs) (p i)) pastKinds k t h))
-      | no h ↦ f k (omega arith) ∙ sym (among-past pastKinds k xs l (omega arith))
-    ]
 
 -- one kind, or those from a to before b: past the bound there is none
 range-past : (i a b k : ℕ) → i < pastKinds → a ≤ pastKinds → b ≤ pastKinds → pastKinds ≤ k → ifEq k i true (ifLt k a false (ltb k b)) ≡ false
@@ -42,7 +31,7 @@ definitions-agree = tt
 pub definition-by : (k : ℕ) (b : Bool) → b ≡ definitionRange k → b ≡ isDefinition k
 unfolding isDefinition
 definition-by k b e =
-    e ∙ test-by definitionRange definitions definitions-agree tt (λ i h. range-past kind.function kind.byte kind.endGroup i (omega arith) (omega arith) (omega arith) h) k
+    e ∙ among-by pastKinds definitionRange definitions definitions-agree tt (λ i h. range-past kind.function kind.byte kind.endGroup i (omega arith) (omega arith) (omega arith) h) k
 
 abbrev pub endRange : ℕ → Bool
 endRange k = ifEq k kind.edge true (ifLt k kind.sectionData false (ltb k kind.export))
@@ -54,4 +43,4 @@ ends-agree = tt
 pub ends-by : (k : ℕ) (b : Bool) → b ≡ endRange k → b ≡ endsSearch k
 unfolding endsSearch
 ends-by k b e =
-    e ∙ test-by endRange searchEnds ends-agree tt (λ i h. range-past kind.edge kind.sectionData kind.export i (omega arith) (omega arith) (omega arith) h) k
+    e ∙ among-by pastKinds endRange searchEnds ends-agree tt (λ i h. range-past kind.edge kind.sectionData kind.export i (omega arith) (omega arith) (omega arith) h) k
