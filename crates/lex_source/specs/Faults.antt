@@ -21,7 +21,7 @@ loneRule (Broken p) = none
 loneRule (Open p) = none
 loneRule (Whole x) = none
 
--- 3: "bad escape"; "a bad escape is its token's only refusal"
+-- 3: "bad escape", at "the first byte that breaks the escape"; "a bad escape is its token's only refusal"
 unfoldable pub escapeRule : Reading → ℕ
 escapeRule End = none
 escapeRule (Lone p) = none

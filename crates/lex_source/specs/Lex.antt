@@ -31,7 +31,8 @@ pub data Outcome : Type 0 where
   accepted : List Token → Outcome
   refused : ℕ → Outcome
 
--- what is read has no fault: a token more, or the end; what is no token always has one
+-- what is read has no fault: a token more, or the end; what is no token always has one, and of a bad escape "no token is read from
+-- it on"
 unfoldable pub tokenStep : Width → List ℕ → State → Reading → Step State Outcome
 tokenStep w s q End = stop (accepted (q .tokens))
 tokenStep w s q (Lone p) = stop (refused none)
