@@ -1,6 +1,7 @@
 /*
  * The edges of include/voodoo.h, for the gate: NULL with length 0 for every buffer of every function, records that
- * hold no state, a budget of 0. Prints what differs and how many calls answered as they must; exit status 1 if one did not.
+ * hold no state, a budget of 0, places of bad escapes up to the source's length. Prints what differs and how many calls
+ * answered as they must; exit status 1 if one did not.
  */
 #include "voodoo.h"
 
@@ -115,9 +116,24 @@ static void unlisted(uint32_t state, uint32_t number)
     expect("the record", (int)number, memcmp(before, record, sizeof before) == 0, 1);
 }
 
+/* A source that is refused before any table is needed: its number and place. */
+static void refused(const char *source, uint32_t number, uint32_t place)
+{
+    uint32_t given = voodoo_check((const uint8_t *)source, strlen(source), NULL, 0, NULL, 0, NULL, 0, NULL, 0, NULL, 0, checked,
+                                  VOODOO_RESULT_WORDS);
+    expect(source, 0, given, number);
+    expect(source, 6, checked[VOODOO_PLACE], place);
+}
+
 int main(void)
 {
     leave_out_each();
+    refused("a\\q", VOODOO_BAD_ESCAPE, 2);
+    refused("\"\\x4g\"", VOODOO_BAD_ESCAPE, 4);
+    refused("\"a\\x\n\"", VOODOO_BAD_ESCAPE, 4);
+    refused("\\", VOODOO_BAD_ESCAPE, 1);
+    refused("@a\\x4", VOODOO_BAD_ESCAPE, 5);
+    refused("5\\q", VOODOO_NO_TOKEN, 1);
     unlisted(0, 0);
     unlisted(4, 30);
     unlisted(VOODOO_STATE_STOPPED, 0);

@@ -40,7 +40,6 @@ static uint32_t result[VOODOO_RESULT_WORDS];
 static const char *const meanings[] = {
     [VOODOO_SOURCE_TOO_LONG] = "source longer than 16,384 bytes",
     [VOODOO_NO_TOKEN] = "no token can be read here",
-    [VOODOO_BAD_ESCAPE] = "bad escape",
     [VOODOO_OPEN_STRING] = "string not closed on its line",
     [VOODOO_BIG_INTEGER] = "integer out of range",
     [VOODOO_LONG_NAME] = "name longer than 64 bytes",
@@ -211,6 +210,26 @@ static int read_source(const char *path)
     return failed ? MISUSED : OK;
 }
 
+/* What would have gone on with the escape that breaks at a place: behind its backslash, or behind \x. */
+static const char *escape_meaning(size_t place)
+{
+    bool ends = place == source_size;
+    if (source[place - 1] == '\\')
+        return ends ? "bad escape: the source ends behind the backslash"
+                    : "bad escape: one of \\ \" n r t x or a space is expected here";
+    return ends ? "bad escape: the source ends where a hex digit is expected" : "bad escape: a hex digit is expected here";
+}
+
+/* What a refusal means at its place. */
+static const char *meaning(uint32_t number, size_t place)
+{
+    if (number == VOODOO_BAD_ESCAPE)
+        return escape_meaning(place);
+    if (number == VOODOO_NOT_HERE && place == source_size)
+        return "the source ends while something is open";
+    return meanings[number];
+}
+
 /* Reads and checks a file; shows the place of a refusal. */
 static int check(const char *path)
 {
@@ -223,8 +242,7 @@ static int check(const char *path)
     if (number == VOODOO_ACCEPTED)
         return OK;
     size_t place = checked[VOODOO_PLACE];
-    bool open = number == VOODOO_NOT_HERE && place == source_size;
-    show(path, place, "refusal", number, open ? "the source ends while something is open" : meanings[number]);
+    show(path, place, "refusal", number, meaning(number, place));
     return REFUSED;
 }
 

@@ -83,19 +83,24 @@ extern "C" {
 /* The words of `result`. */
 enum {
     VOODOO_NUMBER,     /* 0: accepted; else the refusal, 1 to 17           */
-    VOODOO_PLACE,      /* refused: a byte of the source, counted from 0    */
+    VOODOO_PLACE,      /* refused: a byte of the source, counted from 0; its
+                          length where the source ends too early (3, 8)    */
     VOODOO_TOKENS,     /* accepted: rows of `tokens` in use                */
     VOODOO_STATEMENTS, /* accepted: rows of `statements` in use            */
     VOODOO_LABELS,     /* accepted: rows of `labels` and `names` in use    */
     VOODOO_DATA        /* accepted: bytes of `data` in use                 */
 };
 
-/* The refusals. The place is what stands in brackets. */
+/*
+ * The refusals. The place is what stands in brackets; a number that is added later
+ * has one only where its line says so.
+ */
 enum {
     VOODOO_ACCEPTED        = 0,
     VOODOO_SOURCE_TOO_LONG = 1,  /* more than 16,384 bytes [16,384]              */
     VOODOO_NO_TOKEN        = 2,  /* no token can be read here [the byte]         */
-    VOODOO_BAD_ESCAPE      = 3,  /* [its backslash]                              */
+    VOODOO_BAD_ESCAPE      = 3,  /* [the first byte that breaks it; the source's
+                                    length if the source ends there]             */
     VOODOO_OPEN_STRING     = 4,  /* open at the end of its line or of the source
                                     [its start]                                  */
     VOODOO_BIG_INTEGER     = 5,  /* integer out of range [its start]             */
