@@ -14,7 +14,6 @@ use Rattle.lex_spelling.specs.Text.{spelledAt, measured}
 use Rattle.lex_spelling.specs.declared.Ending.{Ending}
 use Rattle.lex_spelling.specs.declared.Ending.the-variants as ending
 use Rattle.lex_spelling.proofs.Broken.{EndingBreaks, text-breaks}
-use Rattle.lex_lexeme.specs.Number.{digitsAt}
 use Rattle.lex_lexeme.specs.Gap.{gapEnd}
 use Rattle.lex_lexeme.specs.Reading.{startsSymbol, startsInteger, symbolEnd, symbolBy, symbolAt, stringTo, stringEnd, stringBy, stringRead, integerBy, digitsRead, integerAt, markedFrom, markedAt, atFrom, atRead, plainRead, readAt, nextRead}
 use Rattle.lex_lexeme.specs.declared.Reading.{Reading}

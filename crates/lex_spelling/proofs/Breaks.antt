@@ -1,10 +1,10 @@
 -- An escape is bad exactly when a byte breaks it, and its place is that byte, the only one that does.
 -- Assumes nothing.
-use mathlib.Core.Path.{_≡_, refl, sym, _∙_, ap, subst}
+use mathlib.Core.Path.{_≡_, refl, sym, _∙_, ap}
 use mathlib.Core.Bool.{Bool, true, false}
 use mathlib.Core.List.{List, [], _∷_}
 use mathlib.Core.Logic.{_⊎_, inl, inr, ⊎-elim}
-use Prim.Native.Nat.{ℕ, zero, suc, _+_, _-_, _*_, _≤_, _<_}
+use Prim.Native.Nat.{ℕ, zero, suc, _+_, _-_, _≤_, _<_}
 use native.Mathlib.Nat.{le-of-suc-le-suc, not-suc-le-zero}
 use native.Mathlib.Decide.{decLt}
 use native.Mathlib.Omega.{arith}
@@ -16,9 +16,9 @@ use Rattle.base_prelude.specs.Bytes.{byteAt}
 use Rattle.base_prelude.specs.Lists.{isAmong}
 use Rattle.base_prelude.proofs.Choice.{either, either-eq, either-true, true-false, ifTrue-yes}
 use Rattle.base_prelude.proofs.Bytes.{byte-within}
-use Rattle.base_prelude.proofs.Table.{under, agree, among-by}
+use Rattle.base_prelude.proofs.Table.{under, agree, low, among-by}
 use Rattle.lex_spelling.specs.Escape.{hexOf, plainOf, badPlace, plainAt, hexAt, escapeAt}
-use Rattle.lex_spelling.specs.Breaks.{Pattern, hexDigits, shortBytes, patterns, begins, goesOn, somePattern, bytesFrom, Breaks}
+use Rattle.lex_spelling.specs.Breaks.{Pattern, hexDigits, shortBytes, patterns, begins, goesOn, somePattern, escapeBegins, escapeGoesOn, bytesFrom, Breaks}
 use Rattle.lex_spelling.specs.declared.Escaped.{Escaped}
 use Rattle.lex_spelling.specs.declared.Escaped.the-variants.{Byte, Bad}
 use Rattle.lex_spelling.proofs.Ahead.{hex-byte, plain-byte, bad-in}
@@ -26,39 +26,48 @@ use Rattle.lex_spelling.proofs.Cases.{place-plain, place-first, place-s
 
 -- ---- the lists of bytes say what the tests of specs/Escape say
 
+-- a list that agrees with a test below 256, where only bytes pass the test
+module _ (value : ℕ → ℕ) (m : ℕ) (xs : List ℕ) (t : T (under (λ k. agree (isAmong k xs) (ltb (value k) m)) 256)) (l : T (low 256 xs))
+    (byte : (c : ℕ) → value c < m → c < 256) where
+  listed : (c : ℕ) → ltb (value c) m ≡ isAmong c xs
+  listed c = among-by 256 (λ k. ltb (value k) m) xs t l (λ k h. le-ltb (value k) m (past k h)) c
+    where
+      past : (k : ℕ) → 256 ≤ k → m ≤ value k
+      past k h = elim (decLt (value k) m) [ yes g ↦ let z : ⊥ = omega (arith, byte k g) in absurd z | no g ↦ omega arith ]
+
+  listed-yes : (c : ℕ) → value c < m → isAmong c xs ≡ true
+  listed-yes c h = sym (listed c) ∙ lt-ltb (value c) m h
+
+  listed-no : (c : ℕ) → m ≤ value c → isAmong c xs ≡ false
+  listed-no c h = sym (listed c) ∙ le-ltb (value c) m h
+
 hex-agree : T (under (λ k. agree (isAmong k hexDigits) (ltb (hexOf k) 16)) 256)
 unfolding isAmong hexDigits hexOf ifLt
 hex-agree = tt
 
-hex-is : (c : ℕ) → ltb (hexOf c) 16 ≡ isAmong c hexDigits
+hex-low : T (low 256 hexDigits)
 unfolding hexDigits
-hex-is c = among-by 256 (λ k. ltb (hexOf k) 16) hexDigits hex-agree tt (λ k h. le-ltb (hexOf k) 16 (past k h)) c
-  where
-    past : (k : ℕ) → 256 ≤ k → 16 ≤ hexOf k
-    past k h = elim (decLt (hexOf k) 16) [ yes l ↦ let z : ⊥ = omega (arith, hex-byte k l) in absurd z | no l ↦ omega arith ]
+hex-low = tt
+
+hex-yes : (c : ℕ) → hexOf c < 16 → isAmong c hexDigits ≡ true
+hex-yes = listed-yes hexOf 16 hexDigits hex-agree hex-low hex-byte
+
+hex-no : (c : ℕ) → 16 ≤ hexOf c → isAmong c hexDigits ≡ false
+hex-no = listed-no hexOf 16 hexDigits hex-agree hex-low hex-byte
 
 short-agree : T (under (λ k. agree (isAmong k shortBytes) (ltb (plainOf k) 256)) 256)
 unfolding isAmong shortBytes plainOf ifEq
 short-agree = tt
 
-short-is : (c : ℕ) → ltb (plainOf c) 256 ≡ isAmong c shortBytes
+short-low : T (low 256 shortBytes)
 unfolding shortBytes
-short-is c = among-by 256 (λ k. ltb (plainOf k) 256) shortBytes short-agree tt (λ k h. le-ltb (plainOf k) 256 (past k h)) c
-  where
-    past : (k : ℕ) → 256 ≤ k → 256 ≤ plainOf k
-    past k h = elim (decLt (plainOf k) 256) [ yes l ↦ let z : ⊥ = omega (arith, plain-byte k l) in absurd z | no l ↦ omega arith ]
-
-hex-yes : (c : ℕ) → hexOf c < 16 → isAmong c hexDigits ≡ true
-hex-yes c h = sym (hex-is c) ∙ lt-ltb (hexOf c) 16 h
-
-hex-no : (c : ℕ) → 16 ≤ hexOf c → isAmong c hexDigits ≡ false
-hex-no c h = sym (hex-is c) ∙ le-ltb (hexOf c) 16 h
+short-low = tt
 
 short-yes : (c : ℕ) → plainOf c < 256 → isAmong c shortBytes ≡ true
-short-yes c h = sym (short-is c) ∙ lt-ltb (plainOf c) 256 h
+short-yes = listed-yes plainOf 256 shortBytes short-agree short-low plain-byte
 
 short-no : (c : ℕ) → 256 ≤ plainOf c → isAmong c shortBytes ≡ false
-short-no c h = sym (short-is c) ∙ le-ltb (plainOf c) 256 h
+short-no = listed-no plainOf 256 shortBytes short-agree short-low plain-byte
 
 slash-is : isAmong 92 (92 ∷ []) ≡ true
 unfolding isAmong
@@ -78,60 +87,54 @@ not-x c h = ap (λ (b : Bool). pick b true false) (ne-eqb c 120 h)
 
 -- ---- which bytes begin an escape
 
-abbrev someGoesOn : List ℕ → Bool
-someGoesOn bs = somePattern (λ f. goesOn f bs) patterns
-
-abbrev someBegins : List ℕ → Bool
-someBegins bs = somePattern (λ f. begins f bs) patterns
-
-one-goes : someGoesOn (92 ∷ []) ≡ true
+one-goes : escapeGoesOn (92 ∷ []) ≡ true
 unfolding somePattern goesOn patterns ifTrue
 one-goes = rw slash-is
 
 module _ (c : ℕ) (n : c ≡ 120 → ⊥) where
-  short-broken : 256 ≤ plainOf c → someBegins (92 ∷ c ∷ []) ≡ false
+  short-broken : 256 ≤ plainOf c → escapeBegins (92 ∷ c ∷ []) ≡ false
   unfolding somePattern begins patterns ifTrue
   short-broken h = rw (slash-is, short-no c h, not-x c n)
 
-  short-begins : plainOf c < 256 → someBegins (92 ∷ c ∷ []) ≡ true
+  short-begins : plainOf c < 256 → escapeBegins (92 ∷ c ∷ []) ≡ true
   unfolding somePattern begins patterns ifTrue
   short-begins h = rw (slash-is, short-yes c h)
 
-  short-ends : (bs : List ℕ) → plainOf c < 256 → someGoesOn (92 ∷ c ∷ bs) ≡ false
+  short-ends : (bs : List ℕ) → plainOf c < 256 → escapeGoesOn (92 ∷ c ∷ bs) ≡ false
   unfolding somePattern goesOn patterns ifTrue
   short-ends bs h = rw (slash-is, short-yes c h, not-x c n)
 
-x-goes : someGoesOn (92 ∷ 120 ∷ []) ≡ true
+x-goes : escapeGoesOn (92 ∷ 120 ∷ []) ≡ true
 unfolding somePattern goesOn patterns ifTrue
 x-goes = rw (slash-is, x-not-short, x-is)
 
-x-begins : someBegins (92 ∷ 120 ∷ []) ≡ true
+x-begins : escapeBegins (92 ∷ 120 ∷ []) ≡ true
 unfolding somePattern begins patterns ifTrue
 x-begins = rw (slash-is, x-not-short, x-is)
 
 module _ (a : ℕ) where
-  first-broken : 16 ≤ hexOf a → someBegins (92 ∷ 120 ∷ a ∷ []) ≡ false
+  first-broken : 16 ≤ hexOf a → escapeBegins (92 ∷ 120 ∷ a ∷ []) ≡ false
   unfolding somePattern begins patterns ifTrue
   first-broken h = rw (slash-is, x-not-short, x-is, hex-no a h)
 
   module _ (g : hexOf a < 16) where
-    first-goes : someGoesOn (92 ∷ 120 ∷ a ∷ []) ≡ true
+    first-goes : escapeGoesOn (92 ∷ 120 ∷ a ∷ []) ≡ true
     unfolding somePattern goesOn patterns ifTrue
     first-goes = rw (slash-is, x-not-short, x-is, hex-yes a g)
 
-    first-begins : someBegins (92 ∷ 120 ∷ a ∷ []) ≡ true
+    first-begins : escapeBegins (92 ∷ 120 ∷ a ∷ []) ≡ true
     unfolding somePattern begins patterns ifTrue
     first-begins = rw (slash-is, x-not-short, x-is, hex-yes a g)
 
-    second-broken : (b : ℕ) → 16 ≤ hexOf b → someBegins (92 ∷ 120 ∷ a ∷ b ∷ []) ≡ false
+    second-broken : (b : ℕ) → 16 ≤ hexOf b → escapeBegins (92 ∷ 120 ∷ a ∷ b ∷ []) ≡ false
     unfolding somePattern begins patterns ifTrue
     second-broken b h = rw (slash-is, x-not-short, x-is, hex-yes a g, hex-no b h)
 
-    second-begins : (b : ℕ) → hexOf b < 16 → someBegins (92 ∷ 120 ∷ a ∷ b ∷ []) ≡ true
+    second-begins : (b : ℕ) → hexOf b < 16 → escapeBegins (92 ∷ 120 ∷ a ∷ b ∷ []) ≡ true
     unfolding somePattern begins patterns ifTrue
     second-begins b h = rw (slash-is, x-not-short, x-is, hex-yes a g, hex-yes b h)
 
-    second-ends : (b : ℕ) (bs : List ℕ) → hexOf b < 16 → someGoesOn (92 ∷ 120 ∷ a ∷ b ∷ bs) ≡ false
+    second-ends : (b : ℕ) (bs : List ℕ) → hexOf b < 16 → escapeGoesOn (92 ∷ 120 ∷ a ∷ b ∷ bs) ≡ false
     unfolding somePattern goesOn patterns ifTrue
     second-ends b bs h = rw (slash-is, x-not-short, x-is, hex-yes a g, hex-yes b h)
 
@@ -207,19 +210,19 @@ module _ (s : List ℕ) (at : ℕ) where
 
     -- an escape that breaks behind n bytes
     breaks-behind : (n p : ℕ) (bs cs : List ℕ) → p ≡ at + suc n → p ≡ badPlace s at → bytesFrom (suc n) s at ≡ bs → bytesFrom (suc (suc n)) s at ≡ cs
-        → someGoesOn bs ≡ true → someBegins cs ≡ false → Breaks s at (badPlace s at)
+        → escapeGoesOn bs ≡ true → escapeBegins cs ≡ false → Breaks s at (badPlace s at)
     breaks-behind n p bs cs q r f g h k =
         let z : badPlace s at - at ≡ suc n = omega arith in
         record {
           behind = omega arith;
           within = bad-in s at here .1;
-          begun = ap (λ (m : ℕ). someGoesOn (bytesFrom m s at)) z ∙ ap someGoesOn f ∙ h;
-          broken = ap (λ (m : ℕ). someBegins (bytesFrom (suc m) s at)) z ∙ ap someBegins g ∙ k;
+          begun = ap (λ (m : ℕ). escapeGoesOn (bytesFrom m s at)) z ∙ ap escapeGoesOn f ∙ h;
+          broken = ap (λ (m : ℕ). escapeBegins (bytesFrom (suc m) s at)) z ∙ ap escapeBegins g ∙ k;
         }
 
     -- none breaks behind n bytes: an escape has begun with one more, or none goes on behind them
     abbrev Holds : ℕ → Type 0
-    Holds n = (someBegins (bytesFrom (suc n) s at) ≡ true) ⊎ (someGoesOn (bytesFrom n s at) ≡ false)
+    Holds n = (escapeBegins (bytesFrom (suc n) s at) ≡ true) ⊎ (escapeGoesOn (bytesFrom n s at) ≡ false)
 
     none-breaks : ((n : ℕ) → Holds (suc n)) → (p : ℕ) → Breaks s at p → ⊥
     none-breaks h p b = by (p - at) refl
@@ -228,15 +231,15 @@ module _ (s : List ℕ) (at : ℕ) where
         by zero q = let z : ⊥ = omega (arith, b .behind) in z
         by (suc n) q =
             ⊎-elim
-            (λ f. true-false (sym (ap (λ (m : ℕ). someBegins (bytesFrom (suc m) s at)) q ∙ f) ∙ b .broken))
-            (λ f. true-false (sym (b .begun) ∙ ap (λ (m : ℕ). someGoesOn (bytesFrom m s at)) q ∙ f))
+            (λ f. true-false (sym (ap (λ (m : ℕ). escapeBegins (bytesFrom (suc m) s at)) q ∙ f) ∙ b .broken))
+            (λ f. true-false (sym (b .begun) ∙ ap (λ (m : ℕ). escapeGoesOn (bytesFrom m s at)) q ∙ f))
             (h n)
 
     module _ (n : byteAt s (at + 1) ≡ 120 → ⊥) where
       short-holds : plainOf (byteAt s (at + 1)) < 256 → (k : ℕ) → Holds (suc k)
       unfolding bytesFrom
-      short-holds h zero = inl (ap someBegins (from-two zero _ refl) ∙ short-begins _ n h)
-      short-holds h (suc k) = inr (ap someGoesOn (from-two k _ refl) ∙ short-ends _ n _ h)
+      short-holds h zero = inl (ap escapeBegins (from-two zero _ refl) ∙ short-begins _ n h)
+      short-holds h (suc k) = inr (ap escapeGoesOn (from-two k _ refl) ∙ short-ends _ n _ h)
 
       plain-judged : Judged (plainAt s at (plainOf (byteAt s (at + 1))))
       unfolding plainAt bytesFrom
@@ -248,10 +251,10 @@ module _ (s : List ℕ) (at : ℕ) where
     module _ (x : byteAt s (at + 1) ≡ 120) where
       hex-holds : hexOf (byteAt s (at + 2)) < 16 → hexOf (byteAt s (at + 3)) < 16 → (k : ℕ) → Holds (suc k)
       unfolding bytesFrom
-      hex-holds h g zero = inl (ap someBegins (from-two zero 120 x) ∙ x-begins)
-      hex-holds h g (suc zero) = inl (ap someBegins (from-three zero 120 _ x refl) ∙ first-begins _ h)
-      hex-holds h g (suc (suc zero)) = inl (ap someBegins (from-four zero 120 _ _ x refl refl) ∙ second-begins _ h _ g)
-      hex-holds h g (suc (suc (suc k))) = inr (ap someGoesOn (from-four k 120 _ _ x refl refl) ∙ second-ends _ h _ _ g)
+      hex-holds h g zero = inl (ap escapeBegins (from-two zero 120 x) ∙ x-begins)
+      hex-holds h g (suc zero) = inl (ap escapeBegins (from-three zero 120 _ x refl) ∙ first-begins _ h)
+      hex-holds h g (suc (suc zero)) = inl (ap escapeBegins (from-four zero 120 _ _ x refl refl) ∙ second-begins _ h _ g)
+      hex-holds h g (suc (suc (suc k))) = inr (ap escapeGoesOn (from-four k 120 _ _ x refl refl) ∙ second-ends _ h _ _ g)
 
       hex-judged : Judged (hexAt s at (hexOf (byteAt s (at + 2))) (hexOf (byteAt s (at + 3))))
       unfolding hexAt bytesFrom

@@ -2,17 +2,14 @@
 -- Assumes nothing.
 use mathlib.Core.Path.{_≡_, refl, sym}
 use mathlib.Core.Bool.{true, false}
-use mathlib.Core.List.{List, [], _∷_}
-use Prim.Native.Nat.{ℕ, _-_}
-use lib.ListN.{length}
+use mathlib.Core.List.{[], _∷_}
 use native.Mathlib.Omega.{arith}
 use Rattle.base_prelude.specs.Choice.{ifLt, ifEq, ifTrue}
 use Rattle.base_prelude.specs.Bytes.{byteAt}
 use Rattle.base_prelude.specs.Lists.{isAmong}
 use Rattle.base_prelude.proofs.Choice.{true-false}
 use Rattle.lex_spelling.specs.Escape.{hexOf, plainOf, badPlace, plainAt, hexAt, escapeAt}
-use Rattle.lex_spelling.specs.Breaks.{hexDigits, shortBytes, patterns, begins, goesOn, somePattern, bytesFrom, Breaks}
-use Rattle.lex_spelling.specs.declared.Escaped.{Escaped}
+use Rattle.lex_spelling.specs.Breaks.{hexDigits, shortBytes, patterns, begins, goesOn, somePattern, escapeBegins, bytesFrom, Breaks}
 use Rattle.lex_spelling.specs.declared.Escaped.the-variants.{Byte, Bad}
 
 -- `\q`; `\X41`; a backslash before byte 13; a backslash at the source's end
@@ -33,12 +30,12 @@ unfolding escapeAt hexAt plainAt badPlace hexOf plainOf byteAt ifEq ifLt
 second-places = (refl, refl, refl)
 
 -- `\t` is an escape, `\q` begins none
-short-begun : (somePattern (λ f. begins f (92 ∷ 116 ∷ [])) patterns ≡ true) × (somePattern (λ f. begins f (92 ∷ 113 ∷ [])) patterns ≡ false)
+short-begun : (escapeBegins (92 ∷ 116 ∷ []) ≡ true) × (escapeBegins (92 ∷ 113 ∷ []) ≡ false)
 unfolding somePattern patterns begins shortBytes hexDigits isAmong ifTrue
 short-begun = (refl, refl)
 
 -- `\x4F` is an escape, `\x4G` begins none
-hex-begun : (somePattern (λ f. begins f (92 ∷ 120 ∷ 52 ∷ 70 ∷ [])) patterns ≡ true) × (somePattern (λ f. begins f (92 ∷ 120 ∷ 52 ∷ 71 ∷ [])) patterns ≡ false)
+hex-begun : (escapeBegins (92 ∷ 120 ∷ 52 ∷ 70 ∷ []) ≡ true) × (escapeBegins (92 ∷ 120 ∷ 52 ∷ 71 ∷ []) ≡ false)
 unfolding somePattern patterns begins shortBytes hexDigits isAmong ifTrue
 hex-begun = (refl, refl)
 

@@ -47,18 +47,26 @@ unfoldable pub somePattern : (Pattern → Bool) → List Pattern → Bool
 somePattern p [] = false
 somePattern p (f ∷ fs) = ifTrue (p f) true (somePattern p fs)
 
+-- an escape begins with these bytes, or is these bytes
+abbrev pub escapeBegins : List ℕ → Bool
+escapeBegins bs = somePattern (λ f. begins f bs) patterns
+
+-- an escape begins with these bytes and goes on behind them
+abbrev pub escapeGoesOn : List ℕ → Bool
+escapeGoesOn bs = somePattern (λ f. goesOn f bs) patterns
+
 -- n bytes from a place on; 256 stands for the end of the source
 unfoldable pub bytesFrom : ℕ → List ℕ → ℕ → List ℕ
 bytesFrom zero s at = []
 bytesFrom (suc n) s at = byteAt s at ∷ bytesFrom n s (at + 1)
 
--- the first byte that breaks the escape whose backslash stands at a place: with what stands before it an escape has begun and is not
--- ended, with it none has begun
+-- p is the first byte that breaks the escape whose backslash stands at a place: an escape begins with what stands before p and goes
+-- on, and none begins with that and the byte at p; or the source ends at p
 pub record Breaks (s : List ℕ) (at p : ℕ) : Type 0 where
   pub behind : at < p
   pub within : p ≤ length s
-  pub begun : somePattern (λ f. goesOn f (bytesFrom (p - at) s at)) patterns ≡ true
-  pub broken : somePattern (λ f. begins f (bytesFrom (suc (p - at)) s at)) patterns ≡ false
+  pub begun : escapeGoesOn (bytesFrom (p - at) s at) ≡ true
+  pub broken : escapeBegins (bytesFrom (suc (p - at)) s at) ≡ false
 
 -- an escape of the source breaks at a place
 abbrev pub EscapeBreaks : List ℕ → ℕ → Type 0

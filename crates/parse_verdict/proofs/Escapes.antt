@@ -1,16 +1,15 @@
 -- Refusal 3 stands where an escape breaks.
 -- Assumes nothing.
 use mathlib.Core.Path.{_≡_, refl, sym, _∙_, ap, subst}
-use mathlib.Core.List.{List, [], _∷_}
-use Prim.Native.Nat.{ℕ, zero, suc, _+_, _*_, _/_, _%_, _≤_, _<_, min}
-use native.Mathlib.Nat.{min-eq-left, min-eq-right}
+use mathlib.Core.List.{List, []}
+use Prim.Native.Nat.{ℕ, zero, suc, _≤_, _<_, min}
 use native.Mathlib.Decide.{decLt}
 use native.Mathlib.Omega.{arith}
 use lib.ListN.{length}
 use Rattle.base_prelude.specs.Bytes.{byteAt}
 use Rattle.base_prelude.specs.Fault.{none, key, keyPlace, keyNumber}
 use Rattle.base_prelude.specs.Walk.{Step, go, stop, walk}
-use Rattle.base_prelude.proofs.Choice.{either, either-true, ifLt-yes, ifLt-no}
+use Rattle.base_prelude.proofs.Choice.{either, either-true, ifLt-no}
 use Rattle.base_prelude.proofs.Keys.{key-place}
 use Rattle.base_prelude.proofs.Walk.{walk-go, walk-stop}
 use Rattle.base_limits.specs.Limits.{nameBytes, sourceBytes, tokens}
@@ -24,10 +23,10 @@ use Rattle.lex_lexeme.specs.declared.Reading.{Reading}
 use Rattle.lex_lexeme.specs.declared.Reading.the-variants.{End, Lone, Broken, Open, Whole}
 use Rattle.lex_lexeme.proofs.Broken.{ReadingBreaks, next-breaks}
 use Rattle.lex_source.specs.Faults.{rangeFault, lengthFault, limitFault, followFault, faultOf}
-use Rattle.lex_source.specs.Lex.{State, state, Outcome, accepted, refused, tokenStep, lexStep, tokensFrom, lexOf}
+use Rattle.lex_source.specs.Lex.{State, state, Outcome, refused, tokenStep, lexStep, tokensFrom, lexOf}
 use Rattle.lex_source.proofs.Least.{fault-end, fault-lone, fault-broken, fault-open, fault-whole}
 use Rattle.parse_verdict.specs.Lexing.{lexKey}
-use Rattle.parse_verdict.proofs.Lexing.{faultIn, step-fault, step-fine, StopsClean, token-stops, long-refused}
+use Rattle.parse_verdict.proofs.Lexing.{faultIn, step-fault, step-fine, min-keeps, StopsClean, token-stops, long-refused}
 
 -- a fault of another number
 abbrev Other : ℕ → Type 0
@@ -39,13 +38,6 @@ other-key p m h n e = n (omega arith)
 
 other-none : Other none
 other-none e = let z : ⊥ = omega arith in z
-
-other-min : (j k : ℕ) → Other j → Other k → Other (min j k)
-other-min j k f g =
-    elim (decLt j k) [
-      | yes h ↦ subst Other (sym (min-eq-left (let z : j ≤ k = omega arith in z))) f
-      | no h ↦ subst Other (sym (min-eq-right (let z : k ≤ j = omega arith in z))) g
-    ]
 
 limit-other : (n p : ℕ) → Other (limitFault n p)
 unfolding limitFault
@@ -72,7 +64,7 @@ module _ (s : List ℕ) (n : ℕ) (x : Lexeme) where
   whole-other : Other (faultOf s n (Whole x))
   whole-other =
       subst Other (fault-whole s n (Whole x) _ x refl refl)
-      (other-min _ _ range-other (other-min _ _ length-other (other-min _ _ (limit-other n (x .first)) follow-other)))
+      (min-keeps Other _ _ range-other (min-keeps Other _ _ length-other (min-keeps Other _ _ (limit-other n (x .first)) follow-other)))
 
 -- what is read has a fault of number 3 only where an escape breaks
 reading-breaks : (s : List ℕ) (n : ℕ) (r : Reading) → length s ≤ sourceBytes → ReadingBreaks s r → keyNumber (faultOf s n r) ≡ 3 → EscapeBreaks s (keyPlace (faultOf s n r))
@@ -83,7 +75,7 @@ reading-breaks s n (Broken p) l h e =
     subst (EscapeBreaks s) (sym (key-place p 3 (omega (arith, h .2 .within)) (omega arith)) ∙ ap keyPlace f) h
 reading-breaks s n (Open p) l h e =
     absurd (subst Other (fault-open s n (Open p) (min (key p 4) (limitFault n p)) p (key p 4) (limitFault n p) refl refl refl refl)
-    (other-min _ _ (other-key p 4 (omega arith) (λ q. let z : ⊥ = omega arith in z)) (limit-other n p)) e)
+    (min-keeps Other _ _ (other-key p 4 (omega arith) (λ q. let z : ⊥ = omega arith in z)) (limit-other n p)) e)
 reading-breaks s n (Whole x) l h e = absurd (whole-other s n x e)
 
 module _ (w : Width) (s : List ℕ) (l : length s ≤ sourceBytes) where

@@ -130,11 +130,12 @@ spans-none a b h = (omega arith, λ l. let z : ⊥ = omega arith in absurd z)
 spans-key : (a b p m : ℕ) → a ≤ p → p ≤ 16384 → 2 ≤ m → p * 64 + m ≤ b * 64 + 2 → Spans a b (key p m)
 spans-key a b p m h l g o = let e : key p m ≡ p * 64 + m = key-is p m (omega arith) in (omega arith, λ _. omega arith)
 
-spans-min : (a b j k : ℕ) → Spans a b j → Spans a b k → Spans a b (min j k)
-spans-min a b j k f g =
+-- what holds of two holds of the lesser
+pub min-keeps : (P : ℕ → Type 0) (j k : ℕ) → P j → P k → P (min j k)
+min-keeps P j k f g =
     elim (decLt j k) [
-      | yes h ↦ subst (Spans a b) (sym (min-eq-left (let z : j ≤ k = omega arith in z))) f
-      | no h ↦ subst (Spans a b) (sym (min-eq-right (let z : k ≤ j = omega arith in z))) g
+      | yes h ↦ subst P (sym (min-eq-left (let z : j ≤ k = omega arith in z))) f
+      | no h ↦ subst P (sym (min-eq-right (let z : k ≤ j = omega arith in z))) g
     ]
 
 module _ (s : List ℕ) (n : ℕ) (x : Lexeme) (o : x .first < x .next) (l : x .next ≤ 16384) where
@@ -166,7 +167,10 @@ module _ (s : List ℕ) (n : ℕ) (x : Lexeme) (o : x .first < x .next) (l : x .
   whole-spans : Spans (x .first) (x .next) (faultOf s n (Whole x))
   whole-spans =
       subst (Spans (x .first) (x .next)) (fault-whole s n (Whole x) _ x refl refl)
-      (spans-min _ _ _ _ range-spans (spans-min _ _ _ _ length-spans (spans-min _ _ _ _ limit-spans follow-spans)))
+      (kept _ _ range-spans (kept _ _ length-spans (kept _ _ limit-spans follow-spans)))
+    where
+      kept : (j k : ℕ) → Spans (x .first) (x .next) j → Spans (x .first) (x .next) k → Spans (x .first) (x .next) (min j k)
+      kept j k f g = min-keeps (Spans (x .first) (x .next)) j k f g
 
 key-from : (a p m : ℕ) → a ≤ p → p ≤ 16384 → 2 ≤ m → a * 64 + 2 ≤ key p m
 key-from a p m h l g = let e : key p m ≡ p * 64 + m = key-is p m (omega arith) in omega arith
