@@ -93,7 +93,9 @@ enum {
 
 /*
  * The refusals. The place is what stands in brackets; a number that is added later
- * has one only where its line says so.
+ * has one only where its line says so. The answer comes from the first of these groups
+ * that has one, with the lowest place there, then the lowest number: 1; 2 to 6 and 14
+ * of tokens; 7, 8, 9 and other 14; 10 to 13 and 17; 15; 16.
  */
 enum {
     VOODOO_ACCEPTED        = 0,
