@@ -50,28 +50,25 @@ abbrev pub EscapeIn : List ℕ → ℕ → Escaped → Type 0
 EscapeIn s at (Byte value next) = (at < next) × (next ≤ length s) × (value < 256)
 EscapeIn s at (Bad place) = (at ≤ place) × (place ≤ length s)
 
-pub bad-in : (s : List ℕ) (at : ℕ) → at < length s → EscapeIn s at (Bad (badPlace s at))
+-- the n bytes before the place of a bad escape stand in the text
+pub bad-in : (s : List ℕ) (at n : ℕ) → at + n < length s → EscapeIn s at (Bad (badPlace at n))
 unfolding badPlace
-bad-in s at w =
-    either-eq (λ (p : ℕ). EscapeIn s at (Bad p)) (byteAt s (at + 1)) 120 _ _
-    (λ e. let v : at + 1 < length s = byte-within s (at + 1) (omega arith) in
-    either (λ (p : ℕ). EscapeIn s at (Bad p)) (hexOf (byteAt s (at + 2))) 16 _ _
-    (λ h. let u : at + 2 < length s = byte-within s (at + 2) (hex-byte (byteAt s (at + 2)) h) in (omega arith, omega arith))
-    (λ _. (omega arith, omega arith)))
-    (λ _. (omega arith, omega arith))
+bad-in s at n w = (omega arith, omega arith)
 
 pub escape-in : (s : List ℕ) (at : ℕ) → at < length s → EscapeIn s at (escapeAt s at)
 unfolding escapeAt hexAt plainAt
 escape-in s at w =
     either-eq (EscapeIn s at) (byteAt s (at + 1)) 120 _ _
-    (λ _. either (EscapeIn s at) (hexOf (byteAt s (at + 2))) 16 _ _
-    (λ h. either (EscapeIn s at) (hexOf (byteAt s (at + 3))) 16 _ _
+    (λ e. let u : at + 1 < length s = byte-within s (at + 1) (omega arith) in
+    either (EscapeIn s at) (hexOf (byteAt s (at + 2))) 16 _ _
+    (λ h. let t : at + 2 < length s = byte-within s (at + 2) (hex-byte (byteAt s (at + 2)) h) in
+    either (EscapeIn s at) (hexOf (byteAt s (at + 3))) 16 _ _
     (λ h′. let v : at + 3 < length s = byte-within s (at + 3) (hex-byte (byteAt s (at + 3)) h′) in (omega arith, omega arith, omega arith))
-    (λ _. bad-in s at w))
-    (λ _. bad-in s at w))
+    (λ _. bad-in s at 2 t))
+    (λ _. bad-in s at 1 u))
     (λ _. either (EscapeIn s at) (plainOf (byteAt s (at + 1))) 256 _ _
     (λ h. let v : at + 1 < length s = byte-within s (at + 1) (plain-byte (byteAt s (at + 1)) h) in (omega arith, omega arith, h))
-    (λ _. bad-in s at w))
+    (λ _. bad-in s at 0 (omega arith)))
 
 abbrev pub CharacterIn : List ℕ → ℕ → Character → Type 0
 CharacterIn s at (One value next) = (at < next) × (next ≤ length s) × (value < 256)

@@ -22,7 +22,6 @@ use Rattle.lex_spelling.specs.Breaks.{Pattern, hexDigits, shortBytes, pa
 use Rattle.lex_spelling.specs.declared.Escaped.{Escaped}
 use Rattle.lex_spelling.specs.declared.Escaped.the-variants.{Byte, Bad}
 use Rattle.lex_spelling.proofs.Ahead.{hex-byte, plain-byte, bad-in}
-use Rattle.lex_spelling.proofs.Cases.{place-plain, place-first, place-second}
 
 -- ---- the lists of bytes say what the tests of specs/Escape say
 
@@ -175,11 +174,11 @@ module _ (s : List ℕ) (at : ℕ) where
         | no l ↦ elim (decLt q p) [ yes g ↦ absurd (not-before q p d b g) | no g ↦ omega arith ]
       ]
 
-  -- ---- an escape is judged right
+  -- ---- bad exactly where it breaks
 
-  abbrev pub Judged : Escaped → Type 0
-  Judged (Byte value next) = (p : ℕ) → Breaks s at p → ⊥
-  Judged (Bad place) = Breaks s at place
+  abbrev pub EscapeSound : Escaped → Type 0
+  EscapeSound (Byte value next) = (p : ℕ) → Breaks s at p → ⊥
+  EscapeSound (Bad place) = Breaks s at place
 
   module _ (e : byteAt s at ≡ 92) where
     here : at < length s
@@ -209,22 +208,23 @@ module _ (s : List ℕ) (at : ℕ) where
         from-three (suc n) c a q r ∙ ap (λ (bs : List ℕ). 92 ∷ c ∷ a ∷ bs) (more n (at + 3) b t) ∙ ap (λ (i : ℕ). 92 ∷ c ∷ a ∷ b ∷ bytesFrom n s i) z
 
     -- an escape that breaks behind n bytes
-    breaks-behind : (n p : ℕ) (bs cs : List ℕ) → p ≡ at + suc n → p ≡ badPlace s at → bytesFrom (suc n) s at ≡ bs → bytesFrom (suc (suc n)) s at ≡ cs
-        → escapeGoesOn bs ≡ true → escapeBegins cs ≡ false → Breaks s at (badPlace s at)
-    breaks-behind n p bs cs q r f g h k =
-        let z : badPlace s at - at ≡ suc n = omega arith in
+    breaks-behind : (n : ℕ) (bs cs : List ℕ) → badPlace at n ≤ length s → bytesFrom (suc n) s at ≡ bs → bytesFrom (suc (suc n)) s at ≡ cs
+        → escapeGoesOn bs ≡ true → escapeBegins cs ≡ false → Breaks s at (badPlace at n)
+    unfolding badPlace
+    breaks-behind n bs cs w f g h k =
+        let z : at + 1 + n - at ≡ suc n = omega arith in
         record {
           behind = omega arith;
-          within = bad-in s at here .1;
+          within = w;
           begun = ap (λ (m : ℕ). escapeGoesOn (bytesFrom m s at)) z ∙ ap escapeGoesOn f ∙ h;
           broken = ap (λ (m : ℕ). escapeBegins (bytesFrom (suc m) s at)) z ∙ ap escapeBegins g ∙ k;
         }
 
     -- none breaks behind n bytes: an escape has begun with one more, or none goes on behind them
-    abbrev Holds : ℕ → Type 0
-    Holds n = (escapeBegins (bytesFrom (suc n) s at) ≡ true) ⊎ (escapeGoesOn (bytesFrom n s at) ≡ false)
+    abbrev Unbreaking : ℕ → Type 0
+    Unbreaking n = (escapeBegins (bytesFrom (suc n) s at) ≡ true) ⊎ (escapeGoesOn (bytesFrom n s at) ≡ false)
 
-    none-breaks : ((n : ℕ) → Holds (suc n)) → (p : ℕ) → Breaks s at p → ⊥
+    none-breaks : ((n : ℕ) → Unbreaking (suc n)) → (p : ℕ) → Breaks s at p → ⊥
     none-breaks h p b = by (p - at) refl
       where
         by : (n : ℕ) → p - at ≡ n → ⊥
@@ -236,38 +236,38 @@ module _ (s : List ℕ) (at : ℕ) where
             (h n)
 
     module _ (n : byteAt s (at + 1) ≡ 120 → ⊥) where
-      short-holds : plainOf (byteAt s (at + 1)) < 256 → (k : ℕ) → Holds (suc k)
+      short-holds : plainOf (byteAt s (at + 1)) < 256 → (k : ℕ) → Unbreaking (suc k)
       unfolding bytesFrom
       short-holds h zero = inl (ap escapeBegins (from-two zero _ refl) ∙ short-begins _ n h)
       short-holds h (suc k) = inr (ap escapeGoesOn (from-two k _ refl) ∙ short-ends _ n _ h)
 
-      plain-judged : Judged (plainAt s at (plainOf (byteAt s (at + 1))))
+      plain-sound : EscapeSound (plainAt at (plainOf (byteAt s (at + 1))))
       unfolding plainAt bytesFrom
-      plain-judged =
-          either Judged (plainOf (byteAt s (at + 1))) 256 _ _
+      plain-sound =
+          either EscapeSound (plainOf (byteAt s (at + 1))) 256 _ _
           (λ h. none-breaks (short-holds h))
-          (λ h. breaks-behind 0 (at + 1) _ _ refl (place-plain s at _ refl n) (from-one 0) (from-two 0 _ refl) one-goes (short-broken _ n h))
+          (λ h. breaks-behind 0 _ _ (bad-in s at 0 (omega (arith, here)) .1) (from-one 0) (from-two 0 _ refl) one-goes (short-broken _ n h))
 
     module _ (x : byteAt s (at + 1) ≡ 120) where
-      hex-holds : hexOf (byteAt s (at + 2)) < 16 → hexOf (byteAt s (at + 3)) < 16 → (k : ℕ) → Holds (suc k)
+      hex-holds : hexOf (byteAt s (at + 2)) < 16 → hexOf (byteAt s (at + 3)) < 16 → (k : ℕ) → Unbreaking (suc k)
       unfolding bytesFrom
       hex-holds h g zero = inl (ap escapeBegins (from-two zero 120 x) ∙ x-begins)
       hex-holds h g (suc zero) = inl (ap escapeBegins (from-three zero 120 _ x refl) ∙ first-begins _ h)
       hex-holds h g (suc (suc zero)) = inl (ap escapeBegins (from-four zero 120 _ _ x refl refl) ∙ second-begins _ h _ g)
       hex-holds h g (suc (suc (suc k))) = inr (ap escapeGoesOn (from-four k 120 _ _ x refl refl) ∙ second-ends _ h _ _ g)
 
-      hex-judged : Judged (hexAt s at (hexOf (byteAt s (at + 2))) (hexOf (byteAt s (at + 3))))
+      hex-sound : EscapeSound (hexAt at (hexOf (byteAt s (at + 2))) (hexOf (byteAt s (at + 3))))
       unfolding hexAt bytesFrom
-      hex-judged =
-          either Judged (hexOf (byteAt s (at + 2))) 16 _ _
-          (λ h. either Judged (hexOf (byteAt s (at + 3))) 16 _ _
+      hex-sound =
+          either EscapeSound (hexOf (byteAt s (at + 2))) 16 _ _
+          (λ h. either EscapeSound (hexOf (byteAt s (at + 3))) 16 _ _
           (λ g. none-breaks (hex-holds h g))
-          (λ g. breaks-behind 2 (at + 3) _ _ refl (place-second s at _ refl x _ _ refl refl h) (from-three 0 120 _ x refl) (from-four 0 120 _ _ x refl refl) (first-goes _ h)
-          (second-broken _ h _ g)))
-          (λ h. breaks-behind 1 (at + 2) _ _ refl (place-first s at _ refl x _ _ refl refl h) (from-two 0 120 x) (from-three 0 120 _ x refl) x-goes (first-broken _ h))
+          (λ g. breaks-behind 2 _ _ (bad-in s at 2 (byte-within s (at + 2) (hex-byte _ h)) .1) (from-three 0 120 _ x refl) (from-four 0 120 _ _ x refl refl)
+          (first-goes _ h) (second-broken _ h _ g)))
+          (λ h. breaks-behind 1 _ _ (bad-in s at 1 (byte-within s (at + 1) (omega arith)) .1) (from-two 0 120 x) (from-three 0 120 _ x refl) x-goes (first-broken _ h))
 
     -- "For refusal 3 the place becomes the first byte that breaks the escape (the source's length if it ends there)"
-    pub escape-judged : Judged (escapeAt s at)
+    pub escape-sound : EscapeSound (escapeAt s at)
     unfolding escapeAt
-    escape-judged =
-        either-eq Judged (byteAt s (at + 1)) 120 _ _ (λ x. hex-judged x) (λ n. plain-judged n)
+    escape-sound =
+        either-eq EscapeSound (byteAt s (at + 1)) 120 _ _ (λ x. hex-sound x) (λ n. plain-sound n)

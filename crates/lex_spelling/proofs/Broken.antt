@@ -18,14 +18,14 @@ use Rattle.lex_spelling.specs.declared.Character.{Character}
 use Rattle.lex_spelling.specs.declared.Character.the-variants.{One, Broken, Stop}
 use Rattle.lex_spelling.specs.declared.Ending.{Ending}
 use Rattle.lex_spelling.specs.declared.Ending.the-variants as ending
-use Rattle.lex_spelling.proofs.Breaks.{Judged, escape-judged}
+use Rattle.lex_spelling.proofs.Breaks.{EscapeSound, escape-sound}
 
 abbrev CharacterBreaks : List ℕ → Character → Type 0
 CharacterBreaks s (One value next) = Unit {0}
 CharacterBreaks s (Broken place) = EscapeBreaks s place
 CharacterBreaks s (Stop place) = Unit {0}
 
-escaped-breaks : (s : List ℕ) (at : ℕ) (x : Escaped) → byteAt s at ≡ 92 → Judged s at x → CharacterBreaks s (escaped x)
+escaped-breaks : (s : List ℕ) (at : ℕ) (x : Escaped) → byteAt s at ≡ 92 → EscapeSound s at x → CharacterBreaks s (escaped x)
 unfolding escaped
 escaped-breaks s at (Byte value next) e h = tt
 escaped-breaks s at (Bad place) e h = (at, e, h)
@@ -43,7 +43,7 @@ from-breaks : (q : Bool) (s : List ℕ) (at : ℕ) → CharacterBreaks s (charac
 unfolding characterFrom
 from-breaks q s at =
     either-eq (CharacterBreaks s) (byteAt s at) 92 _ _
-    (λ e. escaped-breaks s at (escapeAt s at) e (escape-judged s at e))
+    (λ e. escaped-breaks s at (escapeAt s at) e (escape-sound s at e))
     (λ _. raw-breaks q s (byteAt s at) at)
 
 abbrev pub EndingBreaks : List ℕ → Ending → Type 0

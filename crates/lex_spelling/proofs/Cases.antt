@@ -58,49 +58,34 @@ module _ (s : List ℕ) (at c : ℕ) (p : c ≡ byteAt s at) where
 
 pub ruleset joints = (joint-none, joint-yes, joint-no)
 
-module _ (s : List ℕ) (at c : ℕ) (p : c ≡ byteAt s (at + 1)) where
-  pub place-plain : (c ≡ 120 → ⊥) → at + 1 ≡ badPlace s at
-  unfolding badPlace
-  place-plain e = rw (← p) (search tests)
-
-  module _ (e : c ≡ 120) (x a : ℕ) (q : x ≡ byteAt s (at + 2)) (f : a ≡ hexOf x) where
-    pub place-first : 16 ≤ a → at + 2 ≡ badPlace s at
-    unfolding badPlace
-    place-first h = rw (← p, ← q, ← f) (search tests)
-
-    pub place-second : a < 16 → at + 3 ≡ badPlace s at
-    unfolding badPlace
-    place-second h = rw (← p, ← q, ← f) (search tests)
-
-pub ruleset places = (place-plain, place-first, place-second)
-
-module _ (s : List ℕ) (at : ℕ) where
-  pub plain-good : (v : ℕ) → v < 256 → Byte v (at + 2) ≡ plainAt s at v
+module _ (at : ℕ) where
+  pub plain-good : (v : ℕ) → v < 256 → Byte v (at + 2) ≡ plainAt at v
   unfolding plainAt
   plain-good v h = search tests
 
-  pub plain-bad : (v p : ℕ) → 256 ≤ v → p ≡ badPlace s at → Bad p ≡ plainAt s at v
+  pub plain-bad : (v p : ℕ) → 256 ≤ v → p ≡ badPlace at 0 → Bad p ≡ plainAt at v
   unfolding plainAt
   plain-bad v p h q = rw (← q) (search tests)
 
-  pub hex-good : (a b : ℕ) → a < 16 → b < 16 → Byte (a * 16 + b) (at + 4) ≡ hexAt s at a b
+  pub hex-good : (a b : ℕ) → a < 16 → b < 16 → Byte (a * 16 + b) (at + 4) ≡ hexAt at a b
   unfolding hexAt
   hex-good a b h g = search tests
 
-  pub hex-second : (a b p : ℕ) → a < 16 → 16 ≤ b → p ≡ badPlace s at → Bad p ≡ hexAt s at a b
+  pub hex-second : (a b p : ℕ) → a < 16 → 16 ≤ b → p ≡ badPlace at 2 → Bad p ≡ hexAt at a b
   unfolding hexAt
   hex-second a b p h g q = rw (← q) (search tests)
 
-  pub hex-first : (a b p : ℕ) → 16 ≤ a → p ≡ badPlace s at → Bad p ≡ hexAt s at a b
+  pub hex-first : (a b p : ℕ) → 16 ≤ a → p ≡ badPlace at 1 → Bad p ≡ hexAt at a b
   unfolding hexAt
   hex-first a b p h q = rw (← q) (search tests)
 
+module _ (s : List ℕ) (at : ℕ) where
   pub escape-hex : (c x y a b : ℕ) (r : Escaped) → c ≡ byteAt s (at + 1) → c ≡ 120 → x ≡ byteAt s (at + 2) → a ≡ hexOf x
-      → y ≡ byteAt s (at + 3) → b ≡ hexOf y → r ≡ hexAt s at a b → r ≡ escapeAt s at
+      → y ≡ byteAt s (at + 3) → b ≡ hexOf y → r ≡ hexAt at a b → r ≡ escapeAt s at
   unfolding escapeAt
   escape-hex c x y a b r p e q f g h k = rw (← p, ← q, ← f, ← g, ← h, ← k) (search tests)
 
-  pub escape-plain : (c v : ℕ) (r : Escaped) → c ≡ byteAt s (at + 1) → (c ≡ 120 → ⊥) → v ≡ plainOf c → r ≡ plainAt s at v → r ≡ escapeAt s at
+  pub escape-plain : (c v : ℕ) (r : Escaped) → c ≡ byteAt s (at + 1) → (c ≡ 120 → ⊥) → v ≡ plainOf c → r ≡ plainAt at v → r ≡ escapeAt s at
   unfolding escapeAt
   escape-plain c v r p e q k = rw (← p, ← q, ← k) (search tests)
 

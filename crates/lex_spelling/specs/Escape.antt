@@ -17,23 +17,22 @@ unfoldable pub plainOf : ℕ → ℕ
 plainOf c =
     ifEq c 92 92 (ifEq c 34 34 (ifEq c 110 10 (ifEq c 114 13 (ifEq c 116 9 (ifEq c 32 32 256)))))
 
--- "For refusal 3 the place becomes the first byte that breaks the escape (the source's length if it ends there)": the byte after
--- the backslash, or after `\x` the first of two that is no hex digit
-unfoldable pub badPlace : List ℕ → ℕ → ℕ
-badPlace s at =
-    ifEq (byteAt s (at + 1)) 120
-    (ifLt (hexOf (byteAt s (at + 2))) 16 (at + 3) (at + 2))
-    (at + 1)
+-- "For refusal 3 the place becomes the first byte that breaks the escape (the source's length if it ends there)": the one behind
+-- the backslash and the n bytes that go on with it
+unfoldable pub badPlace : ℕ → ℕ → ℕ
+badPlace at n = at + 1 + n
 
-unfoldable pub plainAt : List ℕ → ℕ → ℕ → Escaped
-plainAt s at v = ifLt v 256 (Byte v (at + 2)) (Bad (badPlace s at))
+-- an escape of one byte, which stands for v, or for none where v is 256
+unfoldable pub plainAt : ℕ → ℕ → Escaped
+plainAt at v = ifLt v 256 (Byte v (at + 2)) (Bad (badPlace at 0))
 
-unfoldable pub hexAt : List ℕ → ℕ → ℕ → ℕ → Escaped
-hexAt s at a b = ifLt a 16 (ifLt b 16 (Byte (a * 16 + b) (at + 4)) (Bad (badPlace s at))) (Bad (badPlace s at))
+-- `\x` and two digits of the values a and b, 16 of what is none
+unfoldable pub hexAt : ℕ → ℕ → ℕ → Escaped
+hexAt at a b = ifLt a 16 (ifLt b 16 (Byte (a * 16 + b) (at + 4)) (Bad (badPlace at 2))) (Bad (badPlace at 1))
 
 -- the escape whose backslash stands at a place
 unfoldable pub escapeAt : List ℕ → ℕ → Escaped
 escapeAt s at =
     ifEq (byteAt s (at + 1)) 120
-    (hexAt s at (hexOf (byteAt s (at + 2))) (hexOf (byteAt s (at + 3))))
-    (plainAt s at (plainOf (byteAt s (at + 1))))
+    (hexAt at (hexOf (byteAt s (at + 2))) (hexOf (byteAt s (at + 3))))
+    (plainAt at (plainOf (byteAt s (at + 1))))

@@ -1,7 +1,7 @@
 // Characters and texts: continuations, escapes, and the decoded bytes of symbols and strings.
 use base_limits::Machine;
 ghost use mathlib.Core.Path.{_≡_};
-ghost use Prim.Native.Nat.{_≤_, _<_};
+ghost use Prim.Native.Nat.{_+_, _≤_, _<_};
 ghost use lib.ListN.{length};
 ghost use Rattle.base_prelude.specs.Lists.{sameList, overlay};
 ghost use Rattle.lex_spelling.specs.Classes.{isBlank, isLetter, isDigit, isNameByte, isSeparator};
@@ -193,23 +193,17 @@ fn plain(c: u32) -> u32
     }
 }
 
-// The first byte that breaks a bad escape, or the end.
-fn bad_place(s: &[u8], at: usize) -> usize
-    requires { ⌜ at < length (now s) ⌝ }
-    ensures { λ r. ⌜ r ≡ badPlace (now (s .entry)) at ⌝ }
+// The place behind a backslash and the n bytes that go on with its escape.
+fn bad_place(at: usize, n: usize) -> usize
+    requires { ⌜ at + n < 18446744073709551615 ⌝ }
+    ensures { λ r. ⌜ r ≡ badPlace at n ⌝ }
 {
-    if base_prelude::byte_at(s, at + 1) == 120 {
-        if hex(base_prelude::byte_at(s, at + 2)) < 16 {
-            return at + 3;
-        }
-        return at + 2;
-    }
-    at + 1
+    at + 1 + n
 }
 
-fn plain_at(s: &[u8], at: usize, v: u32) -> Escaped
-    requires { ⌜ at < length (now s) ⌝ }
-    ensures { λ r. ⌜ r ≡ plainAt (now (s .entry)) at v ⌝ }
+fn plain_at(at: usize, v: u32) -> Escaped
+    requires { ⌜ at + 4 < 18446744073709551615 ⌝ }
+    ensures { λ r. ⌜ r ≡ plainAt at v ⌝ }
 {
     if v < 256 {
         return Escaped::Byte {
@@ -217,12 +211,12 @@ fn plain_at(s: &[u8], at: usize, v: u32) -> Escaped
             next: at + 2,
         };
     }
-    Escaped::Bad(bad_place(s, at))
+    Escaped::Bad(bad_place(at, 0))
 }
 
-fn hex_at(s: &[u8], at: usize, a: u32, b: u32) -> Escaped
-    requires { ⌜ at < length (now s) ⌝ }
-    ensures { λ r. ⌜ r ≡ hexAt (now (s .entry)) at a b ⌝ }
+fn hex_at(at: usize, a: u32, b: u32) -> Escaped
+    requires { ⌜ at + 4 < 18446744073709551615 ⌝ }
+    ensures { λ r. ⌜ r ≡ hexAt at a b ⌝ }
 {
     if a < 16 {
         if b < 16 {
@@ -231,9 +225,9 @@ fn hex_at(s: &[u8], at: usize, a: u32, b: u32) -> Escaped
                 next: at + 4,
             };
         }
-        return Escaped::Bad(bad_place(s, at));
+        return Escaped::Bad(bad_place(at, 2));
     }
-    Escaped::Bad(bad_place(s, at))
+    Escaped::Bad(bad_place(at, 1))
 }
 
 // The escape whose backslash stands at a place.
@@ -245,9 +239,9 @@ pub fn escape(s: &[u8], at: usize) -> Escaped
     if c == 120 {
         let a = hex(base_prelude::byte_at(s, at + 2));
         let b = hex(base_prelude::byte_at(s, at + 3));
-        return hex_at(s, at, a, b);
+        return hex_at(at, a, b);
     }
-    plain_at(s, at, plain(c))
+    plain_at(at, plain(c))
 }
 
 fn as_character(e: Escaped) -> Character

@@ -1,6 +1,6 @@
-use Rattle.lex_spelling.proofs.Cases.{escapes}
-use native.Mathlib.Omega.{arith}
 use mathlib.Core.Path.{_≡_, refl, sym, _∙_, ap, subst}
+use native.Mathlib.Omega.{arith}
+use Rattle.lex_spelling.proofs.Cases.{escapes}
 use borrow.Author.Needs.{needs}
 use Rattle.lex_spelling.proofs.escape.Statement.{statement}
 use Rattle.lex_spelling.proofs.escape.Tie as tie

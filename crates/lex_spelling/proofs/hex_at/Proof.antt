@@ -1,6 +1,6 @@
-use Rattle.lex_spelling.proofs.Cases.{escapes}
-use native.Mathlib.Omega.{arith}
 use mathlib.Core.Path.{_≡_, refl, sym, _∙_, ap, subst}
+use native.Mathlib.Omega.{arith}
+use Rattle.lex_spelling.proofs.Cases.{escapes}
 use borrow.Author.Needs.{needs}
 use Rattle.lex_spelling.proofs.hex_at.Statement.{statement}
 use Rattle.lex_spelling.proofs.hex_at.Tie as tie
@@ -8,14 +8,14 @@ use Rattle.lex_spelling.proofs.hex_at.Reads as reads
 use Rattle.lex_spelling.proofs.hex_at.Lts as lts
 use Rattle.lex_spelling.proofs.bad_place.Reads as bad-place-reads
 
-mul-t7 : tie.Need-mul-t7
-mul-t7 c = search needs
+mul-t6 : tie.Need-mul-t6
+mul-t6 c = search needs
+
+add-t7 : tie.Need-add-t7
+add-t7 c = search needs
 
 add-t8 : tie.Need-add-t8
 add-t8 c = search needs
-
-add-t9 : tie.Need-add-t9
-add-t9 c = search needs
 
 returns : tie.Need-returns
 returns c =
@@ -39,9 +39,9 @@ pub hex-at-spec : {M : Type 1} → statement M
 hex-at-spec =
     tie.close
     (tie.spec
-    mul-t7
+    mul-t6
+    add-t7
     add-t8
-    add-t9
     returns
     bad-place-requires
     returns-2
