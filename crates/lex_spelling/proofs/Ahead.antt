@@ -13,7 +13,7 @@ use Rattle.base_prelude.proofs.Choice.{either, either-eq, either-true, true-fal
 use Rattle.base_prelude.proofs.Bytes.{byte-within}
 use Rattle.lex_spelling.specs.Classes.{isNameByte}
 use Rattle.lex_spelling.specs.Continuation.{joined}
-use Rattle.lex_spelling.specs.Escape.{hexOf, plainOf, badPlace, plainAt, hexAt, escapeAt}
+use Rattle.lex_spelling.specs.Escape.{hexOf, plainOf, badPlace, plainAt, hexAt, hexFrom, escapeAt}
 use Rattle.lex_spelling.specs.Text.{inString, inSymbol, escaped, rawAt, characterFrom, characterAt}
 use Rattle.lex_spelling.specs.Pair.{pairOne, pairEnd, pairOf, pairAt}
 use Rattle.lex_spelling.specs.declared.Escaped.{Escaped}
@@ -56,7 +56,7 @@ unfolding badPlace
 bad-in s at n w = (omega arith, omega arith)
 
 pub escape-in : (s : List ℕ) (at : ℕ) → at < length s → EscapeIn s at (escapeAt s at)
-unfolding escapeAt hexAt plainAt
+unfolding escapeAt hexFrom hexAt plainAt
 escape-in s at w =
     either-eq (EscapeIn s at) (byteAt s (at + 1)) 120 _ _
     (λ e. let u : at + 1 < length s = byte-within s (at + 1) (omega arith) in

@@ -17,7 +17,7 @@ use Rattle.base_prelude.specs.Lists.{isAmong}
 use Rattle.base_prelude.proofs.Choice.{either, either-eq, either-true, true-false, ifTrue-yes}
 use Rattle.base_prelude.proofs.Bytes.{byte-within}
 use Rattle.base_prelude.proofs.Table.{under, agree, low, among-by}
-use Rattle.lex_spelling.specs.Escape.{hexOf, plainOf, badPlace, plainAt, hexAt, escapeAt}
+use Rattle.lex_spelling.specs.Escape.{hexOf, plainOf, badPlace, plainAt, hexAt, hexFrom, escapeAt}
 use Rattle.lex_spelling.specs.Breaks.{Pattern, hexDigits, shortBytes, patterns, begins, goesOn, somePattern, escapeBegins, escapeGoesOn, bytesFrom, Breaks}
 use Rattle.lex_spelling.specs.declared.Escaped.{Escaped}
 use Rattle.lex_spelling.specs.declared.Escaped.the-variants.{Byte, Bad}
@@ -256,8 +256,8 @@ module _ (s : List ℕ) (at : ℕ) where
       hex-holds h g (suc (suc zero)) = inl (ap escapeBegins (from-four zero 120 _ _ x refl refl) ∙ second-begins _ h _ g)
       hex-holds h g (suc (suc (suc k))) = inr (ap escapeGoesOn (from-four k 120 _ _ x refl refl) ∙ second-ends _ h _ _ g)
 
-      hex-sound : EscapeSound (hexAt at (hexOf (byteAt s (at + 2))) (hexOf (byteAt s (at + 3))))
-      unfolding hexAt bytesFrom
+      hex-sound : EscapeSound (hexFrom s at)
+      unfolding hexFrom hexAt bytesFrom
       hex-sound =
           either EscapeSound (hexOf (byteAt s (at + 2))) 16 _ _
           (λ h. either EscapeSound (hexOf (byteAt s (at + 3))) 16 _ _

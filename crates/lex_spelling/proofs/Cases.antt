@@ -11,7 +11,7 @@ use Rattle.base_prelude.specs.Bytes.{byteAt}
 use Rattle.base_prelude.proofs.Choice.{tests, either-true}
 use Rattle.lex_spelling.specs.Classes.{isLetter, isDigit, isNameByte}
 use Rattle.lex_spelling.specs.Continuation.{isJoint, joined}
-use Rattle.lex_spelling.specs.Escape.{hexOf, plainOf, badPlace, plainAt, hexAt, escapeAt}
+use Rattle.lex_spelling.specs.Escape.{hexOf, plainOf, badPlace, plainAt, hexAt, hexFrom, escapeAt}
 use Rattle.lex_spelling.specs.Text.{inString, inSymbol, escaped, rawAt, characterFrom, characterAt}
 use Rattle.lex_spelling.specs.Pair.{pairOne, pairEnd, pairOf, pairAt}
 use Rattle.lex_spelling.specs.declared.Escaped.{Escaped}
@@ -67,23 +67,24 @@ module _ (at : ℕ) where
   unfolding plainAt
   plain-bad v p h q = rw (← q) (search tests)
 
-  pub hex-good : (a b : ℕ) → a < 16 → b < 16 → Byte (a * 16 + b) (at + 4) ≡ hexAt at a b
-  unfolding hexAt
-  hex-good a b h g = search tests
+module _ (s : List ℕ) (at x a : ℕ) (q : x ≡ byteAt s (at + 2)) (f : a ≡ hexOf x) where
+  pub hex-first : (p : ℕ) → 16 ≤ a → p ≡ badPlace at 1 → Bad p ≡ hexFrom s at
+  unfolding hexFrom hexAt
+  hex-first p h e = rw (← q, ← f, ← e) (search tests)
 
-  pub hex-second : (a b p : ℕ) → a < 16 → 16 ≤ b → p ≡ badPlace at 2 → Bad p ≡ hexAt at a b
-  unfolding hexAt
-  hex-second a b p h g q = rw (← q) (search tests)
+  module _ (y b : ℕ) (g : y ≡ byteAt s (at + 3)) (k : b ≡ hexOf y) where
+    pub hex-good : a < 16 → b < 16 → Byte (a * 16 + b) (at + 4) ≡ hexFrom s at
+    unfolding hexFrom hexAt
+    hex-good h l = rw (← q, ← f, ← g, ← k) (search tests)
 
-  pub hex-first : (a b p : ℕ) → 16 ≤ a → p ≡ badPlace at 1 → Bad p ≡ hexAt at a b
-  unfolding hexAt
-  hex-first a b p h q = rw (← q) (search tests)
+    pub hex-second : (p : ℕ) → a < 16 → 16 ≤ b → p ≡ badPlace at 2 → Bad p ≡ hexFrom s at
+    unfolding hexFrom hexAt
+    hex-second p h l e = rw (← q, ← f, ← g, ← k, ← e) (search tests)
 
 module _ (s : List ℕ) (at : ℕ) where
-  pub escape-hex : (c x y a b : ℕ) (r : Escaped) → c ≡ byteAt s (at + 1) → c ≡ 120 → x ≡ byteAt s (at + 2) → a ≡ hexOf x
-      → y ≡ byteAt s (at + 3) → b ≡ hexOf y → r ≡ hexAt at a b → r ≡ escapeAt s at
+  pub escape-hex : (c : ℕ) (r : Escaped) → c ≡ byteAt s (at + 1) → c ≡ 120 → r ≡ hexFrom s at → r ≡ escapeAt s at
   unfolding escapeAt
-  escape-hex c x y a b r p e q f g h k = rw (← p, ← q, ← f, ← g, ← h, ← k) (search tests)
+  escape-hex c r p e k = rw (← p, ← k) (search tests)
 
   pub escape-plain : (c v : ℕ) (r : Escaped) → c ≡ byteAt s (at + 1) → (c ≡ 120 → ⊥) → v ≡ plainOf c → r ≡ plainAt at v → r ≡ escapeAt s at
   unfolding escapeAt

@@ -8,25 +8,25 @@ use Rattle.base_prelude.specs.Choice.{ifLt, ifEq, ifTrue}
 use Rattle.base_prelude.specs.Bytes.{byteAt}
 use Rattle.base_prelude.specs.Lists.{isAmong}
 use Rattle.base_prelude.proofs.Choice.{true-false}
-use Rattle.lex_spelling.specs.Escape.{hexOf, plainOf, badPlace, plainAt, hexAt, escapeAt}
+use Rattle.lex_spelling.specs.Escape.{hexOf, plainOf, badPlace, plainAt, hexAt, hexFrom, escapeAt}
 use Rattle.lex_spelling.specs.Breaks.{hexDigits, shortBytes, patterns, begins, goesOn, somePattern, escapeBegins, bytesFrom, Breaks}
 use Rattle.lex_spelling.specs.declared.Escaped.the-variants.{Byte, Bad}
 
 -- `\q`; `\X41`; a backslash before byte 13; a backslash at the source's end
 letter-places : (escapeAt (92 ∷ 113 ∷ []) 0 ≡ Bad 1) × (escapeAt (92 ∷ 88 ∷ 52 ∷ 49 ∷ []) 0 ≡ Bad 1) × (escapeAt (92 ∷ 13 ∷ 10 ∷ []) 0 ≡ Bad 1)
     × (escapeAt (34 ∷ 92 ∷ []) 1 ≡ Bad 2)
-unfolding escapeAt hexAt plainAt badPlace hexOf plainOf byteAt ifEq ifLt
+unfolding escapeAt hexFrom hexAt plainAt badPlace hexOf plainOf byteAt ifEq ifLt
 letter-places = (refl, refl, refl, refl)
 
 -- `\xg1`; `\x` before byte 10; `\x` before a continuation: its backslash; `\x` at the source's end
 first-places : (escapeAt (92 ∷ 120 ∷ 103 ∷ 49 ∷ []) 0 ≡ Bad 2) × (escapeAt (92 ∷ 120 ∷ 10 ∷ []) 0 ≡ Bad 2) × (escapeAt (92 ∷ 120 ∷ 92 ∷ 10 ∷ []) 0 ≡ Bad 2)
     × (escapeAt (92 ∷ 120 ∷ []) 0 ≡ Bad 2)
-unfolding escapeAt hexAt plainAt badPlace hexOf plainOf byteAt ifEq ifLt
+unfolding escapeAt hexFrom hexAt plainAt badPlace hexOf plainOf byteAt ifEq ifLt
 first-places = (refl, refl, refl, refl)
 
 -- `\x4g`; `\x4` at the source's end; `\x4f` is no bad escape
 second-places : (escapeAt (92 ∷ 120 ∷ 52 ∷ 103 ∷ []) 0 ≡ Bad 3) × (escapeAt (92 ∷ 120 ∷ 52 ∷ []) 0 ≡ Bad 3) × (escapeAt (92 ∷ 120 ∷ 52 ∷ 102 ∷ []) 0 ≡ Byte 79 4)
-unfolding escapeAt hexAt plainAt badPlace hexOf plainOf byteAt ifEq ifLt
+unfolding escapeAt hexFrom hexAt plainAt badPlace hexOf plainOf byteAt ifEq ifLt
 second-places = (refl, refl, refl)
 
 -- `\t` is an escape, `\q` begins none

@@ -30,9 +30,12 @@ plainAt at v = ifLt v 256 (Byte v (at + 2)) (Bad (badPlace at 0))
 unfoldable pub hexAt : ℕ → ℕ → ℕ → Escaped
 hexAt at a b = ifLt a 16 (ifLt b 16 (Byte (a * 16 + b) (at + 4)) (Bad (badPlace at 2))) (Bad (badPlace at 1))
 
+unfoldable pub hexFrom : List ℕ → ℕ → Escaped
+hexFrom s at = hexAt at (hexOf (byteAt s (at + 2))) (hexOf (byteAt s (at + 3)))
+
 -- the escape whose backslash stands at a place
 unfoldable pub escapeAt : List ℕ → ℕ → Escaped
 escapeAt s at =
     ifEq (byteAt s (at + 1)) 120
-    (hexAt at (hexOf (byteAt s (at + 2))) (hexOf (byteAt s (at + 3))))
+    (hexFrom s at)
     (plainAt at (plainOf (byteAt s (at + 1))))

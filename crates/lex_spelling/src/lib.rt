@@ -6,7 +6,7 @@ ghost use lib.ListN.{length};
 ghost use Rattle.base_prelude.specs.Lists.{sameList, overlay};
 ghost use Rattle.lex_spelling.specs.Classes.{isBlank, isLetter, isDigit, isNameByte, isSeparator};
 ghost use Rattle.lex_spelling.specs.Continuation.{blanksEnd, isJoint, joined};
-ghost use Rattle.lex_spelling.specs.Escape.{hexOf, plainOf, badPlace, plainAt, hexAt, escapeAt};
+ghost use Rattle.lex_spelling.specs.Escape.{hexOf, plainOf, badPlace, plainAt, hexFrom, escapeAt};
 ghost use Rattle.lex_spelling.specs.Text.{inString, inSymbol, escaped, rawAt, characterFrom, characterAt, spelledAt, nameAt, mix, measured};
 ghost use Rattle.lex_spelling.specs.Pair.{pairOne, pairEnd, pairOf, pairAt};
 
@@ -202,7 +202,7 @@ fn bad_place(at: usize, n: usize) -> usize
 }
 
 fn plain_at(at: usize, v: u32) -> Escaped
-    requires { ⌜ at + 4 < 18446744073709551615 ⌝ }
+    requires { ⌜ at + 1 < 18446744073709551615 ⌝ }
     ensures { λ r. ⌜ r ≡ plainAt at v ⌝ }
 {
     if v < 256 {
@@ -214,11 +214,14 @@ fn plain_at(at: usize, v: u32) -> Escaped
     Escaped::Bad(bad_place(at, 0))
 }
 
-fn hex_at(at: usize, a: u32, b: u32) -> Escaped
-    requires { ⌜ at + 4 < 18446744073709551615 ⌝ }
-    ensures { λ r. ⌜ r ≡ hexAt at a b ⌝ }
+// The escape whose backslash stands at a place, with an `x` behind it.
+fn hex_from(s: &[u8], at: usize) -> Escaped
+    requires { ⌜ at < length (now s) ⌝ }
+    ensures { λ r. ⌜ r ≡ hexFrom (now (s .entry)) at ⌝ }
 {
+    let a = hex(base_prelude::byte_at(s, at + 2));
     if a < 16 {
+        let b = hex(base_prelude::byte_at(s, at + 3));
         if b < 16 {
             return Escaped::Byte {
                 value: a * 16 + b,
@@ -237,9 +240,7 @@ pub fn escape(s: &[u8], at: usize) -> Escaped
 {
     let c = base_prelude::byte_at(s, at + 1);
     if c == 120 {
-        let a = hex(base_prelude::byte_at(s, at + 2));
-        let b = hex(base_prelude::byte_at(s, at + 3));
-        return hex_at(at, a, b);
+        return hex_from(s, at);
     }
     plain_at(at, plain(c))
 }

@@ -1,14 +1,13 @@
-use mathlib.Core.Path.{_≡_, refl, sym, _∙_, ap, subst}
-use native.Mathlib.Omega.{arith}
 use Rattle.lex_spelling.proofs.Cases.{escapes}
+use native.Mathlib.Omega.{arith}
+use mathlib.Core.Path.{_≡_, refl, sym, _∙_, ap, subst}
 use borrow.Author.Needs.{needs}
 use Rattle.lex_spelling.proofs.escape.Statement.{statement}
 use Rattle.lex_spelling.proofs.escape.Tie as tie
 use Rattle.lex_spelling.proofs.escape.Reads as reads
 use Rattle.lex_spelling.proofs.escape.Lts as lts
 use Rattle.base_prelude.proofs.byte_at.Reads as byte-at-reads
-use Rattle.lex_spelling.proofs.hex.Reads as hex-reads
-use Rattle.lex_spelling.proofs.hex_at.Reads as hex-at-reads
+use Rattle.lex_spelling.proofs.hex_from.Reads as hex-from-reads
 use Rattle.lex_spelling.proofs.plain.Reads as plain-reads
 use Rattle.lex_spelling.proofs.plain_at.Reads as plain-at-reads
 
@@ -18,26 +17,8 @@ add-byte-at c = search needs
 byte-at-requires : tie.Need-byte-at-requires
 byte-at-requires c κs = search needs
 
-add-byte-at-2 : tie.Need-add-byte-at-2
-add-byte-at-2 c = search needs
-
-byte-at-requires-2 : tie.Need-byte-at-requires-2
-byte-at-requires-2 c κs = search needs
-
-hex-requires : tie.Need-hex-requires
-hex-requires c κs = search needs
-
-add-byte-at-3 : tie.Need-add-byte-at-3
-add-byte-at-3 c = search needs
-
-byte-at-requires-3 : tie.Need-byte-at-requires-3
-byte-at-requires-3 c κs = search needs
-
-hex-requires-2 : tie.Need-hex-requires-2
-hex-requires-2 c κs = search needs
-
-hex-at-requires : tie.Need-hex-at-requires
-hex-at-requires c κs = search needs
+hex-from-requires : tie.Need-hex-from-requires
+hex-from-requires c κs = search needs
 
 returns : tie.Need-returns
 returns c =
@@ -59,13 +40,7 @@ escape-spec =
     (tie.spec
     add-byte-at
     byte-at-requires
-    add-byte-at-2
-    byte-at-requires-2
-    hex-requires
-    add-byte-at-3
-    byte-at-requires-3
-    hex-requires-2
-    hex-at-requires
+    hex-from-requires
     returns
     plain-requires
     plain-at-requires
