@@ -23,5 +23,7 @@ key-lower p q m n hq hm h = omega (arith, key-is p m (omega arith), key-is q n h
 pub key-place : (p n : ℕ) → p < 4294967296 → n < 64 → key p n / 64 ≡ p
 key-place p n hp hn = omega (arith, key-is p n hp)
 
-pub key-number : (p n : ℕ) → p < 4294967296 → n < 64 → key p n % 64 ≡ n
-key-number p n hp hn = omega (arith, key-is p n hp)
+-- the number, whatever the place
+pub key-number : (p n : ℕ) → n < 64 → key p n % 64 ≡ n
+unfolding key
+key-number p n h = omega arith

@@ -5,3 +5,4 @@ pub mod Rows
 pub mod Tokens
 pub mod Filling
 pub mod Laws
+pub mod Examples

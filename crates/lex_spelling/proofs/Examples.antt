@@ -29,6 +29,11 @@ second-places : (escapeAt (92 ∷ 120 ∷ 52 ∷ 103 ∷ []) 0 ≡ Bad 3) × (es
 unfolding escapeAt hexFrom hexAt plainAt badPlace hexOf plainOf byteAt ifEq ifLt
 second-places = (refl, refl, refl)
 
+-- one byte goes on with `\xg`, two with `\x4g`
+bytes-going-on : (hexAt 0 16 4 ≡ Bad (badPlace 0 1)) × (hexAt 0 4 16 ≡ Bad (badPlace 0 2))
+unfolding hexAt ifLt
+bytes-going-on = (refl, refl)
+
 -- `\t` is an escape, `\q` begins none
 short-begun : (escapeBegins (92 ∷ 116 ∷ []) ≡ true) × (escapeBegins (92 ∷ 113 ∷ []) ≡ false)
 unfolding somePattern patterns begins shortBytes hexDigits isAmong ifTrue

@@ -10,7 +10,7 @@ use Rattle.base_prelude.specs.Bytes.{byteAt}
 use Rattle.base_prelude.specs.Fault.{none, key, keyPlace, keyNumber}
 use Rattle.base_prelude.specs.Walk.{Step, go, stop, walk}
 use Rattle.base_prelude.proofs.Choice.{either, either-true, ifLt-no}
-use Rattle.base_prelude.proofs.Keys.{key-place}
+use Rattle.base_prelude.proofs.Keys.{key-place, key-number}
 use Rattle.base_prelude.proofs.Walk.{walk-go, walk-stop}
 use Rattle.base_limits.specs.Limits.{nameBytes, sourceBytes, tokens}
 use Rattle.base_limits.specs.declared.Width.{Width}
@@ -33,8 +33,7 @@ abbrev Other : ℕ → Type 0
 Other k = keyNumber k ≡ 3 → ⊥
 
 other-key : (p m : ℕ) → m < 64 → (m ≡ 3 → ⊥) → Other (key p m)
-unfolding key
-other-key p m h n e = n (omega arith)
+other-key p m h n e = n (sym (key-number p m h) ∙ e)
 
 other-none : Other none
 other-none e = let z : ⊥ = omega arith in z

@@ -77,7 +77,7 @@ one-fault : (k p m : ℕ) (gs : List (List ℕ)) (a : Checked) → k ≡ key p m
 one-fault k p m gs a e hp hm =
     let f : key p m < none = key-fault p m hm in
     judge-fault (k ∷ []) gs a (key p m) (one-least k (omega arith) ∙ e) f
-    ∙ ap (λ (v : ℕ). Refused v (keyPlace (key p m))) (key-number p m hp hm) ∙ ap (λ (v : ℕ). Refused m v) (key-place p m hp hm)
+    ∙ ap (λ (v : ℕ). Refused v (keyPlace (key p m))) (key-number p m hm) ∙ ap (λ (v : ℕ). Refused m v) (key-place p m hp hm)
 
 one-clean : (k : ℕ) (gs : List (List ℕ)) (a : Checked) → k ≡ none → judge ((k ∷ []) ∷ gs) a ≡ judge gs a
 one-clean k gs a e = judge-clean (k ∷ []) gs a (omega (arith, one-least k (omega arith)))
@@ -176,7 +176,7 @@ module _ (w : Width) (s : List ℕ) (b : Lent) where
   long-is h =
       ap (λ (o : Outcome). said w s b (tokenGroup w s o)) (long-refused w s h)
       ∙ refusal-is w s b _ _
-      ∙ ap (λ (v : ℕ). Refused v (keyPlace (key 16384 1))) (key-number 16384 1 (omega arith) (omega arith))
+      ∙ ap (λ (v : ℕ). Refused v (keyPlace (key 16384 1))) (key-number 16384 1 (omega arith))
       ∙ ap (λ (v : ℕ). Refused 1 v) (key-place 16384 1 (omega arith) (omega arith))
       ∙ sym (one-fault _ 16384 1 _ (countsFor (tokensIn (lexOf w s))) (ifLt-yes (key 16384 1) none h) (omega arith) (omega arith))
 
