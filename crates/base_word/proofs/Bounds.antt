@@ -6,14 +6,14 @@ use Prim.Native.Nat.{ℕ, _+_, _-_, _*_, _/_, _%_, _^_, _≤_, _<_}
 use native.Mathlib.Nat.{mod-lt, mod-le, div-le-self, lt-of-le-of-lt, lt-of-lt-of-le, le-of-lt, add-comm, sub-le}
 use native.Mathlib.Omega.{arith}
 use borrow.Author.Tests.{leb-true}
-use lib.Dec.{eqb}
-use lib.Pow.{pow-pos, pow-mono, shl-lt, shr-lt, shr-le, ones-sub-lt}
+use lib.Dec.{ltb, eqb}
+use lib.Pow.{pow-pos, pow-mono, shl-lt, shr-lt, shr-le, ones-lt, ones-sub-lt}
 use lib.Bits.{and-le-l, or-lt, xor-lt}
 use Rattle.base_prelude.specs.Choice.{pick}
 use Rattle.base_word.specs.declared.Answer.the-variants.{Word, Division, Shift}
 use Rattle.base_word.specs.Answers.{WordBelow}
 use Rattle.base_word.proofs.Answers.{choice}
-use Rattle.base_word.specs.Word.{addOf, subOf, mulOf, negative, magnitude, negated, signedWord, differ, quotient, remainder, noWord, divOf, modOf, shiftAnswer, shiftCount, rotateCount, shlBy, bsrBy, asrBy, rolBy, rorBy, shlOf, bsrOf, shrOf, asrOf, rolOf, rorOf, andOf, orOf, xorOf, notOf}
+use Rattle.base_word.specs.Word.{addOf, subOf, mulOf, negative, magnitude, negated, signedWord, differ, quotient, remainder, noWord, divOf, modOf, shiftAnswer, shifted, signFill, rotateCount, shlBy, bsrBy, asrBy, rolBy, rorBy, shlOf, bsrOf, shrOf, asrOf, rolOf, rorOf, andOf, orOf, xorOf, notOf}
 
 module _ (w a b : ℕ) where
   pub add-below : addOf w a b < 2 ^ w
@@ -77,9 +77,15 @@ module _ (w a n : ℕ) where
   answer-below : (r : ℕ) → r < 2 ^ w → WordBelow w (shiftAnswer w n r)
   answer-below r p = choice (WordBelow w) (negative w n) Shift (Word r) (λ e. tt) (λ e. p)
 
+  shifted-below : (near far : ℕ) → near < 2 ^ w → far < 2 ^ w → WordBelow w (shifted w n near far)
+  shifted-below near far p q = answer-below (pick (ltb n w) near far) (choice (λ (x : ℕ). x < 2 ^ w) (ltb n w) near far (λ e. p) (λ e. q))
+
+  fill-below : signFill w a < 2 ^ w
+  fill-below = choice (λ (x : ℕ). x < 2 ^ w) (negative w a) (2 ^ w - 1) 0 (λ e. ones-lt w) (λ e. pow-pos w)
+
   pub shl-below : WordBelow w (shlOf w a n)
   unfolding shlOf
-  shl-below = answer-below (shlBy w a (shiftCount w n)) (mod-lt (a * 2 ^ shiftCount w n) (pow-pos w))
+  shl-below = shifted-below (shlBy w a n) 0 (mod-lt (a * 2 ^ n) (pow-pos w)) (pow-pos w)
 
 module _ (w a n : ℕ) (ha : a < 2 ^ w) where
   pub bsr-by-below : bsrBy w a n < 2 ^ w
@@ -101,14 +107,14 @@ module _ (w a n : ℕ) (ha : a < 2 ^ w) where
 module _ (w a n : ℕ) (ha : a < 2 ^ w) where
   pub bsr-below : WordBelow w (bsrOf w a n)
   unfolding bsrOf
-  bsr-below = answer-below w a n (bsrBy w a (shiftCount w n)) (bsr-by-below w a (shiftCount w n) ha)
+  bsr-below = shifted-below w a n (bsrBy w a n) 0 (bsr-by-below w a n ha) (pow-pos w)
 
   pub shr-below : WordBelow w (shrOf w a n)
   shr-below = bsr-below
 
   pub asr-below : WordBelow w (asrOf w a n)
   unfolding asrOf
-  asr-below = answer-below w a n (asrBy w a (shiftCount w n)) (asr-by-below w a (shiftCount w n) ha)
+  asr-below = shifted-below w a n (asrBy w a n) (signFill w a) (asr-by-below w a n ha) (fill-below w a n)
 
   pub rol-below : 0 < w → WordBelow w (rolOf w a n)
   unfolding rolOf

@@ -3,5 +3,7 @@ pub mod Cases
 pub mod Answers
 pub mod Values
 pub mod Results
+pub mod Floors
 pub mod Bounds
 pub mod Inverse
+pub mod Counts

@@ -1,17 +1,17 @@
--- The signed values of quotient, remainder and shifts, at every width: the result has a word, and its signed value is the
+-- The signed values of quotient and remainder, at every width: the result has a word, and its signed value is the
 -- integers' result.
 -- Assumes nothing.
 use mathlib.Core.Path.{_≡_, refl, sym, ap, _∙_}
 use mathlib.Core.Bool.{Bool, true, false}
-use Prim.Native.Nat.{ℕ, zero, suc, _+_, _-_, _*_, _/_, _%_, _^_, _≤_, _<_, zero-le}
-use native.Mathlib.Nat.{mod-one, mod-self, div-le-self, div-lt-self, div-one, div-eq-of-lt, mul-mod-left, mul-assoc, sub-add-cancel, sub-zero, lt-of-le-of-lt, lt-of-lt-of-le, le-trans, le-suc, le-of-suc-le-suc}
+use Prim.Native.Nat.{ℕ, zero, suc, _+_, _-_, _/_, _^_, _≤_, _<_, zero-le}
+use native.Mathlib.Nat.{mod-one, mod-self, div-le-self, div-lt-self, div-one, sub-zero, lt-of-le-of-lt, lt-of-lt-of-le, le-trans, le-suc, le-of-suc-le-suc}
 use native.Mathlib.Omega.{arith}
 use borrow.Author.Tests.{leb-true, leb-false, le-leb, lt-leb, eq-eqb, ne-eqb}
 use lib.Dec.{eqb}
 use lib.Arith.{lt-of-le-ne}
-use lib.Pow.{pow-pos, pow-add, pow-mono}
+use lib.Pow.{pow-pos}
 use lib.IntN.{ℤ, pos, negsuc, negℤ}
-use lib.Signed.{mag, quotZ, remZ, shrZ, mag-rem}
+use lib.Signed.{mag, quotZ, remZ, mag-rem}
 use Rattle.base_prelude.proofs.Choice.{true-false}
 use Rattle.base_prelude.specs.Choice.{pick}
 use Rattle.base_word.specs.declared.Answer.the-variants.{Word, Division}
@@ -19,7 +19,7 @@ use Rattle.base_word.specs.Answers.{OfWord}
 use Rattle.base_word.proofs.Answers.{choice}
 use Rattle.base_word.specs.Values.{value, wordOf}
 use Rattle.base_word.proofs.Values.{word-value, quotient-is, remainder-is, halves}
-use Rattle.base_word.specs.Word.{negative, quotient, remainder, noWord, divOf, modOf, shlBy, bsrBy, asrBy}
+use Rattle.base_word.specs.Word.{negative, quotient, remainder, noWord, divOf, modOf}
 
 -- ---- integers that have a word
 
@@ -123,34 +123,3 @@ mod-least w p =
     in let q : 0 < 2 ^ (w - 1) = pow-pos (w - 1)
     in let d : 2 ^ w - (2 ^ w - 1) ≡ 1 = omega arith
     in rw (ne-eqb (2 ^ w - 1) 0 (least-divisor w p), le-leb (2 ^ (w - 1)) (2 ^ (w - 1)) (omega arith), le-leb (2 ^ (w - 1)) (2 ^ w - 1) (omega arith), d, mod-one (2 ^ w - 2 ^ (w - 1)), sub-zero (2 ^ w), mod-self (2 ^ w))
-
--- ---- shifts
-
--- `asr` rounds the signed value down
-pub asr-is : (w a n : ℕ) → a < 2 ^ w → wordOf w (shrZ (value w a) (2 ^ n)) ≡ asrBy w a n
-asr-is w a n h = go (negative w a)
-  where
-    go : (s : Bool) → wordOf w (shrZ (pick s (negsuc (2 ^ w - suc a)) (pos a)) (2 ^ n))
-        ≡ pick s ((2 ^ w - 1) - ((2 ^ w - 1) - a) / 2 ^ n) (a / 2 ^ n)
-    go true = let e : 2 ^ w - suc a ≡ 2 ^ w - 1 - a = omega arith in rw e (omega arith)
-    go false = refl
-
--- a shift by w or more, for every count: no bit of the word is left
-module _ (w a n : ℕ) (p : w ≤ n) where
-  pub shl-far : shlBy w a n ≡ 0
-  shl-far =
-      ap (λ (k : ℕ). a * 2 ^ k % 2 ^ w) (sym (sub-add-cancel p))
-      ∙ ap (λ (k : ℕ). a * k % 2 ^ w) (pow-add 2 (n - w) w)
-      ∙ ap (λ (k : ℕ). k % 2 ^ w) (sym (mul-assoc a (2 ^ (n - w)) (2 ^ w)))
-      ∙ mul-mod-left (a * 2 ^ (n - w)) (2 ^ w)
-
-  pub bsr-far : a < 2 ^ w → bsrBy w a n ≡ 0
-  bsr-far h = div-eq-of-lt (lt-of-lt-of-le h (pow-mono p))
-
-module _ (w a n : ℕ) (p : w ≤ n) (h : a < 2 ^ w) where
-  pub asr-far : asrBy w a n ≡ pick (negative w a) (2 ^ w - 1) 0
-  asr-far = go (negative w a)
-    where
-      go : (s : Bool) → pick s ((2 ^ w - 1) - ((2 ^ w - 1) - a) / 2 ^ n) (a / 2 ^ n) ≡ pick s (2 ^ w - 1) 0
-      go true = ap (λ (k : ℕ). 2 ^ w - 1 - k) (bsr-far w (2 ^ w - 1 - a) n p (let q : 0 < 2 ^ w = pow-pos w in omega arith)) ∙ sub-zero (2 ^ w - 1)
-      go false = bsr-far w a n p h

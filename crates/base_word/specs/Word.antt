@@ -80,11 +80,11 @@ modOf w a b = pick (eqb b 0) Division (Word (remainder w a b))
 abbrev pub shiftAnswer : ℕ → ℕ → ℕ → Answer
 shiftAnswer w n r = pick (negative w n) Shift (Word r)
 
--- "Shifts [..] take the count modulo 32": how far a shift moves
-abbrev pub shiftCount : ℕ → ℕ → ℕ
-shiftCount w n = n % w
+-- what a shift by n gives: `near` for a count below the width, `far` for "a count of 32 or more"
+abbrev pub shifted : ℕ → ℕ → ℕ → ℕ → Answer
+shifted w n near far = shiftAnswer w n (pick (ltb n w) near far)
 
--- "[..] rotates take the count modulo 32": how far a rotate moves
+-- "Rotates keep modulo 32": how far a rotate moves
 abbrev pub rotateCount : ℕ → ℕ → ℕ
 rotateCount w n = n % w
 
@@ -108,27 +108,31 @@ rolBy w a n = bitOr ((a * 2 ^ n) % 2 ^ w) (a * 2 ^ n / 2 ^ w)
 abbrev pub rorBy : ℕ → ℕ → ℕ → ℕ
 rorBy w a n = rolBy w a (w - n)
 
--- "Shifts [..] take the count modulo 32; a negative count is stop 31": to the left
-unfoldable pub shlOf : ℕ → ℕ → ℕ → Answer
-shlOf w a n = shiftAnswer w n (shlBy w a (shiftCount w n))
+-- "0 or -1 by the sign of x": every bit a copy of the sign bit
+abbrev pub signFill : ℕ → ℕ → ℕ
+signFill w a = pick (negative w a) (2 ^ w - 1) 0
 
--- "Shifts [..] take the count modulo 32; a negative count is stop 31": to the right, zeros from the left
+-- "For `shl`, `shr` and `bsr` a count of 32 or more gives 0": to the left
+unfoldable pub shlOf : ℕ → ℕ → ℕ → Answer
+shlOf w a n = shifted w n (shlBy w a n) 0
+
+-- "For `shl`, `shr` and `bsr` a count of 32 or more gives 0": to the right, zeros from the left
 unfoldable pub bsrOf : ℕ → ℕ → ℕ → Answer
-bsrOf w a n = shiftAnswer w n (bsrBy w a (shiftCount w n))
+bsrOf w a n = shifted w n (bsrBy w a n) 0
 
 -- "`shr` is `bsr`"
 abbrev pub shrOf : ℕ → ℕ → ℕ → Answer
 shrOf = bsrOf
 
--- "Shifts [..] take the count modulo 32; a negative count is stop 31": to the right, the sign bit from the left
+-- "for `asr` it gives 0 or -1 by the sign of x": to the right, the sign bit from the left
 unfoldable pub asrOf : ℕ → ℕ → ℕ → Answer
-asrOf w a n = shiftAnswer w n (asrBy w a (shiftCount w n))
+asrOf w a n = shifted w n (asrBy w a n) (signFill w a)
 
--- "[..] rotates take the count modulo 32; a negative count is stop 31": to the left
+-- "Rotates keep modulo 32": to the left
 unfoldable pub rolOf : ℕ → ℕ → ℕ → Answer
 rolOf w a n = shiftAnswer w n (rolBy w a (rotateCount w n))
 
--- "[..] rotates take the count modulo 32; a negative count is stop 31": to the right
+-- "Rotates keep modulo 32": to the right
 unfoldable pub rorOf : ℕ → ℕ → ℕ → Answer
 rorOf w a n = shiftAnswer w n (rorBy w a (rotateCount w n))
 

@@ -4,7 +4,7 @@ ghost use Prim.Native.Nat.{_≤_, _<_};
 ghost use Rattle.base_word.specs.Word.{addOf, subOf, mulOf};
 ghost use Rattle.base_word.specs.Word.{negative, magnitude, negated, signedWord, differ};
 ghost use Rattle.base_word.specs.Word.{quotient, remainder, noWord, divOf, modOf};
-ghost use Rattle.base_word.specs.Word.{shiftAnswer, shiftCount, rotateCount};
+ghost use Rattle.base_word.specs.Word.{shiftAnswer, shifted, signFill, rotateCount};
 ghost use Rattle.base_word.specs.Word.{shlBy, bsrBy, asrBy, rolBy, rorBy};
 ghost use Rattle.base_word.specs.Word.{shlOf, bsrOf, asrOf, rolOf, rorOf};
 ghost use Rattle.base_word.specs.Word.{andOf, orOf, xorOf, notOf};
@@ -132,15 +132,19 @@ fn with_count(n: u32, r: u32) -> Answer
     }
 }
 
-// How far a shift moves.
-fn shift_count(n: u32) -> u32
-    ensures { λ r. ⌜ r ≡ shiftCount 32 n ⌝ }
+// `near` for a count below the width, `far` for a longer one; a count below the width is not negative.
+fn with_width(n: u32, near: u32, far: u32) -> Answer
+    ensures { λ r. ⌜ r ≡ shifted 32 n near far ⌝ }
 {
-    n % 32
+    if n < 32 {
+        Answer::Word(near)
+    } else {
+        with_count(n, far)
+    }
 }
 
-// How far a rotate moves.
-fn rotate_count(n: u32) -> u32
+// How far a rotate moves, and a shift by less than the width.
+fn count_modulo(n: u32) -> u32
     ensures { λ r. ⌜ r ≡ rotateCount 32 n ⌝ }
 {
     n % 32
@@ -171,6 +175,12 @@ fn asr_by(a: u32, n: u32) -> u32
     4294967295 - m
 }
 
+fn sign_fill(a: u32) -> u32
+    ensures { λ r. ⌜ r ≡ signFill 32 a ⌝ }
+{
+    if 2147483648 <= a { 4294967295 } else { 0 }
+}
+
 fn rol_by(a: u32, n: u32) -> u32
     requires { ⌜ n ≤ 32 ⌝ }
     ensures { λ r. ⌜ r ≡ rolBy 32 a n ⌝ }
@@ -186,35 +196,36 @@ fn ror_by(a: u32, n: u32) -> u32
     rol_by(a, 32 - n)
 }
 
+// The word moved by the count modulo 32 serves counts below 32 alone.
 pub fn shl(a: u32, n: u32) -> Answer
     ensures { λ r. ⌜ r ≡ shlOf 32 a n ⌝ }
 {
-    with_count(n, shl_by(a, shift_count(n)))
+    with_width(n, shl_by(a, count_modulo(n)), 0)
 }
 
 // Serves `shr` too.
 pub fn bsr(a: u32, n: u32) -> Answer
     ensures { λ r. ⌜ r ≡ bsrOf 32 a n ⌝ }
 {
-    with_count(n, bsr_by(a, shift_count(n)))
+    with_width(n, bsr_by(a, count_modulo(n)), 0)
 }
 
 pub fn asr(a: u32, n: u32) -> Answer
     ensures { λ r. ⌜ r ≡ asrOf 32 a n ⌝ }
 {
-    with_count(n, asr_by(a, shift_count(n)))
+    with_width(n, asr_by(a, count_modulo(n)), sign_fill(a))
 }
 
 pub fn rol(a: u32, n: u32) -> Answer
     ensures { λ r. ⌜ r ≡ rolOf 32 a n ⌝ }
 {
-    with_count(n, rol_by(a, rotate_count(n)))
+    with_count(n, rol_by(a, count_modulo(n)))
 }
 
 pub fn ror(a: u32, n: u32) -> Answer
     ensures { λ r. ⌜ r ≡ rorOf 32 a n ⌝ }
 {
-    with_count(n, ror_by(a, rotate_count(n)))
+    with_count(n, ror_by(a, count_modulo(n)))
 }
 
 pub fn and(a: u32, b: u32) -> u32

