@@ -239,7 +239,7 @@ static uint32_t apply(const struct run *r, uint32_t e, uint32_t x, uint32_t y, u
     case 35:
         if ((int32_t)y < 0)
             return 31;
-        *v = (uint32_t)((int32_t)x >> (y & 31));
+        *v = (uint32_t)((int32_t)x >> (y < 32 ? y : 31));
         return 0;
     case 36: return reserve(r, x, v, top);
     case 37: return reserve(r, 4 * (uint64_t)x, v, top);
@@ -247,7 +247,7 @@ static uint32_t apply(const struct run *r, uint32_t e, uint32_t x, uint32_t y, u
     case 49:
         if ((int32_t)y < 0)
             return 31;
-        *v = x >> (y & 31);
+        *v = y < 32 ? x >> y : 0;
         return 0;
     case 39:
         if (y == 0 || (x == 0x80000000u && y == 0xffffffffu))
@@ -289,7 +289,7 @@ static uint32_t apply(const struct run *r, uint32_t e, uint32_t x, uint32_t y, u
     case 48:
         if ((int32_t)y < 0)
             return 31;
-        *v = x << (y & 31);
+        *v = y < 32 ? x << y : 0;
         return 0;
     case 50: *v = x - y; return 0;
     default: *v = x ^ y; return 0;
