@@ -5,7 +5,8 @@ use mathlib.Core.Bool.{Bool, true, false}
 use Prim.Native.Nat.{ℕ, suc, _+_, _-_, _*_, _/_, _%_, _^_, _≤_, _<_}
 use native.Mathlib.Nat.{div-eq-of-lt, div-add-mod', mod-lt, mul-mod-left, mul-assoc, suc-mul, sub-add-cancel, sub-zero, lt-of-le-of-lt, lt-of-lt-of-le}
 use native.Mathlib.Omega.{arith}
-use borrow.Author.Tests.{ltb-false}
+use borrow.Author.Tests.{ltb-false, lt-ltb}
+use lib.Arith.{digits-div}
 use lib.Dec.{ltb}
 use lib.Pow.{pow-pos, pow-add, pow-mono}
 use lib.IntN.{ℤ, pos, negsuc, negℤ, _+ℤ_, _*ℤ_, pos-+ℤ-pos, pos-*ℤ-pos, negsuc-*ℤ-pos, negℤ-+ℤ, -ℤ-+ℤ-cancel}
@@ -93,6 +94,20 @@ floor-is (negsuc a) m p = record { rest = left; rest-below = omega arith; whole 
     total =
         ap (λ (x : ℤ). x +ℤ pos left) (negsuc-*ℤ-pos (a / m) m ∙ ap (λ (k : ℕ). negℤ (pos k)) parts ∙ ap negℤ (sym (pos-+ℤ-pos (suc a) left)) ∙ negℤ-+ℤ (pos (suc a)) (pos left))
         ∙ -ℤ-+ℤ-cancel (negℤ (pos (suc a))) (pos left)
+
+floor-at : (m : ℕ) (q : ℤ) (r : ℕ) → r < m → shrZ (q *ℤ pos m +ℤ pos r) m ≡ q
+floor-at m (pos c) r h = ap pos (digits-div c h)
+floor-at m (negsuc c) r h =
+    let e : suc c * m ≡ suc (c * m + (m - suc r) + r) = omega (arith, suc-mul c m)
+    in let d : suc (c * m + (m - suc r) + r) - suc r ≡ c * m + (m - suc r) = omega arith
+    in rw (e, lt-ltb r (suc (c * m + (m - suc r) + r)) (omega arith), d) (ap negsuc (digits-div c (omega arith)))
+
+-- a number has one floor
+pub floor-once : (x : ℤ) (m : ℕ) (p q : ℤ) → Floor x m p → Floor x m q → p ≡ q
+floor-once x m p q f g = sym (rounded p f) ∙ rounded q g
+  where
+    rounded : (q : ℤ) → Floor x m q → shrZ x m ≡ q
+    rounded q f = ap (λ (z : ℤ). shrZ z m) (sym (f .whole)) ∙ floor-at m q (f .rest) (f .rest-below)
 
 module _ (w a n : ℕ) (h : a < 2 ^ w) where
   -- where `bsr` is not refused, it gives the floor of x / 2 ^ n
