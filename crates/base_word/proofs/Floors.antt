@@ -15,7 +15,8 @@ use Rattle.base_prelude.specs.Choice.{pick}
 use Rattle.base_word.specs.declared.Answer.the-variants.{Word, Shift}
 use Rattle.base_word.specs.Answers.{OfWord}
 use Rattle.base_word.proofs.Answers.{choice}
-use Rattle.base_word.specs.Values.{value, wordOf, Floor}
+use Rattle.base_word.specs.Values.{value, wordOf}
+use Rattle.base_word.specs.Shifts.{Floor}
 use Rattle.base_word.proofs.Results.{value-word, value-small}
 use Rattle.base_word.specs.Word.{negative, shiftAnswer, signFill, shlBy, bsrBy, asrBy, shlOf, bsrOf, asrOf}
 
@@ -108,6 +109,17 @@ floor-once x m p q f g = sym (rounded p f) ∙ rounded q g
   where
     rounded : (q : ℤ) → Floor x m q → shrZ x m ≡ q
     rounded q f = ap (λ (z : ℤ). shrZ z m) (sym (f .whole)) ∙ floor-at m q (f .rest) (f .rest-below)
+
+-- -7 by 2: -4 with the rest 1
+pub floor-good : Floor (negsuc 6) 2 (negsuc 3)
+floor-good = record { rest = 1; rest-below = omega arith; whole = refl }
+
+-- neither -3, which is nearer to 0, nor -5
+pub floor-high : Floor (negsuc 6) 2 (negsuc 2) → ⊥
+floor-high f = let e : _≡_ {A = ℕ} 2 3 = ap mag (floor-once (negsuc 6) 2 (negsuc 2) (negsuc 3) f floor-good) in omega arith
+
+pub floor-deep : Floor (negsuc 6) 2 (negsuc 4) → ⊥
+floor-deep f = let e : _≡_ {A = ℕ} 4 3 = ap mag (floor-once (negsuc 6) 2 (negsuc 4) (negsuc 3) f floor-good) in omega arith
 
 module _ (w a n : ℕ) (h : a < 2 ^ w) where
   -- where `bsr` is not refused, it gives the floor of x / 2 ^ n

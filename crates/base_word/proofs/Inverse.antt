@@ -30,7 +30,7 @@ module _ (w a b : ℕ) (ha : a < 2 ^ w) (hb : b < 2 ^ w) where
       in mod-add-mod (a + b) (2 ^ w) (2 ^ w - b) ∙ ap (λ (n : ℕ). n % 2 ^ w) e ∙ around
 
 -- a rotate by k exchanges the k high bits and the j low ones
-rol-parts : (j k hi lo : ℕ) → hi < 2 ^ k → lo < 2 ^ j → rolBy (j + k) (hi * 2 ^ j + lo) k ≡ lo * 2 ^ k + hi
+pub rol-parts : (j k hi lo : ℕ) → hi < 2 ^ k → lo < 2 ^ j → rolBy (j + k) (hi * 2 ^ j + lo) k ≡ lo * 2 ^ k + hi
 rol-parts j k hi lo p q = ap₂ bitOr low-part high-part ∙ or-shifted lo k hi p
   where
     product : (hi * 2 ^ j + lo) * 2 ^ k ≡ hi * 2 ^ (j + k) + lo * 2 ^ k
@@ -44,7 +44,8 @@ rol-parts j k hi lo p q = ap₂ bitOr low-part high-part ∙ or-shifted lo k hi 
     high-part : (hi * 2 ^ j + lo) * 2 ^ k / 2 ^ (j + k) ≡ hi
     high-part = ap (λ (x : ℕ). x / 2 ^ (j + k)) product ∙ high hi (j + k) (shl-lt j k q)
 
-rol-rol : (j k a : ℕ) → a < 2 ^ (j + k) → rolBy (j + k) (rolBy (j + k) a k) j ≡ a
+-- a rotate by k and one by j, of j + k bits, give the word back
+pub rol-rol : (j k a : ℕ) → a < 2 ^ (j + k) → rolBy (j + k) (rolBy (j + k) a k) j ≡ a
 rol-rol j k a h =
     ap (λ (x : ℕ). rolBy (j + k) x j) (sym (ap (λ (x : ℕ). rolBy (j + k) x k) (split a j)) ∙ rol-parts j k (a / 2 ^ j) (a % 2 ^ j) few (mod-lt a (pow-pos j)))
     ∙ ap (λ (w : ℕ). rolBy w (a % 2 ^ j * 2 ^ k + a / 2 ^ j) j) (add-comm j k)

@@ -6,4 +6,5 @@ pub mod Results
 pub mod Floors
 pub mod Bounds
 pub mod Inverse
+pub mod Turns
 pub mod Counts

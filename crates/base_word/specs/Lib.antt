@@ -1,4 +1,5 @@
 pub mod Word
 pub mod Answers
 pub mod Values
+pub mod Shifts
 pub mod Bytes
