@@ -372,7 +372,7 @@ static const struct {
 
 static uint32_t check(void)
 {
-    return voodoo_check((const uint8_t *)source, size, tokens, VOODOO_TOKEN_WORDS, statements, VOODOO_STATEMENT_WORDS, labels,
+    return voodoo_check((const uint8_t *)source, size, NULL, 0, NULL, 0, tokens, VOODOO_TOKEN_WORDS, statements, VOODOO_STATEMENT_WORDS, labels,
                         VOODOO_LABEL_WORDS, names, VOODOO_NAME_BYTES, data, VOODOO_DATA_BYTES, result, VOODOO_RESULT_WORDS);
 }
 

@@ -49,7 +49,7 @@ static void check(const char *path)
         fail(path);
     size_t size = fread(source, 1, sizeof source, file);
     fclose(file);
-    if (voodoo_check(source, size, tokens, VOODOO_TOKEN_WORDS, statements, VOODOO_STATEMENT_WORDS, labels, VOODOO_LABEL_WORDS,
+    if (voodoo_check(source, size, NULL, 0, NULL, 0, tokens, VOODOO_TOKEN_WORDS, statements, VOODOO_STATEMENT_WORDS, labels, VOODOO_LABEL_WORDS,
                      names, VOODOO_NAME_BYTES, data, VOODOO_DATA_BYTES, checked, VOODOO_RESULT_WORDS) != 0)
         fail("the rules are refused");
 }

@@ -28,8 +28,8 @@ static bool check(const char *path)
         return false;
     size_t size = fread(source, 1, sizeof source, file);
     fclose(file);
-    return voodoo_check(source, size, tokens, VOODOO_TOKEN_WORDS, statements, VOODOO_STATEMENT_WORDS, labels,
-                        VOODOO_LABEL_WORDS, names, VOODOO_NAME_BYTES, data, VOODOO_DATA_BYTES, checked,
+    return voodoo_check(source, size, NULL, 0, NULL, 0, tokens, VOODOO_TOKEN_WORDS, statements, VOODOO_STATEMENT_WORDS,
+                        labels, VOODOO_LABEL_WORDS, names, VOODOO_NAME_BYTES, data, VOODOO_DATA_BYTES, checked,
                         VOODOO_RESULT_WORDS) == VOODOO_ACCEPTED;
 }
 
@@ -76,7 +76,7 @@ int main(int count, char **words)
             return 1;
         if (i > 0)
             memcpy(memory + stock, kept, STOCK_BYTES); /* over the data that the start has written */
-        if (run() != 0 || result[VOODOO_FINISHED] != 1)
+        if (run() != 0 || result[VOODOO_OUTCOME] != VOODOO_OUTCOME_FINISHED)
             return 1;
         memcpy(kept, memory + stock, STOCK_BYTES);
         printf("%" PRId32 "\n", (int32_t)result[VOODOO_WORD]);

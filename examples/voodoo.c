@@ -1,12 +1,13 @@
 /*
  * Checks and runs files of Voodoo rules: a host of include/voodoo.h.
  *
- *     voodoo check FILE
- *     voodoo run [--steps N] [--stack WORDS] [--memory BYTES] FILE NAME [ARGUMENT..]
+ *     voodoo check [--hosts LIST] FILE
+ *     voodoo run [OPTION..] FILE NAME [ARGUMENT..]
  *
- * Results go to standard output; refusals, stops and errors to standard error. Exit
- * status 0: accepted, or run to its end; 1: refused; 2: wrong use, a file that cannot
- * be read, or a result that cannot be written; 3: stopped; 4: the steps are used up.
+ * Results go to standard output; refusals, stops, questions and errors to standard
+ * error. Exit status 0: accepted, or run to its end; 1: refused; 2: wrong use, a file
+ * that cannot be read, or a result that cannot be written; 3: stopped; 4: the steps
+ * are used up; 6: paused, and nobody answers.
  */
 #include "voodoo.h"
 
@@ -17,7 +18,7 @@
 #include <stdlib.h>
 #include <string.h>
 
-enum { OK = 0, REFUSED = 1, MISUSED = 2, STOPPED = 3, USED_UP = 4 };
+enum { OK = 0, REFUSED = 1, MISUSED = 2, STOPPED = 3, USED_UP = 4, PAUSED = 6 };
 
 /* One byte more than a source may have, so that a longer file is seen to be longer. */
 static uint8_t source[VOODOO_SOURCE_BYTES + 1];
@@ -30,6 +31,12 @@ static uint32_t labels[VOODOO_LABEL_WORDS];
 static uint8_t names[VOODOO_NAME_BYTES];
 static uint8_t data[VOODOO_DATA_BYTES];
 static uint32_t checked[VOODOO_RESULT_WORDS];
+
+/* The functions that rules may import. */
+enum { HOSTS = 64 };
+static uint32_t hosts[HOSTS * VOODOO_HOST_ROW];
+static uint8_t host_names[HOSTS * VOODOO_NAME_ROW];
+static size_t host_count;
 
 /* A run of it. */
 static uint32_t record[VOODOO_RECORD_WORDS];
@@ -53,7 +60,7 @@ static const char *const meanings[] = {
     [VOODOO_LIMIT] = "a limit is passed",
     [VOODOO_BIG_DATA] = "more than 32,768 bytes of data",
     [VOODOO_SHORT_BUFFER] = "a buffer is too short",
-    [VOODOO_LATE_EXPORT] = "export after the first use",
+    [VOODOO_LATE_EXPORT] = "export or import after the first use",
     [VOODOO_NO_FUNCTION] = "no exported function of that name",
     [VOODOO_START_COUNT] = "wrong number of arguments",
     [VOODOO_MEMORY_LENGTH] = "memory shorter than the data, or over 65,536 bytes",
@@ -67,20 +74,25 @@ static const char *const meanings[] = {
 };
 
 static const char usage[] =
-    "usage: voodoo check FILE\n"
-    "       voodoo run [--steps N] [--stack WORDS] [--memory BYTES] FILE NAME [ARGUMENT..]\n"
+    "usage: voodoo check [--hosts LIST] FILE\n"
+    "       voodoo run [OPTION..] FILE NAME [ARGUMENT..]\n"
     "\n"
     "check says whether a file of rules is accepted, with its counts and labels, or shows\n"
     "where it is refused. run checks it, starts the exported function NAME with arguments\n"
     "from -2147483648 to 4294967295 and prints the word it returns, as a signed number.\n"
     "\n"
-    "  --steps N        the most statements to take (default 100000000)\n"
-    "  --stack WORDS    the stack lent to the run (default and most 16384)\n"
-    "  --memory BYTES   the memory lent to the run (default and most 65536)\n"
+    "  --hosts LIST     the functions that rules may import, each with the number of its\n"
+    "                   arguments (default bath/1,order/2)\n"
+    "  --answer NAME=WORD,..   run: what the imported NAME gives, call after call; where no\n"
+    "                   word is left it is asked for: a word a line on standard input\n"
+    "  --steps N        run: the most statements to take (default 100000000)\n"
+    "  --stack WORDS    run: the stack lent to it (default and most 16384)\n"
+    "  --memory BYTES   run: the memory lent to it (default and most 65536)\n"
     "\n"
-    "Results go to standard output; refusals, stops and errors to standard error.\n"
+    "Results go to standard output; refusals, stops, questions and errors to standard error.\n"
     "exit status: 0 accepted or run to its end, 1 refused, 2 wrong use, a file that cannot\n"
-    "be read or a result that cannot be written, 3 stopped, 4 steps used up\n";
+    "be read or a result that cannot be written, 3 stopped, 4 steps used up, 6 paused at\n"
+    "the end of standard input\n";
 
 /* ---- places in the source */
 
@@ -128,6 +140,7 @@ static void show_line(size_t start, size_t place)
     print_caret(from, place);
 }
 
+/* A message at a place: `what number: meaning`, or `what: meaning` without a number. */
 static void show(const char *path, size_t place, const char *what, uint32_t number, const char *meaning)
 {
     size_t line = 1, start = 0;
@@ -137,7 +150,10 @@ static void show(const char *path, size_t place, const char *what, uint32_t numb
             start = i + 1;
         }
     }
-    fprintf(stderr, "%s:%zu:%zu: %s %" PRIu32 ": %s\n", path, line, place - start + 1, what, number, meaning);
+    fprintf(stderr, "%s:%zu:%zu: %s", path, line, place - start + 1, what);
+    if (number != 0)
+        fprintf(stderr, " %" PRIu32, number);
+    fprintf(stderr, ": %s\n", meaning);
     show_line(start, place);
 }
 
@@ -154,10 +170,8 @@ static size_t place_of(uint32_t statement)
 
 /* ---- check */
 
-static void print_name(FILE *out, uint32_t label)
+static void print_bytes(FILE *out, const uint8_t *name, uint32_t length)
 {
-    const uint8_t *name = names + label * VOODOO_NAME_ROW;
-    uint32_t length = labels[label * VOODOO_LABEL_ROW + 3];
     for (uint32_t i = 0; i < length; i++) {
         uint8_t b = name[i];
         bool plain = (b >= 'a' && b <= 'z') || (b >= 'A' && b <= 'Z') || (b >= '0' && b <= '9') || b == '_' || b == '-';
@@ -166,6 +180,11 @@ static void print_name(FILE *out, uint32_t label)
         else
             fprintf(out, "\\x%02x", b);
     }
+}
+
+static void print_name(FILE *out, uint32_t label)
+{
+    print_bytes(out, names + label * VOODOO_NAME_ROW, labels[label * VOODOO_LABEL_ROW + 3]);
 }
 
 static void print_label(FILE *out, uint32_t label)
@@ -181,6 +200,8 @@ static void print_label(FILE *out, uint32_t label)
         const uint32_t *row = statements + number * VOODOO_STATEMENT_ROW;
         fprintf(out, ": function at statement %" PRIu32 "%s; parameters %" PRIu32 ", frame words %" PRIu32 "\n", number, exported,
                row[5], row[4]);
+    } else if (kind == 6) {
+        fprintf(out, ": import, number %" PRIu32 "; arguments %" PRIu32 "\n", number, labels[label * VOODOO_LABEL_ROW + 2]);
     } else {
         fprintf(out, ": place at statement %" PRIu32 "\n", number);
     }
@@ -220,9 +241,19 @@ static const char *escape_meaning(size_t place)
     return ends ? "bad escape: the source ends where a hex digit is expected" : "bad escape: a hex digit is expected here";
 }
 
+/* The word `import` stands before a place, plainly spelled. */
+static bool is_imported(size_t place)
+{
+    while (place > 0 && (source[place - 1] == ' ' || source[place - 1] == '\t'))
+        place--;
+    return place >= 6 && memcmp(source + place - 6, "import", 6) == 0;
+}
+
 /* What a refusal means at its place. */
 static const char *meaning(uint32_t number, size_t place)
 {
+    if (number == VOODOO_UNKNOWN_NAME && is_imported(place))
+        return "the host has no function of this name (see --hosts)";
     if (number == VOODOO_BAD_ESCAPE)
         return escape_meaning(place);
     if (number == VOODOO_NOT_HERE && place == source_size)
@@ -236,9 +267,10 @@ static int check(const char *path)
     int status = read_source(path);
     if (status != OK)
         return status;
-    uint32_t number = voodoo_check(source, source_size, tokens, VOODOO_TOKEN_WORDS, statements, VOODOO_STATEMENT_WORDS, labels,
-                                   VOODOO_LABEL_WORDS, names, VOODOO_NAME_BYTES, data, VOODOO_DATA_BYTES, checked,
-                                   VOODOO_RESULT_WORDS);
+    uint32_t number = voodoo_check(source, source_size, hosts, host_count * VOODOO_HOST_ROW, host_names,
+                                   host_count * VOODOO_NAME_ROW, tokens, VOODOO_TOKEN_WORDS, statements,
+                                   VOODOO_STATEMENT_WORDS, labels, VOODOO_LABEL_WORDS, names, VOODOO_NAME_BYTES, data,
+                                   VOODOO_DATA_BYTES, checked, VOODOO_RESULT_WORDS);
     if (number == VOODOO_ACCEPTED)
         return OK;
     size_t place = checked[VOODOO_PLACE];
@@ -248,12 +280,21 @@ static int check(const char *path)
 
 /* ---- run */
 
-enum { ARGUMENTS = 16, BUDGET = 1000000 }; /* arguments taken; steps of one call */
+enum { ARGUMENTS = 16, ANSWERS = 16, BUDGET = 1000000 }; /* arguments and answers taken; steps of one call */
+
+/* What is left of the words that an imported function gives. */
+struct answer {
+    const char *name;
+    size_t length;
+    const char *words;
+};
 
 struct options {
     uint64_t steps;
     size_t stack_words;
     size_t memory_bytes;
+    struct answer answers[ANSWERS];
+    size_t answer_count;
 };
 
 /* A whole number from `least` to `most`. */
@@ -296,13 +337,88 @@ static int64_t signed_word(uint32_t word)
     return word < UINT32_C(2147483648) ? (int64_t)word : (int64_t)word - INT64_C(4294967296);
 }
 
-/* Runs in budgets, as a host does that has other work between them. */
-static int run_on(const char *path, const struct options *options)
+/* ---- pauses */
+
+/* The next word of an option that names this function; false where none is left. */
+static bool next_answer(struct options *options, const uint8_t *name, uint32_t length, uint32_t *word)
+{
+    for (size_t i = 0; i < options->answer_count; i++) {
+        struct answer *answer = &options->answers[i];
+        if (answer->length == length && memcmp(answer->name, name, length) == 0 && *answer->words != '\0') {
+            char *end;
+            *word = (uint32_t)strtoimax(answer->words, &end, 10); /* take_answer has looked at it */
+            answer->words = *end == ',' ? end + 1 : end;
+            return true;
+        }
+    }
+    return false;
+}
+
+/* The imported function and its arguments, as a line of rules has them. */
+static void print_question(FILE *out, const uint8_t *name, uint32_t length)
+{
+    print_bytes(out, name, length);
+    for (uint32_t i = 0; i < record[VOODOO_AT]; i++)
+        fprintf(out, " %" PRId64, signed_word(record[VOODOO_ARGUMENTS + i]));
+}
+
+/* Asks for a word until one is given; false at the end of the input. */
+static bool ask(const uint8_t *name, uint32_t length, uint32_t *word)
+{
+    char line[64];
+    for (;;) {
+        intmax_t number;
+        print_question(stderr, name, length);
+        fputs("? ", stderr);
+        if (fgets(line, sizeof line, stdin) == NULL) {
+            putc('\n', stderr);
+            return false;
+        }
+        line[strcspn(line, "\r\n")] = '\0';
+        if (read_number(line, INT32_MIN, UINT32_MAX, &number)) {
+            *word = (uint32_t)number;
+            return true;
+        }
+        fprintf(stderr, "voodoo: no word: %s (a number from -2147483648 to 4294967295)\n", line);
+    }
+}
+
+static uint32_t resume(const struct options *options, uint32_t word)
+{
+    return voodoo_resume(statements, VOODOO_STATEMENT_WORDS, checked[VOODOO_STATEMENTS], labels, VOODOO_LABEL_WORDS,
+                         checked[VOODOO_LABELS], names, VOODOO_NAME_BYTES, checked[VOODOO_DATA], word, record,
+                         VOODOO_RECORD_WORDS, stack, options->stack_words, memory, options->memory_bytes, result,
+                         VOODOO_RESULT_WORDS);
+}
+
+/* Answers a pause and goes on, its number in *number; or says where the run is paused. */
+static int answer_pause(const char *path, struct options *options, uint32_t *number)
+{
+    uint32_t host = result[VOODOO_WORD], word;
+    const uint8_t *name = host_names + host * VOODOO_NAME_ROW;
+    uint32_t length = hosts[host * VOODOO_HOST_ROW + VOODOO_HOST_LENGTH];
+    if (!next_answer(options, name, length, &word) && !ask(name, length, &word)) {
+        show(path, place_of(record[VOODOO_NEXT]), "paused", 0, "nobody answers this call");
+        return PAUSED;
+    }
+    *number = resume(options, word);
+    return OK;
+}
+
+/* Runs in budgets, as a host does that has other work between them; answers each pause. */
+static int run_on(const char *path, struct options *options)
 {
     uint64_t taken = 0;
     while (taken < options->steps) {
         uint64_t left = options->steps - taken;
-        uint32_t number = run(options, left < BUDGET ? left : BUDGET);
+        uint32_t number = 0;
+        if (result[VOODOO_OUTCOME] == VOODOO_OUTCOME_PAUSED) {
+            int status = answer_pause(path, options, &number);
+            if (status != OK)
+                return status;
+        } else {
+            number = run(options, left < BUDGET ? left : BUDGET);
+        }
         taken += voodoo_count(result);
         if (number == VOODOO_BROKEN) {
             fprintf(stderr, "%s: number 35: %s\n", path, meanings[number]);
@@ -312,7 +428,7 @@ static int run_on(const char *path, const struct options *options)
             show(path, place_of(result[VOODOO_PLACE]), "stop", number, meanings[number]);
             return STOPPED;
         }
-        if (result[VOODOO_FINISHED] == 1) {
+        if (result[VOODOO_OUTCOME] == VOODOO_OUTCOME_FINISHED) {
             printf("%" PRId64 "\n", signed_word(result[VOODOO_WORD]));
             fflush(stdout); /* before the line on standard error */
             fprintf(stderr, "%" PRIu64 " step%s\n", taken, taken == 1 ? "" : "s");
@@ -323,7 +439,7 @@ static int run_on(const char *path, const struct options *options)
     return USED_UP;
 }
 
-static int run_file(const struct options *options, int count, char **words)
+static int run_file(struct options *options, int count, char **words)
 {
     uint32_t arguments[ARGUMENTS];
     int given = count - 2;
@@ -354,10 +470,71 @@ static int misuse(void)
     return MISUSED;
 }
 
-/* Takes one option with its number; false where it is none. */
+/* One entry of the host's list: its name and the number of its arguments. */
+static bool take_host(const char *name, size_t length, const char *count)
+{
+    if (host_count == HOSTS || length == 0 || length > VOODOO_NAME_ROW || count[0] < '0' || count[0] > '8')
+        return false;
+    memset(host_names + host_count * VOODOO_NAME_ROW, 0, VOODOO_NAME_ROW);
+    memcpy(host_names + host_count * VOODOO_NAME_ROW, name, length);
+    hosts[host_count * VOODOO_HOST_ROW + VOODOO_HOST_LENGTH] = (uint32_t)length;
+    hosts[host_count * VOODOO_HOST_ROW + VOODOO_HOST_ARGUMENTS] = (uint32_t)(count[0] - '0');
+    host_count++;
+    return true;
+}
+
+/* The host's list: NAME/COUNT, with commas between; empty for none. */
+static bool take_hosts(const char *text)
+{
+    host_count = 0;
+    while (*text != '\0') {
+        size_t length = strcspn(text, "/,");
+        if (text[length] != '/' || !take_host(text, length, text + length + 1))
+            return false;
+        text += length + 2;
+        if (*text == ',' && text[1] != '\0')
+            text++;
+        else if (*text != '\0')
+            return false;
+    }
+    return true;
+}
+
+/* Words with commas between them. */
+static bool are_words(const char *text)
+{
+    for (;;) {
+        char *end;
+        errno = 0;
+        intmax_t number = strtoimax(text, &end, 10);
+        if (errno != 0 || end == text || number < INT32_MIN || number > UINT32_MAX)
+            return false;
+        if (*end == '\0')
+            return true;
+        if (*end != ',')
+            return false;
+        text = end + 1;
+    }
+}
+
+/* What an imported function gives: NAME=WORD,.. */
+static bool take_answer(struct options *options, const char *text)
+{
+    size_t length = strcspn(text, "=");
+    if (options->answer_count == ANSWERS || text[length] != '=' || !are_words(text + length + 1))
+        return false;
+    options->answers[options->answer_count++] = (struct answer){text, length, text + length + 1};
+    return true;
+}
+
+/* Takes one option with its value; false where it is none. */
 static bool take_option(struct options *options, const char *name, const char *text)
 {
     intmax_t number;
+    if (strcmp(name, "--hosts") == 0)
+        return take_hosts(text);
+    if (strcmp(name, "--answer") == 0)
+        return take_answer(options, text);
     if (strcmp(name, "--steps") == 0 && read_number(text, 0, INTMAX_MAX, &number))
         options->steps = (uint64_t)number;
     else if (strcmp(name, "--stack") == 0 && read_number(text, 0, VOODOO_STACK_WORDS, &number))
@@ -371,28 +548,45 @@ static bool take_option(struct options *options, const char *name, const char *t
 
 static int run_command(int count, char **words)
 {
-    struct options options = {100000000, VOODOO_STACK_WORDS, VOODOO_MEMORY_BYTES};
+    struct options options = {.steps = 100000000, .stack_words = VOODOO_STACK_WORDS, .memory_bytes = VOODOO_MEMORY_BYTES};
     while (count >= 2 && strncmp(words[0], "--", 2) == 0) {
-        if (!take_option(&options, words[0], words[1]))
+        if (!take_option(&options, words[0], words[1])) {
+            fprintf(stderr, "voodoo: no such option or value: %s %s\n", words[0], words[1]);
             return misuse();
+        }
         count -= 2;
         words += 2;
     }
     return count < 2 ? misuse() : run_file(&options, count, words);
 }
 
+static int check_command(int count, char **words)
+{
+    if (count == 3 && strcmp(words[0], "--hosts") == 0) {
+        if (!take_hosts(words[1])) {
+            fprintf(stderr, "voodoo: no list of hosts: %s (NAME/COUNT,.. with counts from 0 to 8)\n", words[1]);
+            return MISUSED;
+        }
+        count -= 2;
+        words += 2;
+    }
+    if (count != 1)
+        return misuse();
+    int status = check(words[0]);
+    if (status == OK)
+        print_accepted(words[0]);
+    return status;
+}
+
 static int command(int count, char **words)
 {
+    take_hosts("bath/1,order/2"); /* those of the lister */
     if (count == 2 && (strcmp(words[1], "--help") == 0 || strcmp(words[1], "-h") == 0)) {
         fputs(usage, stdout);
         return OK;
     }
-    if (count == 3 && strcmp(words[1], "check") == 0) {
-        int status = check(words[2]);
-        if (status == OK)
-            print_accepted(words[2]);
-        return status;
-    }
+    if (count >= 3 && strcmp(words[1], "check") == 0)
+        return check_command(count - 2, words + 2);
     if (count >= 2 && strcmp(words[1], "run") == 0)
         return run_command(count - 2, words + 2);
     return misuse();

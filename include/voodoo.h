@@ -1,15 +1,18 @@
 /*
  * voodoo.h - check and run Voodoo 1.1 rules from C.
  *
- *     voodoo_check   reads a source text and answers either "accepted", with the
+ *     voodoo_check   reads a source text, with a list of the functions that the
+ *                    host has for it, and answers either "accepted", with the
  *                    tables of the checked program and its data, or "refused",
  *                    with a number and the place of the fault.
  *     voodoo_start   begins a run of an exported function, or refuses it.
  *     voodoo_run     takes steps of a run, at most as many as a budget says.
  *     voodoo_step    takes one step.
+ *     voodoo_resume  goes on with a paused run: hands it the word it waits for.
  *
- * A run of at most 100 slices of 1,000 steps, behind an accepted check whose result
- * is `check`:
+ * A run of at most 100 turns, each an answer to a pause or 1,000 steps, behind an
+ * accepted check whose result is `check`. `answer` is the host's: it does what the
+ * imported function of that number does, and gives a word.
  *
  *     uint32_t record[VOODOO_RECORD_WORDS], stack[VOODOO_STACK_WORDS];
  *     uint8_t memory[VOODOO_MEMORY_BYTES] = {0};
@@ -23,18 +26,29 @@
  *         record, VOODOO_RECORD_WORDS, stack, VOODOO_STACK_WORDS,
  *         memory, VOODOO_MEMORY_BYTES, result, VOODOO_RESULT_WORDS);
  *     uint64_t steps = 0;
- *     for (int i = 0; i < 100 && number == 0 && !result[VOODOO_FINISHED]; i++) {
- *         number = voodoo_run(
- *             statements, VOODOO_STATEMENT_WORDS, check[VOODOO_STATEMENTS],
- *             labels, VOODOO_LABEL_WORDS, check[VOODOO_LABELS],
- *             names, VOODOO_NAME_BYTES, check[VOODOO_DATA], 1000,
- *             record, VOODOO_RECORD_WORDS, stack, VOODOO_STACK_WORDS,
- *             memory, VOODOO_MEMORY_BYTES, result, VOODOO_RESULT_WORDS);
+ *     for (int turn = 0; turn < 100; turn++) {
+ *         if (number != 0 || result[VOODOO_OUTCOME] == VOODOO_OUTCOME_FINISHED)
+ *             break;
+ *         if (result[VOODOO_OUTCOME] == VOODOO_OUTCOME_PAUSED)
+ *             number = voodoo_resume(
+ *                 statements, VOODOO_STATEMENT_WORDS, check[VOODOO_STATEMENTS],
+ *                 labels, VOODOO_LABEL_WORDS, check[VOODOO_LABELS],
+ *                 names, VOODOO_NAME_BYTES, check[VOODOO_DATA],
+ *                 answer(result[VOODOO_WORD], record + VOODOO_ARGUMENTS),
+ *                 record, VOODOO_RECORD_WORDS, stack, VOODOO_STACK_WORDS,
+ *                 memory, VOODOO_MEMORY_BYTES, result, VOODOO_RESULT_WORDS);
+ *         else
+ *             number = voodoo_run(
+ *                 statements, VOODOO_STATEMENT_WORDS, check[VOODOO_STATEMENTS],
+ *                 labels, VOODOO_LABEL_WORDS, check[VOODOO_LABELS],
+ *                 names, VOODOO_NAME_BYTES, check[VOODOO_DATA], 1000,
+ *                 record, VOODOO_RECORD_WORDS, stack, VOODOO_STACK_WORDS,
+ *                 memory, VOODOO_MEMORY_BYTES, result, VOODOO_RESULT_WORDS);
  *         steps += voodoo_count(result);
  *     }
  *     if (number != 0)
  *         printf("number %" PRIu32 "\n", number);
- *     else if (result[VOODOO_FINISHED])
+ *     else if (result[VOODOO_OUTCOME] == VOODOO_OUTCOME_FINISHED)
  *         printf("%" PRId32 " after %" PRIu64 " steps\n", (int32_t)result[VOODOO_WORD], steps);
  *     else
  *         printf("not at its end after %" PRIu64 " steps\n", steps);
@@ -80,6 +94,28 @@ extern "C" {
 #define VOODOO_LABEL_ROW      4
 #define VOODOO_NAME_ROW      64 /* bytes of a name */
 
+/*
+ * The host's list: the functions that a source may `import`. A call to one pauses
+ * the run, and the host does what it asks (voodoo_resume). Entry i has number i, two
+ * words of `hosts`, and 64 bytes of `host_names` from byte 64 * i on, where its name
+ * begins:
+ *
+ *     static const uint32_t hosts[] = {4, 1, 5, 2};
+ *     static const uint8_t host_names[][VOODOO_NAME_ROW] = {"bath", "order"};
+ *
+ * is number 0, `bath` with one argument, and number 1, `order` with two. An entry is
+ * passed over, and keeps its number, if it has more than 8 arguments, or if its name
+ * is empty, longer than 64 bytes or not wholly in `host_names`. Of equal names that
+ * are left the first counts. Half an entry at the end is none; entries from number
+ * 268,435,456 on are not looked at.
+ */
+#define VOODOO_HOST_ROW 2 /* words of an entry */
+
+enum {
+    VOODOO_HOST_LENGTH,   /* bytes of the name  */
+    VOODOO_HOST_ARGUMENTS /* its argument count */
+};
+
 /* The words of `result`. */
 enum {
     VOODOO_NUMBER,     /* 0: accepted; else the refusal, 1 to 17           */
@@ -112,19 +148,22 @@ enum {
     VOODOO_NOT_HERE        = 8,  /* not allowed here [the word, label or name;
                                     the source's length if something is open]    */
     VOODOO_LEFT_OUT        = 9,  /* a word of Voodoo that is not taken [it]      */
-    VOODOO_UNKNOWN_NAME    = 10, /* [the name]                                   */
+    VOODOO_UNKNOWN_NAME    = 10, /* also an import that the host's list does not
+                                    have [the name]                              */
     VOODOO_WRONG_KIND      = 11, /* a name of another kind is needed [the name]  */
     VOODOO_SECOND_NAME     = 12, /* a second name in one scope [the name]        */
-    VOODOO_ARGUMENT_COUNT  = 13, /* another count of parameters [the name]       */
+    VOODOO_ARGUMENT_COUNT  = 13, /* another count of arguments [the name]        */
     VOODOO_LIMIT           = 14, /* a limit passed [what passes it]              */
     VOODOO_BIG_DATA        = 15, /* more than 32,768 bytes [the definition or
                                     `align`]                                     */
     VOODOO_SHORT_BUFFER    = 16, /* a buffer is shorter than needed [0]          */
-    VOODOO_LATE_EXPORT     = 17  /* an export after a use [the export's name]    */
+    VOODOO_LATE_EXPORT     = 17  /* an export or import after a use [its name]   */
 };
 
 /*
- * Checks a source of 32-bit words and returns result[VOODOO_NUMBER].
+ * Checks a source of 32-bit words against the host's list and returns
+ * result[VOODOO_NUMBER]. The list is only read; with NULL and length 0 for both of
+ * its buffers it is empty, and every `import` is refusal 10.
  *
  *   accepted   `tokens`, `statements`, `labels`, `names` and `data` hold the
  *              checked program, and zeros behind it, to the end of each buffer.
@@ -134,52 +173,59 @@ enum {
  *
  * Each buffer is a pointer and its length: words for uint32_t, bytes for uint8_t.
  * Where the length is 0 the pointer may be NULL; else it is valid for the length and
- * aligned. No two of the seven buffers may overlap. What they held before does not
- * matter.
+ * aligned. No two of the nine buffers may overlap. What the last six held before
+ * does not matter.
  *
  * It uses at most 288 KB of stack (measured, bench/run); have 512 KB free.
  */
 uint32_t voodoo_check(
-    const uint8_t *source, size_t source_bytes,
-    uint32_t *tokens,      size_t token_words,
-    uint32_t *statements,  size_t statement_words,
-    uint32_t *labels,      size_t label_words,
-    uint8_t *names,        size_t name_bytes,
-    uint8_t *data,         size_t data_bytes,
-    uint32_t *result,      size_t result_words);
+    const uint8_t *source,     size_t source_bytes,
+    const uint32_t *hosts,     size_t host_words,
+    const uint8_t *host_names, size_t host_name_bytes,
+    uint32_t *tokens,          size_t token_words,
+    uint32_t *statements,      size_t statement_words,
+    uint32_t *labels,          size_t label_words,
+    uint8_t *names,            size_t name_bytes,
+    uint8_t *data,             size_t data_bytes,
+    uint32_t *result,          size_t result_words);
 
 /* ---- running a checked program */
 
-#define VOODOO_RECORD_WORDS    16 /* the run record; fewer is number 35, more are not used */
-#define VOODOO_STACK_WORDS  16384 /* the longest stack: enough for what can run at all     */
-#define VOODOO_MEMORY_BYTES 65536 /* the longest memory                                    */
+#define VOODOO_RECORD_WORDS    16 /* the run record; fewer hold none, more are not used */
+#define VOODOO_STACK_WORDS  16384 /* the longest stack: enough for what can run at all  */
+#define VOODOO_MEMORY_BYTES 65536 /* the longest memory                                 */
 
 #define VOODOO_NONE 4294967295u /* result[VOODOO_PLACE]: no place */
 
 /*
  * The words of the record. The host keeps them from one call to the next, in this
- * program or another, and need not look at them. Words 7 to 15 are not used: they
- * are never read and never written.
+ * program or another, and need look only at the arguments of a pause. Where a record
+ * is written, words 0 to 6 and 8 to 15 are. Word 7 is never read and never written.
  */
 enum {
-    VOODOO_STATE, /* one of the states below                                   */
-    VOODOO_NEXT,  /* running, stopped: the next statement                      */
-    VOODOO_FRAME, /* running, stopped: the first stack word of the frame       */
-    VOODOO_USED,  /* stack words in use; finished: 0                           */
-    VOODOO_TOP,   /* the auto top: first byte of memory behind data and autos  */
-    VOODOO_VALUE, /* finished: the word; stopped: the number, 30 to 34; else 0 */
-    VOODOO_AT     /* stopped: the statement; else 0                            */
+    VOODOO_STATE, /* one of the states below                                  */
+    VOODOO_NEXT,  /* the next statement; finished: VOODOO_NONE                */
+    VOODOO_FRAME, /* the first stack word of the frame; finished: VOODOO_NONE */
+    VOODOO_USED,  /* stack words in use; finished: 0                          */
+    VOODOO_TOP,   /* the auto top: first byte of memory behind data and autos */
+    VOODOO_VALUE, /* finished: the word; stopped: the number, 30 to 34;
+                     paused: the imported name's number; else 0               */
+    VOODOO_AT,    /* stopped: the statement; paused: the count of arguments;
+                     else 0                                                   */
+    VOODOO_ARGUMENTS = 8 /* paused: the first of eight words, the arguments and
+                            zeros behind them; else eight zeros               */
 };
 
-/* The states. Any other number, and a stopped record whose number is not 30 to 34, is number 35. */
+/* The states. Any other number is no record, nor is a stopped one whose number is not 30 to 34. */
 enum {
     VOODOO_STATE_RUNNING  = 1,
     VOODOO_STATE_FINISHED = 2,
-    VOODOO_STATE_STOPPED  = 3
+    VOODOO_STATE_STOPPED  = 3,
+    VOODOO_STATE_PAUSED   = 4
 };
 
 /*
- * The words of `result` behind a start, a step or a run; VOODOO_NUMBER and
+ * The words of `result` behind a start, a step, a run or a resume; VOODOO_NUMBER and
  * VOODOO_PLACE are words 0 and 1, as behind a check:
  *
  *     VOODOO_NUMBER   0, or one of the numbers below
@@ -188,8 +234,16 @@ enum {
 enum {
     VOODOO_COUNT_LOW = 2, /* the steps that this call counted, see voodoo_count; */
     VOODOO_COUNT_HIGH,    /* 0 behind a start                                    */
-    VOODOO_FINISHED,      /* 1: the record has finished; else 0                  */
-    VOODOO_WORD           /* finished: the word that the function returned; else 0 */
+    VOODOO_OUTCOME,       /* one of the outcomes below                           */
+    VOODOO_WORD           /* finished: the word that the function returned;
+                             paused: the imported name's number; else 0          */
+};
+
+/* The outcomes. */
+enum {
+    VOODOO_OUTCOME_GOING    = 0, /* running; or see the number                         */
+    VOODOO_OUTCOME_FINISHED = 1, /* the run has ended                                  */
+    VOODOO_OUTCOME_PAUSED   = 2  /* only voodoo_resume goes on, or a start begins anew */
 };
 
 /* The numbers. The place is what stands in brackets. */
@@ -206,8 +260,9 @@ enum {
                                    [the statement]                                     */
     VOODOO_STOP_STACK     = 33, /* no room for a frame [the statement]                 */
     VOODOO_STOP_AUTO      = 34, /* no room for auto memory [the statement]             */
-    VOODOO_BROKEN         = 35  /* broken tables or record, docs/TABLES.md [the lowest
+    VOODOO_BROKEN         = 35, /* broken tables or record, docs/TABLES.md [the lowest
                                    such statement, or none]                            */
+    VOODOO_NOT_PAUSED     = 37  /* resume: the record is not paused [none]             */
 };
 
 /* The steps that the call behind `result` (at least four words) counted. */
@@ -217,7 +272,7 @@ static inline uint64_t voodoo_count(const uint32_t *result)
 }
 
 /*
- * The three functions take what an accepted check has left: `statements`, `labels`,
+ * The four functions take what an accepted check has left: `statements`, `labels`,
  * `names` (with the lengths of these buffers), `data`, and from its result
  *
  *     statement_count = result[VOODOO_STATEMENTS]
@@ -232,25 +287,25 @@ static inline uint64_t voodoo_count(const uint32_t *result)
  * memory between calls. `stack` and `memory` may be shorter than their limits: a run
  * that then lacks room stops with 33, 34 or 32.
  *
- * In all three: `result` gets its first six words, or as many as it has; others are
- * left as they are. The function returns result[VOODOO_NUMBER]. A record of fewer
- * than 16 words is number 35 with no place (but see budget 0 of voodoo_run), and but
- * for `result` nothing changes.
+ * In all four: `result` gets its first six words, or as many as it has; others are
+ * left as they are. The function returns result[VOODOO_NUMBER]. Fewer than 16 words
+ * of record are number 35 with no place (of voodoo_resume 37; but see budget 0 of
+ * voodoo_run), and but for `result` nothing changes.
  *
  * Each buffer is a pointer and its length: words for uint32_t, bytes for uint8_t.
  * Where the length is 0 the pointer may be NULL; else it is valid for the length and
  * aligned. No two buffers of a call may overlap.
  *
- * Each uses less than 3 KB of stack (counted in the compiled code); have 4 KB free.
+ * Each uses less than 4 KB of stack (counted in the compiled code); have 8 KB free.
  */
 
 /*
  * Starts the exported function `name` (its bytes as the label table has them, with no
  * 0 at the end) with its arguments. What `record` holds does not matter.
  *
- *   0          the run has begun and no step is taken. Words 0 to 6 of `record` are
- *              written. `stack` holds the first frame from word 0 on, `memory` the
- *              data from byte 0 on; their other words and bytes are left as they are.
+ *   0          the run has begun and no step is taken. `record` is written. `stack`
+ *              holds the first frame from word 0 on, `memory` the data from byte 0
+ *              on; their other words and bytes are left as they are.
  *   20 to 23,  `record`, `stack` and `memory` are left as they are. Where several
  *   35         numbers hold, the answer is the first of 35, 20, 21, 22, 23.
  */
@@ -269,15 +324,21 @@ uint32_t voodoo_start(
 /*
  * Takes one step: one statement.
  *
- *   0, count 1         the statement is done. Words 0 to 6 of `record` are written,
- *                      and `stack` and `memory` as the statement says. If the run
- *                      has ended, VOODOO_FINISHED is 1 and VOODOO_WORD its word.
- *   0, count 0         the record had finished before: it says so again, nothing
- *                      else changes.
- *   30 to 34, count 0  the statement could not be done. Words 0 to 6 of `record` are
- *                      written: the state is stopped, for good. `stack` and `memory`
- *                      are left as they are. A record that had stopped before says
- *                      the same again, and is not written.
+ *   0, count 1         the statement is done. `record` is written, and `stack` and
+ *                      `memory` as the statement says. If the run has ended,
+ *                      VOODOO_OUTCOME says so and VOODOO_WORD is its word.
+ *   0, count 0,        the statement calls an imported function, and its arguments
+ *   paused             are read. VOODOO_OUTCOME says so and VOODOO_WORD is the
+ *                      imported name's number. `record` is written: the state is
+ *                      paused, and from VOODOO_ARGUMENTS on stand the arguments.
+ *                      `stack` and `memory` are left as they are. The call counts
+ *                      when the host goes on, see voodoo_resume.
+ *   0, count 0         otherwise: the record had finished or paused before. It says
+ *                      so again, nothing else changes.
+ *   30 to 34, count 0  the statement could not be done. `record` is written: the
+ *                      state is stopped, for good. `stack` and `memory` are left as
+ *                      they are. A record that had stopped before says the same
+ *                      again, and is not written.
  *   35, count 0        the tables or the record are broken, or it holds no listed
  *                      state: `record`, `stack` and `memory` are left as they are.
  *                      The same call on good tables goes on.
@@ -292,18 +353,21 @@ uint32_t voodoo_step(
     uint32_t *result,           size_t result_words);
 
 /*
- * Steps until `budget` steps are counted, the run has ended or stopped, or number 35
- * comes: the same as so many calls of voodoo_step, and quicker.
+ * Steps until `budget` steps are counted, the run has ended, stopped or paused, or
+ * number 35 comes: the same as so many calls of voodoo_step, and quicker. A paused
+ * record is given back with count 0 each time, so a loop of runs must end on a pause
+ * or answer it.
  *
- *   0          the budget is used up, or the run has ended: VOODOO_FINISHED says
- *              which. `record`, `stack` and `memory` are those behind the last step.
+ *   0          the budget is used up, or the run has ended or paused: VOODOO_OUTCOME
+ *              says which. `record`, `stack` and `memory` are those behind the last
+ *              step; a pause is in `record`, as voodoo_step.
  *   30 to 34   the run stopped behind the counted steps: as voodoo_step.
  *   35         broken tables or record, found behind the counted steps: `record`,
  *              `stack` and `memory` are those behind the last counted step.
- *   count 0    words 0 to 6 of `record` are written only if a running record has
- *              stopped in this call; `stack` and `memory` are left as they are. So
- *              with a budget of 0, and on a record that had finished or stopped
- *              before, nothing but `result` changes.
+ *   count 0    `record` is written only if a running record has stopped or paused in
+ *              this call; `stack` and `memory` are left as they are. So with a budget
+ *              of 0, and on a record that had finished, stopped or paused before,
+ *              nothing but `result` changes.
  *   budget 0   is answered before anything is looked at: 0, or the number of a record
  *              that had stopped before; never 35, also with a record that is short
  *              or holds no listed state.
@@ -313,6 +377,34 @@ uint32_t voodoo_run(
     const uint32_t *labels,     size_t label_words,     uint32_t label_count,
     const uint8_t *names,       size_t name_bytes,      uint32_t data_length,
     uint64_t budget,
+    uint32_t *record,           size_t record_words,
+    uint32_t *stack,            size_t stack_words,
+    uint8_t *memory,            size_t memory_bytes,
+    uint32_t *result,           size_t result_words);
+
+/*
+ * Goes on with a paused record: `word` is the result of the imported function, and
+ * the call is done with it, as one step. A bare `call` drops the word, `let` and
+ * `set` store it, `return call` and `tail-call` return it. The arguments are not read
+ * again: the host may have changed the memory.
+ *
+ *   0, count 1     the call is done. `record` is written, words 8 to 15 are zeros
+ *                  again, and `stack` and `memory` are as the statement says. If the
+ *                  run has ended, VOODOO_OUTCOME says so and VOODOO_WORD is its word.
+ *   37             the record is not paused, whatever it is: running, finished,
+ *                  stopped, in no listed state, or of fewer than 16 words. Looked at
+ *                  first; nothing but `result` changes, and it says nothing else.
+ *   32, count 0    the address of a `set @` is bad. `record` is written: the state is
+ *                  stopped. It never comes on an accepted program whose record and
+ *                  stack are as the last call left them.
+ *   35, count 0    as voodoo_step, and where the next statement calls no imported
+ *                  function. The record stays paused.
+ */
+uint32_t voodoo_resume(
+    const uint32_t *statements, size_t statement_words, uint32_t statement_count,
+    const uint32_t *labels,     size_t label_words,     uint32_t label_count,
+    const uint8_t *names,       size_t name_bytes,      uint32_t data_length,
+    uint32_t word,
     uint32_t *record,           size_t record_words,
     uint32_t *stack,            size_t stack_words,
     uint8_t *memory,            size_t memory_bytes,

@@ -10,6 +10,7 @@ use Rattle.base_prelude.specs.Choice.{ifLt, ifTrue}
 use Rattle.base_prelude.specs.Lists.{overlay}
 use Rattle.base_prelude.proofs.Choice.{true-false, ifLt-no, either-true}
 use Rattle.base_limits.specs.declared.Width.the-variants.{Bits32}
+use Rattle.res_hosts.specs.Lister.{listerHosts}
 use Rattle.check_judge.specs.Judge.{Known, Judged, refusal, fine, judgeOf}
 use Rattle.check_source.specs.Check.{Filled, refuse, accept, hasRoom, answerTo, checkOf}
 use Rattle.check_source.proofs.Cases.{room-labels}
@@ -43,7 +44,7 @@ judged-fits s (fine p size) =
 -- the page of any source fits
 pub page-fits : (s : List ℕ) → length (listOf s) ≤ pageRoom
 unfolding listOf checkOf
-page-fits s = judged-fits s (judgeOf Bits32 s)
+page-fits s = judged-fits s (judgeOf Bits32 listerHosts s)
 
 overlay-length : (xs ys : List ℕ) → length (overlay xs ys) ≡ length ys
 unfolding overlay

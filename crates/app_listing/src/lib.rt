@@ -27,7 +27,7 @@ fn page_of(x: Checked, s: &[u8], table: &[u32], names: &[u8], rows: &[u32], out:
     }
 }
 
-// Checks a source and writes its page over the front of a buffer; a buffer that is too short stays as it is.
+// Checks a source against the lister's list and writes its page over the front of a buffer; a buffer that is too short stays as it is.
 pub fn list(s: &[u8], out: &mut [u8]) -> Page
     ensures { λ r. ⌜ shown r (now (out .exit)) ≡ shownOn (listOf (now (s .entry))) (now (out .entry)) ⌝ }
 {
@@ -36,9 +36,13 @@ pub fn list(s: &[u8], out: &mut [u8]) -> Page
     let mut table = [0u32; Table::LABEL_WORDS];
     let mut names = [0u8; Table::NAME_TABLE];
     let mut data = [0u8; Machine::DATA_BYTES];
+    let hosts = res_hosts::lister_words();
+    let host_names = res_hosts::lister_names();
     let x = check_source::check(
         Width::Bits32,
         s,
+        &hosts,
+        &host_names,
         &mut tokens,
         &mut rows,
         &mut table,

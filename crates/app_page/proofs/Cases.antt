@@ -14,9 +14,9 @@ use Rattle.base_prelude.proofs.Choice.{tests, ifLt-yes, ifLt-no}
 use Rattle.lex_spelling.specs.Classes.{isNameByte}
 use Rattle.prog_tables.specs.Statement.{rowAt}
 use Rattle.prog_tables.specs.Label.{Label, labelAt}
-use Rattle.app_page.specs.Bytes.{digitsWithin, decimal, field, hexDigit, nameByte, nameBytesOf, newlines, accepted-word, label-word, data-word, function-word, place-word, yes-word, no-word, refused-word, line-word, byte-word, line-end}
+use Rattle.app_page.specs.Bytes.{digitsWithin, decimal, field, hexDigit, nameByte, nameBytesOf, newlines, accepted-word, label-word, data-word, function-word, place-word, import-word, yes-word, no-word, refused-word, line-word, byte-word, line-end}
 use Rattle.app_page.specs.Sheet.{Sheet, sheet, put}
-use Rattle.app_page.specs.Page.{headLine, kindWord, exportedWord, sizes, functionSizes, labelTail, labelHead, labelLine, labelLines, acceptedPage, lineOf, refusedPage, Shown, shown, shownOn}
+use Rattle.app_page.specs.Page.{headLine, kindWord, exportedWord, sizes, labelSizes, labelTail, labelHead, labelLine, labelLines, acceptedPage, lineOf, refusedPage, Shown, shown, shownOn}
 use Rattle.app_page.specs.declared.Page.{Page}
 use Rattle.app_page.specs.declared.Page.the-variants.{Written, Short}
 
@@ -139,9 +139,13 @@ module _ (kind : ℕ) (s₀ s₁ : Sheet) where
   unfolding kindWord
   kind-function h l e = e ∙ ap (λ (x : List ℕ). put x s₀) (search tests)
 
-  pub kind-place : 3 ≤ kind → 5 ≤ kind → s₁ ≡ put place-word s₀ → s₁ ≡ put (kindWord kind) s₀
+  pub kind-import : 3 ≤ kind → 5 ≤ kind → kind ≡ 6 → s₁ ≡ put import-word s₀ → s₁ ≡ put (kindWord kind) s₀
   unfolding kindWord
-  kind-place h l e = e ∙ ap (λ (x : List ℕ). put x s₀) (search tests)
+  kind-import h l d e = e ∙ ap (λ (x : List ℕ). put x s₀) (search tests)
+
+  pub kind-place : 3 ≤ kind → 5 ≤ kind → (kind ≡ 6 → ⊥) → s₁ ≡ put place-word s₀ → s₁ ≡ put (kindWord kind) s₀
+  unfolding kindWord
+  kind-place h l d e = e ∙ ap (λ (x : List ℕ). put x s₀) (search tests)
 
   pub exported-data : kind ≡ 2 → s₁ ≡ put yes-word s₀ → s₁ ≡ put (exportedWord kind) s₀
   unfolding exportedWord
@@ -155,7 +159,7 @@ module _ (kind : ℕ) (s₀ s₁ : Sheet) where
   unfolding exportedWord
   exported-not h l e = e ∙ ap (λ (x : List ℕ). put x s₀) (search tests)
 
-pub ruleset kinds = (kind-data, kind-function, kind-place)
+pub ruleset kinds = (kind-data, kind-function, kind-import, kind-place)
 
 pub ruleset exports = (exported-data, exported-function, exported-not)
 
@@ -163,20 +167,24 @@ put-none : (s : Sheet) → s ≡ put [] s
 unfolding put
 put-none s = refl
 
-module _ (rows : List ℕ) (kind n : ℕ) (s₀ : Sheet) where
-  pub no-sizes-data : kind < 3 → s₀ ≡ put (functionSizes rows kind n) s₀
-  unfolding functionSizes
+module _ (rows : List ℕ) (kind n a : ℕ) (s₀ : Sheet) where
+  pub no-sizes-data : kind < 3 → s₀ ≡ put (labelSizes rows kind n a) s₀
+  unfolding labelSizes
   no-sizes-data h = put-none s₀ ∙ ap (λ (x : List ℕ). put x s₀) (search tests)
 
-  pub some-sizes : (s₁ : Sheet) → 3 ≤ kind → kind < 5 → s₁ ≡ put (sizes rows n) s₀ → s₁ ≡ put (functionSizes rows kind n) s₀
-  unfolding functionSizes
+  pub some-sizes : (s₁ : Sheet) → 3 ≤ kind → kind < 5 → s₁ ≡ put (sizes rows n) s₀ → s₁ ≡ put (labelSizes rows kind n a) s₀
+  unfolding labelSizes
   some-sizes s₁ h l e = e ∙ ap (λ (x : List ℕ). put x s₀) (search tests)
 
-  pub no-sizes-place : 3 ≤ kind → 5 ≤ kind → s₀ ≡ put (functionSizes rows kind n) s₀
-  unfolding functionSizes
-  no-sizes-place h l = put-none s₀ ∙ ap (λ (x : List ℕ). put x s₀) (search tests)
+  pub import-sizes : (s₁ : Sheet) → 3 ≤ kind → 5 ≤ kind → kind ≡ 6 → s₁ ≡ put (field a) s₀ → s₁ ≡ put (labelSizes rows kind n a) s₀
+  unfolding labelSizes
+  import-sizes s₁ h l d e = e ∙ ap (λ (x : List ℕ). put x s₀) (search tests)
 
-pub ruleset functions = (no-sizes-data, some-sizes, no-sizes-place)
+  pub no-sizes-place : 3 ≤ kind → 5 ≤ kind → (kind ≡ 6 → ⊥) → s₀ ≡ put (labelSizes rows kind n a) s₀
+  unfolding labelSizes
+  no-sizes-place h l d = put-none s₀ ∙ ap (λ (x : List ℕ). put x s₀) (search tests)
+
+pub ruleset functions = (no-sizes-data, some-sizes, import-sizes, no-sizes-place)
 
 pub sizes-put : (rows : List ℕ) (n p a : ℕ) (s₀ s₁ s₂ : Sheet) → p ≡ rowAt rows n .b → s₁ ≡ put (field p) s₀ → a ≡ rowAt rows n .a → s₂ ≡ put (field a) s₁ → s₂ ≡ put (sizes rows n) s₀
 unfolding sizes
@@ -192,23 +200,24 @@ put-four a b c d s₀ s₁ s₂ s₃ s₄ e f g h = put-two (a ++ b ++ c) d s₀
 pub put-five : (a b c d x : List ℕ) (s₀ s₁ s₂ s₃ s₄ s₅ : Sheet) → s₁ ≡ put a s₀ → s₂ ≡ put b s₁ → s₃ ≡ put c s₂ → s₄ ≡ put d s₃ → s₅ ≡ put x s₄ → s₅ ≡ put (a ++ b ++ c ++ d ++ x) s₀
 put-five a b c d x s₀ s₁ s₂ s₃ s₄ s₅ e f g h k = put-two (a ++ b ++ c ++ d) x s₀ s₄ s₅ (put-four a b c d s₀ s₁ s₂ s₃ s₄ e f g h) k
 
-pub tail-put : (rows : List ℕ) (kind number : ℕ) (s₀ s₁ s₂ s₃ s₄ s₅ : Sheet) → s₁ ≡ put (kindWord kind) s₀ → s₂ ≡ put (decimal number) s₁ → s₃ ≡ put (exportedWord kind) s₂
-    → s₄ ≡ put (functionSizes rows kind number) s₃ → s₅ ≡ put line-end s₄ → s₅ ≡ put (labelTail rows kind number) s₀
+pub tail-put : (rows : List ℕ) (kind number arguments : ℕ) (s₀ s₁ s₂ s₃ s₄ s₅ : Sheet) → s₁ ≡ put (kindWord kind) s₀ → s₂ ≡ put (decimal number) s₁ → s₃ ≡ put (exportedWord kind) s₂
+    → s₄ ≡ put (labelSizes rows kind number arguments) s₃ → s₅ ≡ put line-end s₄ → s₅ ≡ put (labelTail rows kind number arguments) s₀
 unfolding labelTail
-tail-put rows kind number s₀ s₁ s₂ s₃ s₄ s₅ e f g h k =
-    put-five (kindWord kind) (decimal number) (exportedWord kind) (functionSizes rows kind number) line-end s₀ s₁ s₂ s₃ s₄ s₅ e f g h k
+tail-put rows kind number arguments s₀ s₁ s₂ s₃ s₄ s₅ e f g h k =
+    put-five (kindWord kind) (decimal number) (exportedWord kind) (labelSizes rows kind number arguments) line-end s₀ s₁ s₂ s₃ s₄ s₅ e f g h k
 
 pub head-put : (name : List ℕ) (s₀ s₁ s₂ : Sheet) → s₁ ≡ put label-word s₀ → s₂ ≡ put (nameBytesOf name) s₁ → s₂ ≡ put (label-word ++ nameBytesOf name) s₀
 head-put name s₀ s₁ s₂ e f = put-two label-word (nameBytesOf name) s₀ s₁ s₂ e f
 
-pub label-put : (table names rows name : List ℕ) (n kind number size : ℕ) (s₀ s₁ s₂ : Sheet) → kind ≡ getD table (n * 4) 0 → number ≡ getD table (n * 4 + 1) 0 → size ≡ getD table (n * 4 + 3) 0
-    → name ≡ take 64 (take size (drop (n * 64) names)) → s₁ ≡ put (label-word ++ nameBytesOf name) s₀ → s₂ ≡ put (labelTail rows kind number) s₁
-    → s₂ ≡ put (labelLine rows (labelAt table names n)) s₀
+pub label-put : (table names rows name : List ℕ) (n kind number arguments size : ℕ) (s₀ s₁ s₂ : Sheet) → kind ≡ getD table (n * 4) 0 → number ≡ getD table (n * 4 + 1) 0
+    → arguments ≡ getD table (n * 4 + 2) 0 → size ≡ getD table (n * 4 + 3) 0 → name ≡ take 64 (take size (drop (n * 64) names)) → s₁ ≡ put (label-word ++ nameBytesOf name) s₀
+    → s₂ ≡ put (labelTail rows kind number arguments) s₁ → s₂ ≡ put (labelLine rows (labelAt table names n)) s₀
 unfolding labelLine labelHead labelAt
-label-put table names rows name n kind number size s₀ s₁ s₂ a b c d e f =
-    put-two (label-word ++ nameBytesOf (take 64 (take (getD table (n * 4 + 3) 0) (drop (n * 64) names)))) (labelTail rows (getD table (n * 4) 0) (getD table (n * 4 + 1) 0)) s₀ s₁ s₂
+label-put table names rows name n kind number arguments size s₀ s₁ s₂ a b g c d e f =
+    put-two (label-word ++ nameBytesOf (take 64 (take (getD table (n * 4 + 3) 0) (drop (n * 64) names))))
+    (labelTail rows (getD table (n * 4) 0) (getD table (n * 4 + 1) 0) (getD table (n * 4 + 2) 0)) s₀ s₁ s₂
     (e ∙ ap (λ (x : List ℕ). put (label-word ++ nameBytesOf x) s₀) (d ∙ ap (λ (k : ℕ). take 64 (take k (drop (n * 64) names))) c))
-    (f ∙ ap₂ (λ (x y : ℕ). put (labelTail rows x y) s₁) a b)
+    (f ∙ ap₂ (λ (x y : ℕ). put (labelTail rows x y arguments) s₁) a b ∙ ap (λ (x : ℕ). put (labelTail rows (getD table (n * 4) 0) (getD table (n * 4 + 1) 0) x) s₁) g)
 
 pub head-line-put : (statements labels size : ℕ) (s₀ s₁ s₂ s₃ s₄ s₅ : Sheet) → s₁ ≡ put accepted-word s₀ → s₂ ≡ put (field statements) s₁ → s₃ ≡ put (field labels) s₂ → s₄ ≡ put (field size) s₃ → s₅ ≡ put line-end s₄
     → s₅ ≡ put (headLine statements labels size) s₀

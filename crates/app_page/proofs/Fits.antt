@@ -9,8 +9,8 @@ use Rattle.base_prelude.specs.Choice.{ifLt, ifEq, ifTrue}
 use Rattle.base_prelude.proofs.Choice.{either, either-eq, either-true}
 use Rattle.prog_tables.specs.Statement.{rowAt}
 use Rattle.prog_tables.specs.Label.{Label, labelAt}
-use Rattle.app_page.specs.Bytes.{digitsWithin, decimal, field, hexDigit, nameByte, nameBytesOf, accepted-word, label-word, data-word, function-word, place-word, yes-word, no-word, refused-word, line-word, byte-word, line-end}
-use Rattle.app_page.specs.Page.{headLine, kindWord, exportedWord, sizes, functionSizes, labelTail, labelHead, labelLine, labelLines, acceptedPage, lineOf, refusedPage}
+use Rattle.app_page.specs.Bytes.{digitsWithin, decimal, field, hexDigit, nameByte, nameBytesOf, accepted-word, label-word, data-word, function-word, place-word, import-word, yes-word, no-word, refused-word, line-word, byte-word, line-end}
+use Rattle.app_page.specs.Page.{headLine, kindWord, exportedWord, sizes, labelSizes, labelTail, labelHead, labelLine, labelLines, acceptedPage, lineOf, refusedPage}
 
 -- of at most n bytes
 abbrev Within : ℕ → List ℕ → Type 0
@@ -53,7 +53,9 @@ head-within name =
 
 kind-within : (k : ℕ) → Within 10 (kindWord k)
 unfolding kindWord
-kind-within k = either (Within 10) _ _ _ _ (λ _. omega arith) (λ _. either (Within 10) _ _ _ _ (λ _. omega arith) (λ _. omega arith))
+kind-within k =
+    either (Within 10) _ _ _ _ (λ _. omega arith)
+    (λ _. either (Within 10) _ _ _ _ (λ _. omega arith) (λ _. either-eq (Within 10) _ _ _ _ (λ _. omega arith) (λ _. omega arith)))
 
 exported-within : (k : ℕ) → Within 4 (exportedWord k)
 unfolding exportedWord
@@ -64,24 +66,25 @@ sizes-within : (rows : List ℕ) (n : ℕ) → Within 42 (sizes rows n)
 unfolding sizes
 sizes-within rows n = both-within 21 21 (field (rowAt rows n .b)) (field (rowAt rows n .a)) (field-within (rowAt rows n .b)) (field-within (rowAt rows n .a))
 
-function-within : (rows : List ℕ) (k n : ℕ) → Within 42 (functionSizes rows k n)
-unfolding functionSizes
-function-within rows k n =
-    either (Within 42) _ _ _ _ (λ _. omega arith) (λ _. either (Within 42) _ _ _ _ (λ _. sizes-within rows n) (λ _. omega arith))
+label-sizes-within : (rows : List ℕ) (k n a : ℕ) → Within 42 (labelSizes rows k n a)
+unfolding labelSizes
+label-sizes-within rows k n a =
+    either (Within 42) _ _ _ _ (λ _. omega arith)
+    (λ _. either (Within 42) _ _ _ _ (λ _. sizes-within rows n) (λ _. either-eq (Within 42) _ _ _ _ (λ _. omega (arith, field-within a)) (λ _. omega arith)))
 
-tail-within : (rows : List ℕ) (k n : ℕ) → Within 77 (labelTail rows k n)
+tail-within : (rows : List ℕ) (k n a : ℕ) → Within 77 (labelTail rows k n a)
 unfolding labelTail
-tail-within rows k n =
-    both-within 76 1 (kindWord k ++ decimal n ++ exportedWord k ++ functionSizes rows k n) line-end
-    (both-within 34 42 (kindWord k ++ decimal n ++ exportedWord k) (functionSizes rows k n)
+tail-within rows k n a =
+    both-within 76 1 (kindWord k ++ decimal n ++ exportedWord k ++ labelSizes rows k n a) line-end
+    (both-within 34 42 (kindWord k ++ decimal n ++ exportedWord k) (labelSizes rows k n a)
     (both-within 30 4 (kindWord k ++ decimal n) (exportedWord k)
     (both-within 10 20 (kindWord k) (decimal n) (kind-within k) (decimal-within n)) (exported-within k))
-    (function-within rows k n))
+    (label-sizes-within rows k n a))
     (omega arith)
 
 line-within : (rows : List ℕ) (l : Label) → Within 339 (labelLine rows l)
 unfolding labelLine
-line-within rows l = both-within 262 77 (labelHead (l .name)) (labelTail rows (l .kind) (l .number)) (head-within (l .name)) (tail-within rows (l .kind) (l .number))
+line-within rows l = both-within 262 77 (labelHead (l .name)) (labelTail rows (l .kind) (l .number) (l .arguments)) (head-within (l .name)) (tail-within rows (l .kind) (l .number) (l .arguments))
 
 lines-within : (left : ℕ) (table names rows : List ℕ) (i : ℕ) → Within (left * 339) (labelLines left table names rows i)
 unfolding labelLines

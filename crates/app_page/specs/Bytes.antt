@@ -55,6 +55,10 @@ function-word = 32 ∷ 102 ∷ 117 ∷ 110 ∷ 99 ∷ 116 ∷ 105 ∷ 111 ∷ 11
 abbrev pub place-word : List ℕ
 place-word = 32 ∷ 112 ∷ 108 ∷ 97 ∷ 99 ∷ 101 ∷ 32 ∷ []
 
+-- ` import `
+abbrev pub import-word : List ℕ
+import-word = 32 ∷ 105 ∷ 109 ∷ 112 ∷ 111 ∷ 114 ∷ 116 ∷ 32 ∷ []
+
 -- ` yes`
 abbrev pub yes-word : List ℕ
 yes-word = 32 ∷ 121 ∷ 101 ∷ 115 ∷ []

@@ -11,7 +11,7 @@ ghost use Rattle.base_limits.specs.Limits.{wordValues};
 ghost use Rattle.prog_tables.specs.Label.{labelAt};
 ghost use Rattle.app_page.specs.Bytes.{digitsWithin, decimal, field, hexDigit, nameByte, nameBytesOf, newlines, label-word, refused-word, line-word, byte-word, line-end};
 ghost use Rattle.app_page.specs.Sheet.{sheet, put};
-ghost use Rattle.app_page.specs.Page.{headLine, kindWord, exportedWord, sizes, functionSizes, labelTail, labelHead, labelLine, labelLines, acceptedPage, lineOf, refusedPage, shown, shownOn};
+ghost use Rattle.app_page.specs.Page.{headLine, kindWord, exportedWord, sizes, labelSizes, labelTail, labelHead, labelLine, labelLines, acceptedPage, lineOf, refusedPage, shown, shownOn};
 
 // The bytes of a page, or that the buffer is shorter than it.
 pub enum Page {
@@ -165,6 +165,9 @@ fn put_kind(out: &mut [u8], at: usize, kind: u32) -> usize
     if kind < LabelKind::PLACE {
         return put_text(out, at, b" function ");
     }
+    if kind == LabelKind::IMPORT {
+        return put_text(out, at, b" import ");
+    }
     put_text(out, at, b" place ")
 }
 
@@ -192,9 +195,16 @@ fn put_sizes(out: &mut [u8], at: usize, rows: &[u32], statement: u32) -> usize
     put_field(out, to, prog_tables::a_at(rows, statement) as u64)
 }
 
-fn put_function(out: &mut [u8], at: usize, rows: &[u32], kind: u32, statement: u32) -> usize
+fn put_label_sizes(
+    out: &mut [u8],
+    at: usize,
+    rows: &[u32],
+    kind: u32,
+    statement: u32,
+    arguments: u32,
+) -> usize
     requires { ⌜ at < 281474976710656 ⌝ }
-    ensures { λ r. ⌜ sheet r (now (out .exit)) ≡ put (functionSizes (now (rows .entry)) kind statement) (sheet at (now (out .entry))) ⌝ }
+    ensures { λ r. ⌜ sheet r (now (out .exit)) ≡ put (labelSizes (now (rows .entry)) kind statement arguments) (sheet at (now (out .entry))) ⌝ }
     ensures { λ r. ⌜ r ≤ at + 64 ⌝ }
 {
     if kind < LabelKind::FUNCTION {
@@ -203,18 +213,28 @@ fn put_function(out: &mut [u8], at: usize, rows: &[u32], kind: u32, statement: u
     if kind < LabelKind::PLACE {
         return put_sizes(out, at, rows, statement);
     }
+    if kind == LabelKind::IMPORT {
+        return put_field(out, at, arguments as u64);
+    }
     at
 }
 
-fn put_label_tail(out: &mut [u8], at: usize, rows: &[u32], kind: u32, number: u32) -> usize
+fn put_label_tail(
+    out: &mut [u8],
+    at: usize,
+    rows: &[u32],
+    kind: u32,
+    number: u32,
+    arguments: u32,
+) -> usize
     requires { ⌜ at < 140737488355328 ⌝ }
-    ensures { λ r. ⌜ sheet r (now (out .exit)) ≡ put (labelTail (now (rows .entry)) kind number) (sheet at (now (out .entry))) ⌝ }
+    ensures { λ r. ⌜ sheet r (now (out .exit)) ≡ put (labelTail (now (rows .entry)) kind number arguments) (sheet at (now (out .entry))) ⌝ }
     ensures { λ r. ⌜ r ≤ at + 256 ⌝ }
 {
     let behind_kind = put_kind(out, at, kind);
     let behind_number = put_decimal(out, behind_kind, number as u64);
     let behind_export = put_exported(out, behind_number, kind);
-    let to = put_function(out, behind_export, rows, kind, number);
+    let to = put_label_sizes(out, behind_export, rows, kind, number, arguments);
     put_byte(out, to, 10)
 }
 
@@ -236,9 +256,10 @@ fn put_label(out: &mut [u8], at: usize, table: &[u32], names: &[u8], rows: &[u32
     let row = n as usize * Table::LABEL_ROW;
     let kind = prog_tables::word_at(table, row);
     let number = prog_tables::word_at(table, row + LabelRow::NUMBER);
+    let arguments = prog_tables::word_at(table, row + LabelRow::ARGUMENTS);
     let size = prog_tables::word_at(table, row + LabelRow::SIZE);
     let to = put_label_head(out, at, name_at(names, n, size));
-    put_label_tail(out, to, rows, kind, number)
+    put_label_tail(out, to, rows, kind, number, arguments)
 }
 
 fn put_labels(

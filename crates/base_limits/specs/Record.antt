@@ -1,11 +1,14 @@
--- The run record, built by these definitions alone: "state (running; finished with a word; stopped with number and statement), next
--- statement, start of the frame in use, stack words in use, auto top".
+-- The run record, built by these definitions alone: "state (running; finished with a word; stopped with number and statement; paused with the
+-- imported name's number and its arguments), next statement, start of the frame in use, stack words in use, auto top".
 -- Assumes nothing.
 use Prim.Native.Nat.{ℕ, _-_, _^_}
+use mathlib.Core.List.{List, [], _∷_}
+use lib.ListN.{length, getD, take}
 use Rattle.base_limits.specs.Width.{bitsOf}
 use Rattle.base_limits.specs.declared.Width.{Width}
 use Rattle.base_limits.specs.declared.State.{State}
 use Rattle.base_limits.specs.declared.State.the-variants.{Running, Finished, Stopped}
+use Rattle.base_limits.specs.declared.Pause.{Pause}
 use Rattle.base_limits.specs.declared.Machine.{Machine}
 
 -- no statement, no frame: "both 4294967295 for the first"
@@ -39,3 +42,29 @@ withState s r = record { state = s; next = r .next; frame = r .frame; used = r .
 -- read back from its parts
 unfoldable pub ofParts : State → ℕ → ℕ → ℕ → ℕ → Machine
 ofParts s next frame used top = record { state = s; next = next; frame = frame; used = used; top = top }
+
+-- ---- pauses
+
+-- "pauses the run with the name's number and its arguments" (02, 3): at most eight words, 0 beyond them
+unfoldable pub pauseOf : ℕ → List ℕ → Pause
+pauseOf n vs =
+    record {
+      number = n;
+      count = length vs;
+      first = getD vs 0 0;
+      second = getD vs 1 0;
+      third = getD vs 2 0;
+      fourth = getD vs 3 0;
+      fifth = getD vs 4 0;
+      sixth = getD vs 5 0;
+      seventh = getD vs 6 0;
+      eighth = getD vs 7 0;
+    }
+
+-- the eight words that a pause holds
+unfoldable pub eightWords : Pause → List ℕ
+eightWords q = q .first ∷ q .second ∷ q .third ∷ q .fourth ∷ q .fifth ∷ q .sixth ∷ q .seventh ∷ q .eighth ∷ []
+
+-- the arguments of a pause
+unfoldable pub pausedWords : Pause → List ℕ
+pausedWords q = take (q .count) (eightWords q)

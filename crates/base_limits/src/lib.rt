@@ -11,11 +11,26 @@ pub enum Width {
     Bits16,
 }
 
-// The state of a run: running, finished with a value, or stopped with a number at a statement.
+// A call to an imported function, which the host answers: the imported name's number, the number of arguments and their words, 0 beyond them.
+pub struct Pause {
+    pub number: u32,
+    pub count: u32,
+    pub first: u32,
+    pub second: u32,
+    pub third: u32,
+    pub fourth: u32,
+    pub fifth: u32,
+    pub sixth: u32,
+    pub seventh: u32,
+    pub eighth: u32,
+}
+
+// The state of a run: running, finished with a value, stopped with a number at a statement, or paused at a call to an imported function.
 pub enum State {
     Running,
     Finished(u32),
     Stopped { number: u32, statement: u32 },
+    Paused(Pause),
 }
 
 // The run record: the state, the next statement, the start of the frame in use, the stack words in use, the auto top.

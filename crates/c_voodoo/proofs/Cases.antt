@@ -14,19 +14,20 @@ use Rattle.base_limits.specs.declared.Machine.{Machine}
 use Rattle.base_limits.specs.Record.{freshOf}
 use Rattle.prog_tables.specs.Program.{programFrom}
 use Rattle.prog_tables.specs.Label.{Tables}
-use Rattle.vm_definitions.specs.Step.{After, stepOf, runOf}
+use Rattle.vm_definitions.specs.Step.{After, stepOf, runOf, Continued, resumeOf}
 use Rattle.vm_definitions.specs.Lent.{tablesOf, world}
 use Rattle.vm_definitions.specs.Lent as lent
 use Rattle.vm_definitions.specs.declared.Outcome.{Outcome}
+use Rattle.vm_definitions.specs.declared.Resumed.{Resumed}
 use Rattle.vm_definitions.specs.declared.Opening.{Opening}
 use Rattle.vm_start.specs.Opening.{Opened, opened, openingOf}
 use Rattle.c_words.specs.Words.{recordSize}
 use Rattle.c_words.specs.Record.{recordOf}
-use Rattle.c_words.specs.Reply.{Reply, reply, unfitNumber, unfitWords, outcomeReply, openingReply}
+use Rattle.c_words.specs.Reply.{Reply, reply, unfitNumber, refusalWords, refusalReply, outcomeReply, resumedReply, openingReply}
 use Rattle.c_words.specs.declared.Loaded.{Loaded}
 use Rattle.c_words.specs.declared.Loaded.the-variants.{Fit, Unfit}
 use Rattle.c_voodoo.specs.Answer.{answerNumber, resultWords, Told, told, toldOf}
-use Rattle.c_voodoo.specs.Calls.{Answered, answered, replied, unfit, outcomeAnswer, openingAnswer, stepBy, stepCall, runBy, runCall, startCall}
+use Rattle.c_voodoo.specs.Calls.{Answered, answered, replied, unfit, outcomeAnswer, resumedAnswer, openingAnswer, stepBy, stepCall, runBy, runCall, resumeBy, resumeCall, startCall}
 
 -- ---- the answer in words
 
@@ -55,26 +56,37 @@ unfolding toldOf
 told-is x a b c d e y number out o p q =
     ap₂ (λ (n : ℕ) (l : List ℕ). told n a b c d e l) (q .0) (q .1) ∙ ap (λ (z : Filled). toldOf z out) p
 
--- ---- start, step and run
+-- ---- start, step, run and going on
 
 module _ (ws st m out : List ℕ) (n : ℕ) (out′ : List ℕ) where
   -- the answer where there is no record
-  none : (number : ℕ) → (n ≡ number) × (out′ ≡ overlay (unfitWords number) out) → answered n ws st m out′ ≡ unfit ws st m out number
-  unfolding unfit
+  none : (number : ℕ) → (n ≡ number) × (out′ ≡ overlay (refusalWords number) out) → answered n ws st m out′ ≡ unfit ws st m out number
+  unfolding unfit refusalReply
   none number q = rw (q .0, q .1)
 
   module _ (x : Loaded) (e : x ≡ recordOf ws) (t : List ℕ) (c : ℕ) (l : List ℕ) (k : ℕ) (names : List ℕ) (d : ℕ) where
     abbrev T : Tables
     T = tablesOf t c l k names d
 
-    pub step-unfit : x ≡ Unfit → (n ≡ 35) × (out′ ≡ overlay (unfitWords 35) out) → answered n ws st m out′ ≡ stepCall ws st m out T
+    pub step-unfit : x ≡ Unfit → (n ≡ 35) × (out′ ≡ overlay (refusalWords 35) out) → answered n ws st m out′ ≡ stepCall ws st m out T
     unfolding stepCall stepBy
     step-unfit h q = none 35 q ∙ ap (stepBy ws st m out T) (sym h ∙ e)
 
-    pub run-unfit : (budget number : ℕ) → x ≡ Unfit → number ≡ unfitNumber budget → (n ≡ number) × (out′ ≡ overlay (unfitWords number) out)
-        → answered n ws st m out′ ≡ runCall ws st m out T budget
+    pub run-unfit : (budget number : ℕ) → x ≡ Unfit → number ≡ unfitNumber budget
+        → (n ≡ number) × (out′ ≡ overlay (refusalWords number) out) → answered n ws st m out′ ≡ runCall ws st m out T budget
     unfolding runCall runBy
     run-unfit budget number h g q = none number q ∙ ap (unfit ws st m out) g ∙ ap (runBy ws st m out T budget) (sym h ∙ e)
+
+    pub resume-unfit : (v : ℕ) → x ≡ Unfit → (n ≡ 37) × (out′ ≡ overlay (refusalWords 37) out)
+        → answered n ws st m out′ ≡ resumeCall ws st m out T v
+    unfolding resumeCall resumeBy
+    resume-unfit v h q = none 37 q ∙ ap (resumeBy ws st m out T v) (sym h ∙ e)
+
+    pub resume-fit : (r : Machine) (o : Resumed) (ws′ st′ m′ : List ℕ) (v : ℕ) → x ≡ Fit r → reply n ws′ out′ ≡ resumedReply o ws out
+        → lent.resumed o st′ m′ ≡ resumeOf (programFrom Bits32 T) v (world r st m) → answered n ws′ st′ m′ out′ ≡ resumeCall ws st m out T v
+    unfolding resumeCall resumeBy resumedAnswer
+    resume-fit r o ws′ st′ m′ v h q g =
+        ap (λ (p : Reply). replied p st′ m′) q ∙ ap (resumedAnswer ws st m out) g ∙ ap (resumeBy ws st m out T v) (sym h ∙ e)
 
     module _ (r : Machine) (h : x ≡ Fit r) (o : Outcome) (ws′ st′ m′ : List ℕ) (q : reply n ws′ out′ ≡ outcomeReply o ws out) where
       after : (y : After) → lent.left o st′ m′ ≡ y → answered n ws′ st′ m′ out′ ≡ outcomeAnswer ws st m out y
@@ -90,7 +102,7 @@ module _ (ws st m out : List ℕ) (n : ℕ) (out′ : List ℕ) where
       run-fit budget g = after (runOf (programFrom Bits32 T) budget (world r st m)) g ∙ ap (runBy ws st m out T budget) (sym h ∙ e)
 
   module _ (t : List ℕ) (c : ℕ) (l : List ℕ) (k : ℕ) (names : List ℕ) (d : ℕ) (bytes name args : List ℕ) where
-    pub start-unfit : length ws < recordSize → (n ≡ 35) × (out′ ≡ overlay (unfitWords 35) out)
+    pub start-unfit : length ws < recordSize → (n ≡ 35) × (out′ ≡ overlay (refusalWords 35) out)
         → answered n ws st m out′ ≡ startCall ws st m out (tablesOf t c l k names d) bytes name args
     unfolding startCall
     start-unfit h q = none 35 q ∙ sym (ifLt-yes (unfit ws st m out 35) _ h)
@@ -108,5 +120,7 @@ module _ (ws st m out : List ℕ) (n : ℕ) (out′ : List ℕ) where
 pub ruleset steps = (step-unfit, step-fit)
 
 pub ruleset runs = (run-unfit, run-fit)
+
+pub ruleset resumes = (resume-unfit, resume-fit)
 
 pub ruleset starts = (start-unfit, start-fit)

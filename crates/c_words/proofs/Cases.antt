@@ -1,7 +1,7 @@
 -- The ways through the functions of this crate.
 -- Assumes nothing.
 use mathlib.Core.Path.{_≡_, refl, sym, _∙_, ap, ap₂}
-use mathlib.Core.Bool.{Bool, true, false}
+use mathlib.Core.Bool.{Bool, true, false, not}
 use mathlib.Core.List.{List, [], _∷_}
 use Prim.Native.Nat.{ℕ, zero, suc, _+_, _/_, _%_, _<_, _≤_}
 use native.Mathlib.Omega.{arith}
@@ -12,21 +12,24 @@ use Rattle.base_prelude.specs.Choice.{pick, ifLt, ifEq, ifTrue}
 use Rattle.base_prelude.specs.Lists.{overlay}
 use Rattle.base_prelude.proofs.Choice.{ifLt-yes, ifLt-no, ifEq-yes, ifEq-no, ifTrue-yes, ifTrue-no}
 use Rattle.base_limits.specs.declared.State.{State}
-use Rattle.base_limits.specs.declared.State.the-variants.{Running, Finished, Stopped}
+use Rattle.base_limits.specs.declared.State.the-variants.{Running, Finished, Stopped, Paused}
+use Rattle.base_limits.specs.declared.Pause.{Pause}
 use Rattle.base_limits.specs.declared.Machine.{Machine}
-use Rattle.base_limits.specs.Record.{ofParts}
+use Rattle.base_limits.specs.Record.{ofParts, pauseOf, eightWords}
+use Rattle.vm_definitions.specs.Access.{storeFrom}
 use Rattle.vm_definitions.specs.declared.Broken.{Broken}
 use Rattle.vm_definitions.specs.declared.Started.{Started}
 use Rattle.vm_definitions.specs.declared.Started.the-variants.{Begun, Refused, Unsound}
 use Rattle.vm_definitions.specs.declared.Opening.{Opening}
 use Rattle.vm_definitions.specs.declared.Outcome.{Outcome}
+use Rattle.vm_definitions.specs.declared.Resumed.{Resumed}
 use Rattle.c_words.specs.declared.Loaded.{Loaded}
 use Rattle.c_words.specs.declared.Loaded.the-variants.{Fit, Unfit}
 use Rattle.c_words.specs.Placed.{placed, threeAt}
 use Rattle.c_words.specs.Words as word
 use Rattle.c_words.specs.Words.{recordSize, nowhere}
-use Rattle.c_words.specs.Record.{isStop, isListed, stateOf, stateIn, machineOf, recordOf, stateNumber, stateValue, statePlace, recordWords}
-use Rattle.c_words.specs.Reply.{Reply, reply, unfitWords, brokenNumber, brokenPlace, finishedFlag, finishedWord, outcomeNumber, outcomeWords, changes, recordAfter, outcomeReply, startNumber, startPlace, startWords, recordBegun, openingReply}
+use Rattle.c_words.specs.Record.{isStop, isListed, stateOf, stateIn, machineOf, recordOf, stateNumber, stateValue, statePlace, statePause, recordWords, recordOver}
+use Rattle.c_words.specs.Reply.{Reply, reply, refusalWords, refusalReply, brokenNumber, brokenPlace, stateFlag, flaggedWord, outcomeNumber, outcomeWords, changes, recordAfter, outcomeReply, resumedReply, startNumber, startPlace, startWords, recordBegun, openingReply}
 
 set-past : (out : List ℕ) (i v : ℕ) → length out ≤ i → out ≡ set out i v
 set-past [] i v h = refl
@@ -91,12 +94,6 @@ unfolding threeAt placed
 six-placed a b c d e f out o₀ o₁ q p =
     q ∙ ap (λ (l : List ℕ). set (set (set l 3 d) 4 e) 5 f) p ∙ six-put a b c d e f out
 
-seven-put : (a b c d e f g : ℕ) (out : List ℕ)
-    → set (set (set (set (set (set (set out 0 a) 1 b) 2 c) 3 d) 4 e) 5 f) 6 g ≡ overlay (a ∷ b ∷ c ∷ d ∷ e ∷ f ∷ g ∷ []) out
-seven-put a b c d e f g [] = overlay-full (a ∷ b ∷ c ∷ d ∷ e ∷ f ∷ g ∷ [])
-seven-put a b c d e f g (x ∷ xs) =
-    over a (b ∷ c ∷ d ∷ e ∷ f ∷ g ∷ []) x xs (set (set (set (set (set (set xs 0 b) 1 c) 2 d) 3 e) 4 f) 5 g) (six-put b c d e f g xs)
-
 -- ---- the record
 
 pub stop-below : (k : ℕ) → k < 30 → false ≡ isStop k
@@ -120,13 +117,32 @@ module _ (s k : ℕ) where
 
   pub listed-stopped : (b : Bool) → (s ≡ word.running → ⊥) → (s ≡ word.finished → ⊥) → s ≡ word.stopped → b ≡ isStop k → b ≡ isListed s k
   unfolding isListed
-  listed-stopped b h q r e = e ∙ sym (ifEq-no true _ h ∙ ifEq-no true _ q ∙ ifEq-yes (isStop k) false r)
+  listed-stopped b h q r e = e ∙ sym (ifEq-no true _ h ∙ ifEq-no true _ q ∙ ifEq-yes (isStop k) _ r)
 
-  pub listed-none : (s ≡ word.running → ⊥) → (s ≡ word.finished → ⊥) → (s ≡ word.stopped → ⊥) → false ≡ isListed s k
+  pub listed-paused : (s ≡ word.running → ⊥) → (s ≡ word.finished → ⊥) → (s ≡ word.stopped → ⊥) → eqb s word.paused ≡ isListed s k
   unfolding isListed
-  listed-none h q r = sym (ifEq-no true _ h ∙ ifEq-no true _ q ∙ ifEq-no (isStop k) false r)
+  listed-paused h q r = sym (ifEq-no true _ h ∙ ifEq-no true _ q ∙ ifEq-no (isStop k) _ r)
 
-pub ruleset listed-ways = (listed-running, listed-finished, listed-stopped, listed-none)
+pub ruleset listed-ways = (listed-running, listed-finished, listed-stopped, listed-paused)
+
+module _ (s a b : ℕ) (q : Pause) where
+  pub state-running : s ≡ word.running → Running ≡ stateOf s a b q
+  unfolding stateOf
+  state-running h = sym (ifEq-yes Running _ h)
+
+  pub state-finished : (s ≡ word.running → ⊥) → s ≡ word.finished → Finished a ≡ stateOf s a b q
+  unfolding stateOf
+  state-finished h g = sym (ifEq-no Running _ h ∙ ifEq-yes (Finished a) _ g)
+
+  pub state-stopped : (s ≡ word.running → ⊥) → (s ≡ word.finished → ⊥) → s ≡ word.stopped → Stopped a b ≡ stateOf s a b q
+  unfolding stateOf
+  state-stopped h g f = sym (ifEq-no Running _ h ∙ ifEq-no (Finished a) _ g ∙ ifEq-yes (Stopped a b) _ f)
+
+  pub state-paused : (s ≡ word.running → ⊥) → (s ≡ word.finished → ⊥) → (s ≡ word.stopped → ⊥) → Paused q ≡ stateOf s a b q
+  unfolding stateOf
+  state-paused h g f = sym (ifEq-no Running _ h ∙ ifEq-no (Finished a) _ g ∙ ifEq-no (Stopped a b) _ f)
+
+pub ruleset state-ways = (state-running, state-finished, state-stopped, state-paused)
 
 module _ (ws : List ℕ) where
   pub load-short : length ws < recordSize → Unfit ≡ recordOf ws
@@ -147,10 +163,17 @@ module _ (ws : List ℕ) where
 
 pub ruleset load-ways = (load-short, load-unlisted, load-fit)
 
-pub record-stored : (r : Machine) (s v p : ℕ) (ws o₀ o₁ o₂ : List ℕ) → s ≡ stateNumber (r .state) → v ≡ stateValue (r .state) → p ≡ statePlace (r .state)
-    → o₀ ≡ threeAt ws 0 s (r .next) (r .frame) → o₁ ≡ threeAt o₀ 3 (r .used) (r .top) v → o₂ ≡ placed o₁ 6 p → o₂ ≡ overlay (recordWords r) ws
-unfolding threeAt placed recordWords
-record-stored r s v p ws o₀ o₁ o₂ e q h a b c = rw (c, b, a, e, q, h) (seven-put _ _ _ _ _ _ _ ws)
+pub pause-stored : (q : Pause) (ws o₀ o₁ o₂ o₃ : List ℕ) → o₀ ≡ threeAt ws 8 (q .first) (q .second) (q .third)
+    → o₁ ≡ threeAt o₀ 11 (q .fourth) (q .fifth) (q .sixth) → o₂ ≡ placed o₁ 14 (q .seventh) → o₃ ≡ placed o₂ 15 (q .eighth)
+    → o₃ ≡ storeFrom ws word.arguments (eightWords q)
+unfolding threeAt placed eightWords storeFrom
+pause-stored q ws o₀ o₁ o₂ o₃ a b c d = rw (d, c, b, a)
+
+pub record-stored : (r : Machine) (s v p : ℕ) (q : Pause) (ws o₀ o₁ o₂ o₃ : List ℕ) → s ≡ stateNumber (r .state) → v ≡ stateValue (r .state)
+    → p ≡ statePlace (r .state) → q ≡ statePause (r .state) → o₀ ≡ threeAt ws 0 s (r .next) (r .frame)
+    → o₁ ≡ threeAt o₀ 3 (r .used) (r .top) v → o₂ ≡ placed o₁ 6 p → o₃ ≡ storeFrom o₂ word.arguments (eightWords q) → o₃ ≡ recordOver r ws
+unfolding threeAt placed recordWords recordOver storeFrom
+record-stored r s v p q ws o₀ o₁ o₂ o₃ e g h k a b c d = rw (d, c, b, a, e, g, h, k)
 
 -- ---- a step and a run
 
@@ -160,7 +183,7 @@ outcome-number o n a e q = q ∙ e
 
 pub outcome-words : (o : Outcome) (n p low high flag word : ℕ) (out out′ : List ℕ) → n ≡ brokenNumber (o .broken) (o .machine .state)
     → p ≡ brokenPlace (o .broken) (o .machine .state) → low ≡ o .count % 4294967296 → high ≡ o .count / 4294967296
-    → flag ≡ finishedFlag (o .machine .state) → word ≡ finishedWord (o .machine .state)
+    → flag ≡ stateFlag (o .machine .state) → word ≡ flaggedWord (o .machine .state)
     → out′ ≡ overlay (n ∷ p ∷ low ∷ high ∷ flag ∷ word ∷ []) out → out′ ≡ overlay (outcomeWords o) out
 unfolding outcomeNumber outcomeWords
 outcome-words o n p low high flag word out out′ e q h g f w s = rw (← e, ← q, ← h, ← g, ← f, ← w) s
@@ -170,21 +193,17 @@ module _ (s : ℕ) (o : Outcome) where
   unfolding changes
   changed-counted h = sym (ifEq-no _ true h)
 
-  pub changed-before : o .count ≡ 0 → (s ≡ word.running → ⊥) → false ≡ changes s o
+  pub changed-state : (n : ℕ) → o .count ≡ 0 → n ≡ stateNumber (o .machine .state) → not (eqb n s) ≡ changes s o
   unfolding changes
-  changed-before h q = sym (ifEq-yes _ true h ∙ ifEq-no _ false q)
+  changed-state n h e = ap (λ (k : ℕ). not (eqb k s)) e ∙ sym (ifEq-yes _ true h)
 
-  pub changed-stopped : (n : ℕ) → o .count ≡ 0 → s ≡ word.running → n ≡ stateNumber (o .machine .state) → eqb n word.stopped ≡ changes s o
-  unfolding changes
-  changed-stopped n h q e = ap (λ (k : ℕ). eqb k word.stopped) e ∙ sym (ifEq-yes _ true h ∙ ifEq-yes _ false q)
-
-pub ruleset change-ways = (changed-counted, changed-before, changed-stopped)
+pub ruleset change-ways = (changed-counted, changed-state)
 
 module _ (o : Outcome) (ws : List ℕ) (s : ℕ) (b : Bool) (q : s ≡ getD ws word.state 0) (e : b ≡ changes s o) where
   is : b ≡ changes (getD ws word.state 0) o
   is = e ∙ ap (λ (n : ℕ). changes n o) q
 
-  pub kept-changed : (ws′ : List ℕ) → b ≡ true → ws′ ≡ overlay (recordWords (o .machine)) ws → ws′ ≡ recordAfter o ws
+  pub kept-changed : (ws′ : List ℕ) → b ≡ true → ws′ ≡ recordOver (o .machine) ws → ws′ ≡ recordAfter o ws
   unfolding recordAfter
   kept-changed ws′ h g = g ∙ sym (ifTrue-yes _ ws (sym is ∙ h))
 
@@ -199,6 +218,19 @@ pub outcome-replied : (o : Outcome) (n : ℕ) (ws ws′ out out′ : List ℕ) �
 unfolding outcomeReply
 outcome-replied o n ws ws′ out out′ e q = rw (e, q .0, q .1)
 
+-- ---- going on
+
+module _ (o : Resumed) (n : ℕ) (ws out out′ : List ℕ) where
+  pub resumed-refused : o .unpaused ≡ true → (n ≡ 37) × (out′ ≡ overlay (refusalWords 37) out) → reply n ws out′ ≡ resumedReply o ws out
+  unfolding resumedReply refusalReply
+  resumed-refused h q = rw (q .0, q .1) (sym (ifTrue-yes _ (outcomeReply (o .outcome) ws out) h))
+
+  pub resumed-on : (ws′ : List ℕ) → o .unpaused ≡ false → reply n ws′ out′ ≡ outcomeReply (o .outcome) ws out → reply n ws′ out′ ≡ resumedReply o ws out
+  unfolding resumedReply
+  resumed-on ws′ h q = q ∙ sym (ifTrue-no (refusalReply 37 ws out) _ h)
+
+pub ruleset resumed-ways = (resumed-refused, resumed-on)
+
 -- ---- a start
 
 pub start-numbered : (a : Started) (n r : ℕ) → n ≡ startNumber a → r ≡ n → r ≡ startNumber a
@@ -210,21 +242,21 @@ unfolding startWords
 start-worded a n p out out′ e q s = rw (← e, ← q) s
 
 module _ (a : Started) (r : Machine) (ws : List ℕ) where
-  pub begun-kept : (ws′ : List ℕ) → a ≡ Begun → ws′ ≡ overlay (recordWords r) ws → ws′ ≡ recordBegun a (recordWords r) ws
+  pub begun-kept : (ws′ : List ℕ) → a ≡ Begun → ws′ ≡ recordOver r ws → ws′ ≡ recordBegun a r ws
   unfolding recordBegun
-  begun-kept ws′ e q = q ∙ sym (ap (λ (x : Started). recordBegun x (recordWords r) ws) e)
+  begun-kept ws′ e q = q ∙ sym (ap (λ (x : Started). recordBegun x r ws) e)
 
-  pub refused-kept : (k : ℕ) → a ≡ Refused k → ws ≡ recordBegun a (recordWords r) ws
+  pub refused-kept : (k : ℕ) → a ≡ Refused k → ws ≡ recordBegun a r ws
   unfolding recordBegun
-  refused-kept k e = sym (ap (λ (x : Started). recordBegun x (recordWords r) ws) e)
+  refused-kept k e = sym (ap (λ (x : Started). recordBegun x r ws) e)
 
-  pub unsound-kept : (b : Broken) → a ≡ Unsound b → ws ≡ recordBegun a (recordWords r) ws
+  pub unsound-kept : (b : Broken) → a ≡ Unsound b → ws ≡ recordBegun a r ws
   unfolding recordBegun
-  unsound-kept b e = sym (ap (λ (x : Started). recordBegun x (recordWords r) ws) e)
+  unsound-kept b e = sym (ap (λ (x : Started). recordBegun x r ws) e)
 
 pub ruleset begun-ways = (begun-kept, refused-kept, unsound-kept)
 
-pub opening-replied : (o : Opening) (n : ℕ) (ws ws′ out out′ : List ℕ) → ws′ ≡ recordBegun (o .answer) (recordWords (o .machine)) ws
+pub opening-replied : (o : Opening) (n : ℕ) (ws ws′ out out′ : List ℕ) → ws′ ≡ recordBegun (o .answer) (o .machine) ws
     → (n ≡ startNumber (o .answer)) × (out′ ≡ overlay (startWords (o .answer)) out) → reply n ws′ out′ ≡ openingReply o ws out
 unfolding openingReply
 opening-replied o n ws ws′ out out′ e q = rw (e, q .0, q .1)

@@ -1,8 +1,8 @@
 -- What a call answers: the number given back, the lent record and the six result words: number, place, count (low and high 32 bits),
--- 1 if the record has finished, its word then.
+-- whether the record has finished or paused, and its word then.
 -- Assumes nothing.
 use Prim.Native.Nat.{ℕ, _/_, _%_}
-use mathlib.Core.Bool.{Bool, true, false}
+use mathlib.Core.Bool.{Bool, true, false, not}
 use mathlib.Core.List.{List, [], _∷_}
 use lib.Dec.{eqb}
 use lib.ListN.{getD}
@@ -10,16 +10,18 @@ use Rattle.base_limits.specs.Limits.{wordValues}
 use Rattle.base_prelude.specs.Choice.{ifEq, ifTrue}
 use Rattle.base_prelude.specs.Lists.{overlay}
 use Rattle.base_limits.specs.declared.State.{State}
-use Rattle.base_limits.specs.declared.State.the-variants.{Running, Finished, Stopped}
+use Rattle.base_limits.specs.declared.State.the-variants.{Running, Finished, Stopped, Paused}
+use Rattle.base_limits.specs.declared.Machine.{Machine}
 use Rattle.vm_definitions.specs.declared.Broken.{Broken}
 use Rattle.vm_definitions.specs.declared.Broken.the-variants.{No, At, Somewhere}
 use Rattle.vm_definitions.specs.declared.Started.{Started}
 use Rattle.vm_definitions.specs.declared.Started.the-variants.{Begun, Refused, Unsound}
 use Rattle.vm_definitions.specs.declared.Opening.{Opening}
 use Rattle.vm_definitions.specs.declared.Outcome.{Outcome}
+use Rattle.vm_definitions.specs.declared.Resumed.{Resumed}
 use Rattle.c_words.specs.Words as word
 use Rattle.c_words.specs.Words.{nowhere}
-use Rattle.c_words.specs.Record.{stateNumber, recordWords}
+use Rattle.c_words.specs.Record.{stateNumber, recordOver}
 
 -- the number given back, the record's words and the result's
 pub record Reply : Type 0 where
@@ -34,9 +36,12 @@ reply n ws out = record { number = n; words = ws; result = out }
 unfoldable pub unfitNumber : ℕ → ℕ
 unfitNumber budget = ifEq budget 0 0 35
 
--- a number alone
-abbrev pub unfitWords : ℕ → List ℕ
-unfitWords number = number ∷ nowhere ∷ 0 ∷ 0 ∷ 0 ∷ 0 ∷ []
+-- a number alone: without a place, and nothing changes
+abbrev pub refusalWords : ℕ → List ℕ
+refusalWords number = number ∷ nowhere ∷ 0 ∷ 0 ∷ 0 ∷ 0 ∷ []
+
+unfoldable pub refusalReply : ℕ → List ℕ → List ℕ → Reply
+refusalReply number ws out = reply number ws (overlay (refusalWords number) out)
 
 -- ---- a step and a run
 
@@ -44,11 +49,13 @@ unfoldable pub stopNumber : State → ℕ
 stopNumber Running = 0
 stopNumber (Finished v) = 0
 stopNumber (Stopped k i) = k
+stopNumber (Paused q) = 0
 
 unfoldable pub stopPlace : State → ℕ
 stopPlace Running = nowhere
 stopPlace (Finished v) = nowhere
 stopPlace (Stopped k i) = i
+stopPlace (Paused q) = nowhere
 
 -- 35, else the number of the stop, else 0
 unfoldable pub brokenNumber : Broken → State → ℕ
@@ -61,15 +68,18 @@ brokenPlace No s = stopPlace s
 brokenPlace (At i) s = i
 brokenPlace Somewhere s = nowhere
 
-unfoldable pub finishedFlag : State → ℕ
-finishedFlag Running = 0
-finishedFlag (Finished v) = 1
-finishedFlag (Stopped k i) = 0
+unfoldable pub stateFlag : State → ℕ
+stateFlag Running = word.flagGoing
+stateFlag (Finished v) = word.flagFinished
+stateFlag (Stopped k i) = word.flagGoing
+stateFlag (Paused q) = word.flagPaused
 
-unfoldable pub finishedWord : State → ℕ
-finishedWord Running = 0
-finishedWord (Finished v) = v
-finishedWord (Stopped k i) = 0
+-- the finished word; of a pause the imported name's number
+unfoldable pub flaggedWord : State → ℕ
+flaggedWord Running = 0
+flaggedWord (Finished v) = v
+flaggedWord (Stopped k i) = 0
+flaggedWord (Paused q) = q .number
 
 unfoldable pub outcomeNumber : Outcome → ℕ
 outcomeNumber o = brokenNumber (o .broken) (o .machine .state)
@@ -77,17 +87,23 @@ outcomeNumber o = brokenNumber (o .broken) (o .machine .state)
 unfoldable pub outcomeWords : Outcome → List ℕ
 outcomeWords o =
     outcomeNumber o ∷ brokenPlace (o .broken) (o .machine .state) ∷ o .count % wordValues ∷ o .count / wordValues
-    ∷ finishedFlag (o .machine .state) ∷ finishedWord (o .machine .state) ∷ []
+    ∷ stateFlag (o .machine .state) ∷ flaggedWord (o .machine .state) ∷ []
 
--- the call changed the record, whose state's number was s: a step was counted, or a running record has stopped
+-- the call changed the record, whose state's number was s: a step was counted, or it has stopped or paused
 unfoldable pub changes : ℕ → Outcome → Bool
-changes s o = ifEq (o .count) 0 (ifEq s word.running (eqb (stateNumber (o .machine .state)) word.stopped) false) true
+changes s o = ifEq (o .count) 0 (not (eqb (stateNumber (o .machine .state)) s)) true
 
 unfoldable pub recordAfter : Outcome → List ℕ → List ℕ
-recordAfter o ws = ifTrue (changes (getD ws word.state 0) o) (overlay (recordWords (o .machine)) ws) ws
+recordAfter o ws = ifTrue (changes (getD ws word.state 0) o) (recordOver (o .machine) ws) ws
 
 unfoldable pub outcomeReply : Outcome → List ℕ → List ℕ → Reply
 outcomeReply o ws out = reply (outcomeNumber o) (recordAfter o ws) (overlay (outcomeWords o) out)
+
+-- ---- going on
+
+-- "37 [..] for going on with a record that isn't paused, which changes nothing" (02, 3); else as a step
+unfoldable pub resumedReply : Resumed → List ℕ → List ℕ → Reply
+resumedReply o ws out = ifTrue (o .unpaused) (refusalReply 37 ws out) (outcomeReply (o .outcome) ws out)
 
 -- ---- a start
 
@@ -109,12 +125,12 @@ startPlace (Unsound b) = unsoundPlace b
 unfoldable pub startWords : Started → List ℕ
 startWords a = startNumber a ∷ startPlace a ∷ 0 ∷ 0 ∷ 0 ∷ 0 ∷ []
 
--- the words ws of the record that a start leaves, written over the old ones when it has begun
-unfoldable pub recordBegun : Started → List ℕ → List ℕ → List ℕ
-recordBegun Begun ws old = overlay ws old
-recordBegun (Refused k) ws old = old
-recordBegun (Unsound b) ws old = old
+-- the record r that a start leaves is written when it has begun
+unfoldable pub recordBegun : Started → Machine → List ℕ → List ℕ
+recordBegun Begun r ws = recordOver r ws
+recordBegun (Refused k) r ws = ws
+recordBegun (Unsound b) r ws = ws
 
 unfoldable pub openingReply : Opening → List ℕ → List ℕ → Reply
 openingReply o ws out =
-    reply (startNumber (o .answer)) (recordBegun (o .answer) (recordWords (o .machine)) ws) (overlay (startWords (o .answer)) out)
+    reply (startNumber (o .answer)) (recordBegun (o .answer) (o .machine) ws) (overlay (startWords (o .answer)) out)

@@ -1,4 +1,4 @@
--- The words of the record that a host lends, and the numbers in them. Words 7 to 15 are not used.
+-- The words of the record that a host lends, and the numbers in them. Word 7 is not used.
 -- Assumes nothing.
 use Prim.Native.Nat.{ℕ}
 use Rattle.base_limits.specs.Limits.{greatestWord}
@@ -23,13 +23,17 @@ used = 3
 abbrev pub top : ℕ
 top = 4
 
--- finished: the word; stopped: the number
+-- finished: the word; stopped: the number; paused: the imported name's number
 abbrev pub value : ℕ
 value = 5
 
--- stopped: the statement
+-- stopped: the statement; paused: the number of arguments
 abbrev pub at : ℕ
 at = 6
+
+-- paused: the first of eight words, the arguments and zeros
+abbrev pub arguments : ℕ
+arguments = 8
 
 -- words of the whole record
 abbrev pub recordSize : ℕ
@@ -45,6 +49,21 @@ finished = 2
 
 abbrev pub stopped : ℕ
 stopped = 3
+
+abbrev pub paused : ℕ
+paused = 4
+
+-- ---- what an answer says of the state
+
+-- running or stopped
+abbrev pub flagGoing : ℕ
+flagGoing = 0
+
+abbrev pub flagFinished : ℕ
+flagFinished = 1
+
+abbrev pub flagPaused : ℕ
+flagPaused = 2
 
 -- ---- no place
 
@@ -62,9 +81,14 @@ numbersOf =
       top = top;
       value = value;
       at = at;
+      arguments = arguments;
       words = recordSize;
       running = running;
       finished = finished;
       stopped = stopped;
+      paused = paused;
+      «flag_going» = flagGoing;
+      «flag_finished» = flagFinished;
+      «flag_paused» = flagPaused;
       nowhere = nowhere;
     }

@@ -1,21 +1,25 @@
 // What a call of the tracker reads and writes: the run record in 16 lent words, and the six words of the answer.
 use base_limits::Machine;
+use base_limits::Pause;
 use base_limits::State;
 use vm_definitions::Broken;
 use vm_definitions::Opening;
 use vm_definitions::Outcome;
+use vm_definitions::Resumed;
 use vm_definitions::Started;
 ghost use mathlib.Core.Path.{_≡_};
 ghost use mathlib.Core.List.{[], _∷_};
 ghost use Prim.Native.Nat.{_≤_, _/_, _%_};
 ghost use Rattle.base_limits.specs.Limits.{wordValues};
+ghost use Rattle.base_limits.specs.Record.{pauseOf, eightWords};
 ghost use Rattle.base_prelude.specs.Lists.{overlay};
+ghost use Rattle.vm_definitions.specs.Access.{storeFrom};
 ghost use Rattle.c_words.specs.Placed.{placed, threeAt};
 ghost use lib.ListN.{length, getD};
 ghost use Rattle.c_words.specs.Words as word;
 ghost use Rattle.c_words.specs.Words.{numbersOf, recordSize};
-ghost use Rattle.c_words.specs.Record.{isStop, isListed, stateOf, stateIn, recordOf, stateNumber, stateValue, statePlace, recordWords};
-ghost use Rattle.c_words.specs.Reply.{reply, unfitNumber, unfitWords, stopNumber, stopPlace, brokenNumber, brokenPlace, finishedFlag, finishedWord, outcomeNumber, outcomeWords, changes, recordAfter, outcomeReply, unsoundPlace, startNumber, startPlace, startWords, recordBegun, openingReply};
+ghost use Rattle.c_words.specs.Record.{isStop, isListed, pauseHeld, stateOf, stateIn, recordOf, stateNumber, stateValue, statePlace, statePause, recordOver};
+ghost use Rattle.c_words.specs.Reply.{reply, unfitNumber, refusalWords, stopNumber, stopPlace, brokenNumber, brokenPlace, stateFlag, flaggedWord, outcomeNumber, outcomeWords, changes, recordAfter, outcomeReply, resumedReply, unsoundPlace, startNumber, startPlace, startWords, recordBegun, openingReply};
 
 // The words of the lent record that are used.
 pub struct RecordWord {}
@@ -35,6 +39,9 @@ impl RecordWord {
 
     pub const AT: usize = 6;
 
+    // The first of a pause's eight words.
+    pub const ARGUMENTS: usize = 8;
+
     // Words of the whole record.
     pub const COUNT: usize = 16;
 }
@@ -48,6 +55,20 @@ impl StateNumber {
     pub const FINISHED: u32 = 2;
 
     pub const STOPPED: u32 = 3;
+
+    pub const PAUSED: u32 = 4;
+}
+
+// What an answer says of the state.
+pub struct Flag {}
+
+impl Flag {
+    // Running or stopped.
+    pub const GOING: u32 = 0;
+
+    pub const FINISHED: u32 = 1;
+
+    pub const PAUSED: u32 = 2;
 }
 
 // No place.
@@ -66,10 +87,15 @@ pub struct Numbers {
     pub top: usize,
     pub value: usize,
     pub at: usize,
+    pub arguments: usize,
     pub words: usize,
     pub running: u32,
     pub finished: u32,
     pub stopped: u32,
+    pub paused: u32,
+    pub flag_going: u32,
+    pub flag_finished: u32,
+    pub flag_paused: u32,
     pub nowhere: u32,
 }
 
@@ -85,10 +111,15 @@ pub fn all_numbers() -> Numbers
         top: RecordWord::TOP,
         value: RecordWord::VALUE,
         at: RecordWord::AT,
+        arguments: RecordWord::ARGUMENTS,
         words: RecordWord::COUNT,
         running: StateNumber::RUNNING,
         finished: StateNumber::FINISHED,
         stopped: StateNumber::STOPPED,
+        paused: StateNumber::PAUSED,
+        flag_going: Flag::GOING,
+        flag_finished: Flag::FINISHED,
+        flag_paused: Flag::PAUSED,
         nowhere: Place::NONE,
     }
 }
@@ -110,7 +141,7 @@ fn put_word(out: &mut [u32], i: usize, v: u32)
 
 // Three words from a place on.
 fn put_three(out: &mut [u32], i: usize, a: u32, b: u32, c: u32)
-    requires { ⌜ i ≤ 3 ⌝ }
+    requires { ⌜ i ≤ 11 ⌝ }
     ensures { λ _. ⌜ now (out .exit) ≡ threeAt (now (out .entry)) i a b c ⌝ }
 {
     put_word(out, i, a);
@@ -150,12 +181,12 @@ fn is_listed(s: u32, k: u32) -> bool
     if s == StateNumber::STOPPED {
         return is_stop(k);
     }
-    false
+    s == StateNumber::PAUSED
 }
 
 // A listed state, with the words that it may hold.
-fn make_state(s: u32, a: u32, b: u32) -> State
-    ensures { λ r. ⌜ r ≡ stateOf s a b ⌝ }
+fn make_state(s: u32, a: u32, b: u32, q: Pause) -> State
+    ensures { λ r. ⌜ r ≡ stateOf s a b q ⌝ }
 {
     if s == StateNumber::RUNNING {
         return State::Running;
@@ -163,9 +194,31 @@ fn make_state(s: u32, a: u32, b: u32) -> State
     if s == StateNumber::FINISHED {
         return State::Finished(a);
     }
-    State::Stopped {
-        number: a,
-        statement: b,
+    if s == StateNumber::STOPPED {
+        return State::Stopped {
+            number: a,
+            statement: b,
+        };
+    }
+    State::Paused(q)
+}
+
+// The pause that the words hold, in any state.
+fn read_pause(record: &[u32]) -> Pause
+    requires { ⌜ recordSize ≤ length (now «record») ⌝ }
+    ensures { λ r. ⌜ r ≡ pauseHeld (now («record» .entry)) ⌝ }
+{
+    Pause {
+        number: record[RecordWord::VALUE],
+        count: record[RecordWord::AT],
+        first: record[RecordWord::ARGUMENTS],
+        second: record[RecordWord::ARGUMENTS + 1],
+        third: record[RecordWord::ARGUMENTS + 2],
+        fourth: record[RecordWord::ARGUMENTS + 3],
+        fifth: record[RecordWord::ARGUMENTS + 4],
+        sixth: record[RecordWord::ARGUMENTS + 5],
+        seventh: record[RecordWord::ARGUMENTS + 6],
+        eighth: record[RecordWord::ARGUMENTS + 7],
     }
 }
 
@@ -178,6 +231,7 @@ fn read_state(record: &[u32]) -> State
         record[RecordWord::STATE],
         record[RecordWord::VALUE],
         record[RecordWord::AT],
+        read_pause(record),
     )
 }
 
@@ -209,6 +263,24 @@ pub fn load_record(record: &[u32]) -> Loaded
     Loaded::Unfit
 }
 
+// The pause of a record that is not paused: zeros.
+fn no_pause() -> Pause
+    ensures { λ r. ⌜ r ≡ pauseOf 0 [] ⌝ }
+{
+    Pause {
+        number: 0,
+        count: 0,
+        first: 0,
+        second: 0,
+        third: 0,
+        fourth: 0,
+        fifth: 0,
+        sixth: 0,
+        seventh: 0,
+        eighth: 0,
+    }
+}
+
 // The number of a state.
 fn state_number(s: State) -> u32
     ensures { λ r. ⌜ r ≡ stateNumber s ⌝ }
@@ -217,10 +289,11 @@ fn state_number(s: State) -> u32
         State::Running => StateNumber::RUNNING,
         State::Finished(_) => StateNumber::FINISHED,
         State::Stopped { number, statement } => StateNumber::STOPPED,
+        State::Paused(_) => StateNumber::PAUSED,
     }
 }
 
-// The word of a finished record, the number of a stopped one.
+// The word of a finished record, the number of a stopped one, of a paused one the imported name's.
 fn state_value(s: State) -> u32
     ensures { λ r. ⌜ r ≡ stateValue s ⌝ }
 {
@@ -228,10 +301,11 @@ fn state_value(s: State) -> u32
         State::Running => 0,
         State::Finished(v) => v,
         State::Stopped { number, statement } => number,
+        State::Paused(q) => q.number,
     }
 }
 
-// The statement of a stopped record.
+// The statement of a stopped record, the number of arguments of a paused one.
 fn state_place(s: State) -> u32
     ensures { λ r. ⌜ r ≡ statePlace s ⌝ }
 {
@@ -239,17 +313,47 @@ fn state_place(s: State) -> u32
         State::Running => 0,
         State::Finished(_) => 0,
         State::Stopped { number, statement } => statement,
+        State::Paused(q) => q.count,
     }
 }
 
-// Writes a record over the front of the lent words.
+// The pause of a paused record, zeros in every other state.
+fn state_pause(s: State) -> Pause
+    ensures { λ r. ⌜ r ≡ statePause s ⌝ }
+{
+    match s {
+        State::Running => no_pause(),
+        State::Finished(_) => no_pause(),
+        State::Stopped { number, statement } => no_pause(),
+        State::Paused(q) => q,
+    }
+}
+
+// Writes the eight words of a pause.
+fn put_pause(record: &mut [u32], q: Pause)
+    ensures { λ _. ⌜ now («record» .exit) ≡ storeFrom (now («record» .entry)) word.arguments (eightWords q) ⌝ }
+{
+    put_three(record, RecordWord::ARGUMENTS, q.first, q.second, q.third);
+    put_three(
+        record,
+        RecordWord::ARGUMENTS + 3,
+        q.fourth,
+        q.fifth,
+        q.sixth,
+    );
+    put_word(record, RecordWord::ARGUMENTS + 6, q.seventh);
+    put_word(record, RecordWord::ARGUMENTS + 7, q.eighth);
+}
+
+// Writes a record into the lent words, all but word 7.
 pub fn store_record(record: &mut [u32], r: Machine)
-    ensures { λ _. ⌜ now («record» .exit) ≡ overlay (recordWords r) (now («record» .entry)) ⌝ }
+    ensures { λ _. ⌜ now («record» .exit) ≡ recordOver r (now («record» .entry)) ⌝ }
 {
     let s = r.state;
     put_three(record, 0, state_number(s), r.next, r.frame);
     put_three(record, 3, r.used, r.top, state_value(s));
     put_word(record, RecordWord::AT, state_place(s));
+    put_pause(record, state_pause(s));
 }
 
 // The number of a stop, or 0.
@@ -260,6 +364,7 @@ fn stop_number(s: State) -> u32
         State::Running => 0,
         State::Finished(_) => 0,
         State::Stopped { number, statement } => number,
+        State::Paused(_) => 0,
     }
 }
 
@@ -271,6 +376,7 @@ fn stop_place(s: State) -> u32
         State::Running => Place::NONE,
         State::Finished(_) => Place::NONE,
         State::Stopped { number, statement } => statement,
+        State::Paused(_) => Place::NONE,
     }
 }
 
@@ -296,25 +402,27 @@ fn broken_place(b: Broken, s: State) -> u32
     }
 }
 
-// 1 of a finished record.
-fn finished_flag(s: State) -> u32
-    ensures { λ r. ⌜ r ≡ finishedFlag s ⌝ }
+// Whether the record has finished or paused.
+fn state_flag(s: State) -> u32
+    ensures { λ r. ⌜ r ≡ stateFlag s ⌝ }
 {
     match s {
-        State::Running => 0,
-        State::Finished(_) => 1,
-        State::Stopped { number, statement } => 0,
+        State::Running => Flag::GOING,
+        State::Finished(_) => Flag::FINISHED,
+        State::Stopped { number, statement } => Flag::GOING,
+        State::Paused(_) => Flag::PAUSED,
     }
 }
 
-// The word of a finished record.
-fn finished_word(s: State) -> u32
-    ensures { λ r. ⌜ r ≡ finishedWord s ⌝ }
+// The word of a finished record, the imported name's number of a paused one.
+fn flagged_word(s: State) -> u32
+    ensures { λ r. ⌜ r ≡ flaggedWord s ⌝ }
 {
     match s {
         State::Running => 0,
         State::Finished(word) => word,
         State::Stopped { number, statement } => 0,
+        State::Paused(pause) => pause.number,
     }
 }
 
@@ -346,8 +454,8 @@ fn put_outcome(o: Outcome, result: &mut [u32]) -> u32
         broken_place(b, s),
         low_half(n),
         high_half(n),
-        finished_flag(s),
-        finished_word(s),
+        state_flag(s),
+        flagged_word(s),
     )
 }
 
@@ -359,12 +467,9 @@ fn is_changed(s: u32, o: Outcome) -> bool
     if n != 0 {
         return true;
     }
-    if s != StateNumber::RUNNING {
-        return false;
-    }
     let r = o.machine;
     let state = r.state;
-    state_number(state) == StateNumber::STOPPED
+    state_number(state) != s
 }
 
 // Writes the record, if the call changed it.
@@ -393,11 +498,22 @@ pub fn unfit_number(budget: u64) -> u32
     if budget == 0 { 0 } else { 35 }
 }
 
-// The answer with this number where the lent words hold no record.
-pub fn reply_unfit(number: u32, result: &mut [u32]) -> u32
-    ensures { λ r. ⌜ (r ≡ number) × (now (result .exit) ≡ overlay (unfitWords number) (now (result .entry))) ⌝ }
+// A number alone as the answer.
+pub fn reply_refusal(number: u32, result: &mut [u32]) -> u32
+    ensures { λ r. ⌜ (r ≡ number) × (now (result .exit) ≡ overlay (refusalWords number) (now (result .entry))) ⌝ }
 {
     put_six(result, number, Place::NONE, 0, 0, 0, 0)
+}
+
+// The answer of going on.
+pub fn reply_resumed(o: Resumed, record: &mut [u32], result: &mut [u32]) -> u32
+    ensures { λ r. ⌜ reply r (now («record» .exit)) (now (result .exit)) ≡ resumedReply o (now («record» .entry)) (now (result .entry)) ⌝ }
+{
+    if o.unpaused {
+        return reply_refusal(37, result);
+    }
+    let outcome = o.outcome;
+    reply_outcome(outcome, record, result)
 }
 
 // The statement of a 35 at a start.
@@ -442,7 +558,7 @@ fn put_start(a: Started, result: &mut [u32]) -> u32
 
 // Writes the record that a start has begun.
 fn keep_begun(a: Started, r: Machine, record: &mut [u32])
-    ensures { λ _. ⌜ now («record» .exit) ≡ recordBegun a (recordWords r) (now («record» .entry)) ⌝ }
+    ensures { λ _. ⌜ now («record» .exit) ≡ recordBegun a r (now («record» .entry)) ⌝ }
 {
     match a {
         Started::Begun => store_record(record, r),

@@ -1,3 +1,4 @@
+pub mod Hosted
 pub mod Cases
 pub mod Lexed
 pub mod Fine

@@ -8,8 +8,10 @@ use lib.ListN.{length}
 use Rattle.base_prelude.specs.Choice.{ifLt}
 use Rattle.base_prelude.specs.Fault.{none, keyNumber, keyPlace}
 use Rattle.base_limits.specs.declared.Width.{Width}
+use Rattle.lex_source.specs.Token.{Token}
 use Rattle.lex_source.specs.Lex.{Outcome, accepted, refused, lexOf}
 use Rattle.lex_source.specs.Rows.{tokenTable}
+use Rattle.prog_tables.specs.Hosts.{Hosts}
 use Rattle.parse_lines.specs.Tokens.{placeAt}
 use Rattle.parse_outline.specs.Outline.{outlineOf}
 use Rattle.parse_outline.specs.declared.Parsed.{Parsed}
@@ -21,6 +23,7 @@ use Rattle.res_data.specs.Sizes.{lengthOf}
 use Rattle.res_data.specs.declared.Measured.{Measured}
 use Rattle.res_data.specs.declared.Measured.the-variants.{Length, Big}
 use Rattle.res_text.specs.Same.{sameText}
+use Rattle.res_hosts.specs.Marks.{hostedTokens}
 
 -- what is known of a source without a fault
 pub record Known : Type 0 where
@@ -74,11 +77,15 @@ outlineGroup w same m n t (Refused number place) x y = refusal number place
 unfoldable pub lineGroup : Width → (ℕ → ℕ → Bool) → ℕ → ℕ → List ℕ → Judged
 lineGroup w same m n t = outlineGroup w same m n t (outlineOf w t m .answer) (outlineOf w t m .rows) (outlineOf w t m .labels)
 
--- 1; 2 to 6 with 14 for tokens
-unfoldable pub tokenGroup : Width → List ℕ → Outcome → Judged
-tokenGroup w s (accepted ts) = lineGroup w (sameText s (tokenTable ts)) (length s) (length ts) (tokenTable ts)
-tokenGroup w s (refused k) = refusal (keyNumber k) (keyPlace k)
+-- the table of the tokens of a source, the names of its imports marked against the host's list
+abbrev pub hostedTable : Hosts → List ℕ → List Token → List ℕ
+hostedTable h s ts = hostedTokens h s (length ts) (tokenTable ts)
 
--- the source s
-unfoldable pub judgeOf : Width → List ℕ → Judged
-judgeOf w s = tokenGroup w s (lexOf w s)
+-- 1; 2 to 6 with 14 for tokens
+unfoldable pub tokenGroup : Width → Hosts → List ℕ → Outcome → Judged
+tokenGroup w h s (accepted ts) = lineGroup w (sameText s (hostedTable h s ts)) (length s) (length ts) (hostedTable h s ts)
+tokenGroup w h s (refused k) = refusal (keyNumber k) (keyPlace k)
+
+-- the source s, against the host's list h
+unfoldable pub judgeOf : Width → Hosts → List ℕ → Judged
+judgeOf w h s = tokenGroup w h s (lexOf w s)

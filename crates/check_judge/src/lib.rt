@@ -12,6 +12,7 @@ ghost use Prim.Native.Nat.{_≤_};
 ghost use lib.ListN.{length};
 ghost use Rattle.res_exports.specs.Exports.{exported};
 ghost use Rattle.res_scope.specs.Names.{sameNumber};
+ghost use Rattle.res_hosts.specs.Marks.{hostList};
 ghost use Rattle.res_skeleton.specs.Skeleton.{skeletonOf};
 ghost use Rattle.check_judge.specs.Judge.{namesJudged, lineGroup, judgeOf};
 ghost use Rattle.check_judge.specs.Judged.{judged};
@@ -105,28 +106,33 @@ fn judge_tokens(
     }
 }
 
-// Judges a source: a source without a fault has its tokens in t, its statements in k, its label rows in y, and 1 in `flags` for each label
-// that is exported. After a refusal they hold anything.
+// Judges a source against the host's list: a source without a fault has its tokens in t, the names of its imports marked, its statements in k,
+// its label rows in y, and 1 in `flags` for each label that is exported. After a refusal they hold anything.
 pub fn judge(
     w: Width,
     s: &[u8],
+    hosts: &[u32],
+    host_names: &[u8],
     t: &mut [u32; Machine::TOKEN_WORDS],
     k: &mut [u32; Table::STATEMENT_WORDS],
     y: &mut [u32; Outline::LABEL_WORDS],
     flags: &mut [u32; Machine::LABELS],
 ) -> Judgement
-    ensures { λ r. ⌜ judged r (now (t .exit)) (now (k .exit)) (now (y .exit)) (now (flags .exit)) ≡ judgeOf w (now (s .entry)) ⌝ }
+    ensures { λ r. ⌜ judged r (now (t .exit)) (now (k .exit)) (now (y .exit)) (now (flags .exit)) ≡ judgeOf w (hostList (now (hosts .entry)) (now («host_names» .entry))) (now (s .entry)) ⌝ }
 {
     match lex_source::lex(w, s, t) {
-        Lexed::Tokens(n) => judge_tokens(
-            w,
-            (s.len() as u64 % Machine::WORD_VALUES) as u32,
-            t,
-            n as u32,
-            k,
-            y,
-            flags,
-        ),
+        Lexed::Tokens(n) => {
+            res_hosts::mark_hosts(s, n as u32, hosts, host_names, t);
+            judge_tokens(
+                w,
+                (s.len() as u64 % Machine::WORD_VALUES) as u32,
+                t,
+                n as u32,
+                k,
+                y,
+                flags,
+            )
+        }
         Lexed::Refused { number, place } => Judgement::Refused {
             number: number,
             place: place,

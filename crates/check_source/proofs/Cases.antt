@@ -8,6 +8,7 @@ use native.Mathlib.Decide.{decLt}
 use native.Mathlib.Omega.{arith}
 use Rattle.base_prelude.proofs.Choice.{ifLt-yes, ifLt-no, ifTrue-yes, ifTrue-no, true-false}
 use Rattle.base_limits.specs.declared.Width.{Width}
+use Rattle.prog_tables.specs.Hosts.{Hosts}
 use Rattle.res_scope.specs.Names.{sameNumber}
 use Rattle.check_judge.specs.Judge.{Judged, fine, judgeOf}
 use Rattle.check_judge.specs.Judged.{knownBy, judged}
@@ -80,40 +81,40 @@ pub ruleset room-ways = (short-tokens, short-statements, short-labels, short-nam
 
 -- ---- `check`
 
-module _ (w : Width) (s t k y flags : List ℕ) (r : Judgement) (h : judged r t k y flags ≡ judgeOf w s) where
+module _ (w : Width) (hosts : Hosts) (s t k y flags : List ℕ) (r : Judgement) (h : judged r t k y flags ≡ judgeOf w hosts s) where
   module _ (p : Counts) (e : r ≡ judge.Fine p) where
-    is-fine : judgeOf w s ≡ fine (knownBy p t k y flags) (p .size)
+    is-fine : judgeOf w hosts s ≡ fine (knownBy p t k y flags) (p .size)
     is-fine = sym h ∙ ap (λ (j : Judgement). judged j t k y flags) e
 
-    answer-is : (b : Lent) → checkOf w s b ≡ answerTo w s (fine (knownBy p t k y flags) (p .size)) b
+    answer-is : (b : Lent) → checkOf w hosts s b ≡ answerTo w s (fine (knownBy p t k y flags) (p .size)) b
     unfolding checkOf
     answer-is b = ap (λ (j : Judged). answerTo w s j b) is-fine
 
     module _ (b : Lent) (v : Bool) (q : v ≡ hasRoom b (p .tokens) (p .statements) (p .labels) (p .size)) where
       pub check-accepts : (x y′ z u f : List ℕ) → v ≡ true → buffers x y′ z u f ≡ fillOf w s (sameNumber t) (knownBy p t k y flags) b
-          → filled (Accepted (p .tokens) (p .statements) (p .labels) (p .size)) x y′ z u f ≡ checkOf w s b
+          → filled (Accepted (p .tokens) (p .statements) (p .labels) (p .size)) x y′ z u f ≡ checkOf w hosts s b
       unfolding answerTo accept
       check-accepts x y′ z u f g d =
           ap (filledBy (Accepted (p .tokens) (p .statements) (p .labels) (p .size)))
-          (d ∙ ap (λ (same : ℕ → ℕ → Bool). fillOf w s same (knownBy p t k y flags) b) (fine-same w s (knownBy p t k y flags) (p .size) is-fine))
+          (d ∙ ap (λ (same : ℕ → ℕ → Bool). fillOf w s same (knownBy p t k y flags) b) (fine-same w hosts s (knownBy p t k y flags) (p .size) is-fine))
           ∙ sym (answer-is b ∙ ifTrue-yes _ _ (sym q ∙ g))
 
-      pub check-short : (x : Filled) → v ≡ false → x ≡ refuse 16 0 b → x ≡ checkOf w s b
+      pub check-short : (x : Filled) → v ≡ false → x ≡ refuse 16 0 b → x ≡ checkOf w hosts s b
       unfolding answerTo
       check-short x g d = d ∙ sym (answer-is b ∙ ifTrue-no _ _ (sym q ∙ g))
 
-  pub check-refuses : (number place : ℕ) (b : Lent) (x : Filled) → r ≡ judge.Refused number place → x ≡ refuse number place b → x ≡ checkOf w s b
+  pub check-refuses : (number place : ℕ) (b : Lent) (x : Filled) → r ≡ judge.Refused number place → x ≡ refuse number place b → x ≡ checkOf w hosts s b
   unfolding checkOf answerTo
   check-refuses number place b x e d =
       d ∙ ap (λ (j : Judged). answerTo w s j b) (ap (λ (j : Judgement). judged j t k y flags) (sym e) ∙ h)
 
 -- what filling asks
-pub check-room : (p : Counts) (a b c d f : ℕ) (r : Judgement) (v : Bool) (w : Width) (s t k y flags : List ℕ) → r ≡ judge.Fine p
-    → v ≡ hasRoom (lent a b c d f) (p .tokens) (p .statements) (p .labels) (p .size) → v ≡ true → judged r t k y flags ≡ judgeOf w s
+pub check-room : (p : Counts) (a b c d f : ℕ) (r : Judgement) (v : Bool) (w : Width) (hosts : Hosts) (s t k y flags : List ℕ) → r ≡ judge.Fine p
+    → v ≡ hasRoom (lent a b c d f) (p .tokens) (p .statements) (p .labels) (p .size) → v ≡ true → judged r t k y flags ≡ judgeOf w hosts s
     → Room a b c d (p .tokens) (p .statements) (p .labels)
-check-room p a b c d f r v w s t k y flags e q g h =
+check-room p a b c d f r v w hosts s t k y flags e q g h =
     let o : hasRoom (lent a b c d f) (p .tokens) (p .statements) (p .labels) (p .size) ≡ true = sym q ∙ g in
-    let few = fine-few w s (knownBy p t k y flags) (p .size) (is-fine w s t k y flags r h p e) in
+    let few = fine-few w hosts s (knownBy p t k y flags) (p .size) (is-fine w hosts s t k y flags r h p e) in
     record {
       few-tokens = few .0;
       few-statements = few .1;

@@ -8,6 +8,7 @@ use Rattle.base_prelude.specs.Choice.{ifLt, ifTrue}
 use Rattle.base_limits.specs.declared.Width.{Width}
 use Rattle.base_limits.specs.Limits.{nameBytes, tokenRow}
 use Rattle.prog_tables.specs.Layout.{statementRow, labelRow}
+use Rattle.prog_tables.specs.Hosts.{Hosts}
 use Rattle.res_text.specs.Same.{sameText}
 use Rattle.check_judge.specs.Judge.{Known, Judged, refusal, fine, judgeOf}
 pub use Rattle.check_fill.specs.Fill.{Lent, lent}
@@ -52,6 +53,6 @@ unfoldable pub answerTo : Width → List ℕ → Judged → Lent → Filled
 answerTo w s (refusal number place) b = refuse number place b
 answerTo w s (fine p size) b = ifTrue (hasRoom b (p .n) (p .c) (p .l) size) (accept w s p size b) (refuse 16 0 b)
 
--- the source s, and the lengths of the lent buffers
-unfoldable pub checkOf : Width → List ℕ → Lent → Filled
-checkOf w s b = answerTo w s (judgeOf w s) b
+-- the source s, against the host's list h, and the lengths of the lent buffers
+unfoldable pub checkOf : Width → Hosts → List ℕ → Lent → Filled
+checkOf w h s b = answerTo w s (judgeOf w h s) b

@@ -7,6 +7,7 @@ use parse_outline::Outline;
 use prog_tables::Table;
 ghost use mathlib.Core.Path.{_≡_};
 ghost use lib.ListN.{length};
+ghost use Rattle.res_hosts.specs.Marks.{hostList};
 ghost use Rattle.check_fill.specs.Fill.{lent};
 ghost use Rattle.check_source.specs.Check.{filled, refuse, hasRoom, checkOf};
 
@@ -71,23 +72,26 @@ fn refuse_all(
     }
 }
 
-// Checks a source into a token table, a statement table, a label table with the names beside it, and a data buffer, of any lengths.
+// Checks a source against the host's list, two words and 64 bytes of name an entry, into a token table, a statement table, a label table with
+// the names beside it, and a data buffer. All are of any lengths.
 pub fn check(
     w: Width,
     s: &[u8],
+    hosts: &[u32],
+    host_names: &[u8],
     tokens: &mut [u32],
     statements: &mut [u32],
     labels: &mut [u32],
     names: &mut [u8],
     bytes: &mut [u8],
 ) -> Checked
-    ensures { λ r. ⌜ filled r (now (tokens .exit)) (now (statements .exit)) (now (labels .exit)) (now (names .exit)) (now (bytes .exit)) ≡ checkOf w (now (s .entry)) (lent (length (now (tokens .entry))) (length (now (statements .entry))) (length (now (labels .entry))) (length (now (names .entry))) (length (now (bytes .entry)))) ⌝ }
+    ensures { λ r. ⌜ filled r (now (tokens .exit)) (now (statements .exit)) (now (labels .exit)) (now (names .exit)) (now (bytes .exit)) ≡ checkOf w (hostList (now (hosts .entry)) (now («host_names» .entry))) (now (s .entry)) (lent (length (now (tokens .entry))) (length (now (statements .entry))) (length (now (labels .entry))) (length (now (names .entry))) (length (now (bytes .entry)))) ⌝ }
 {
     let mut t = [0u32; Machine::TOKEN_WORDS];
     let mut k = [0u32; Table::STATEMENT_WORDS];
     let mut y = [0u32; Outline::LABEL_WORDS];
     let mut flags = [0u32; Machine::LABELS];
-    match check_judge::judge(w, s, &mut t, &mut k, &mut y, &mut flags) {
+    match check_judge::judge(w, s, hosts, host_names, &mut t, &mut k, &mut y, &mut flags) {
         Judgement::Fine(p) => {
             if has_room(p, tokens, statements, labels, names, bytes) {
                 check_fill::fill(

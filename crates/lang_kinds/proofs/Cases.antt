@@ -14,9 +14,9 @@ unfolding standsIn
 stands-statement k r e h q = rw (← q) (search tests)
 
 pub stands-refused : (k : ℕ) (r : Range) → (k ≡ 0 → ⊥) → 25 ≤ k → 27 ≤ k → (k ≡ 27 → ⊥) → (k ≡ 28 → ⊥) → 32 ≤ k → (k ≡ 32 → ⊥) → (k ≡ 33 → ⊥)
-    → r ≡ refusedIn k → r ≡ standsIn k
+    → (k ≡ 36 → ⊥) → r ≡ refusedIn k → r ≡ standsIn k
 unfolding standsIn
-stands-refused k r a b c d e f g h q = rw (← q) (search tests depth 16)
+stands-refused k r a b c d e f g h m q = rw (← q) (search tests depth 16)
 
 pub kind-none : (w : ℕ) → 33 ≤ w → 35 ≡ kindOfWord w
 unfolding kindOfWord

@@ -24,7 +24,7 @@ inRange g r = ifLt g (r .lo) false (ifLt g (r .hi) true false)
 kindsAgree : ℕ → ℕ → Bool
 kindsAgree k g = agree (standsOn g k) (inRange g (standsIn k))
 
-all-agree : T (under (λ k. under (kindsAgree k) 8) 36)
+all-agree : T (under (λ k. under (kindsAgree k) 8) 37)
 unfolding kindsAgree standsOn isAmong groundNumbered linesOn standsIn statementIn refusedIn ifLt ifEq
 all-agree = tt
 
@@ -35,7 +35,7 @@ no-ground g h =
     ifEq-no _ _ (λ e. omega arith) ∙ ifEq-no _ _ (λ e. omega arith) ∙ ifEq-no _ _ (λ e. omega arith) ∙ ifEq-no _ _ (λ e. omega arith)
     ∙ ifEq-no _ _ (λ e. omega arith) ∙ ifEq-no _ _ (λ e. omega arith) ∙ ifEq-no _ _ (λ e. omega arith) ∙ ifEq-no _ _ (λ e. omega arith)
 
-lines-low : (g : Ground) → T (low 36 (linesOn g))
+lines-low : (g : Ground) → T (low 37 (linesOn g))
 unfolding linesOn
 lines-low BeforeSections = tt
 lines-low FunctionsSection = tt
@@ -54,23 +54,23 @@ true-is false t = absurd t
 hiFits : ℕ → Bool
 hiFits k = ltb (standsIn k .hi) 9
 
-hi-fit : T (under hiFits 36)
+hi-fit : T (under hiFits 37)
 unfolding hiFits standsIn statementIn refusedIn ifLt ifEq
 hi-fit = tt
 
-low-high : (g k : ℕ) → 8 ≤ g → k < 36 → inRange g (standsIn k) ≡ false
+low-high : (g k : ℕ) → 8 ≤ g → k < 37 → inRange g (standsIn k) ≡ false
 unfolding hiFits
 low-high g k h l =
-    let z : standsIn k .hi < 9 = ltb-true _ 9 (true-is (ltb (standsIn k .hi) 9) (under-at hiFits 36 k hi-fit l)) in
+    let z : standsIn k .hi < 9 = ltb-true _ 9 (true-is (ltb (standsIn k .hi) 9) (under-at hiFits 37 k hi-fit l)) in
     either (λ (b : Bool). b ≡ false) g (standsIn k .lo) _ _ (λ _. refl) (λ _. ifLt-no true false (omega arith))
 
-past-kinds : (g k : ℕ) → 36 ≤ k → inRange g (standsIn k) ≡ false
+past-kinds : (g k : ℕ) → 37 ≤ k → inRange g (standsIn k) ≡ false
 unfolding standsIn refusedIn
 past-kinds g k h =
     ap (inRange g)
     (ifEq-no _ _ (λ e. omega arith) ∙ ifLt-no _ _ (omega arith) ∙ ifLt-no _ _ (omega arith) ∙ ifEq-no _ _ (λ e. omega arith)
     ∙ ifEq-no _ _ (λ e. omega arith) ∙ ifLt-no _ _ (omega arith) ∙ ifEq-no _ _ (λ e. omega arith) ∙ ifEq-no _ _ (λ e. omega arith)
-    ∙ ifEq-no _ _ (λ e. omega arith) ∙ ifEq-no _ _ (λ e. omega arith))
+    ∙ ifEq-no _ _ (λ e. omega arith) ∙ ifEq-no _ _ (λ e. omega arith) ∙ ifEq-no _ _ (λ e. omega arith))
     ∙ empty g
   where
     empty : (g : ℕ) → inRange g (record { lo = 0; hi = 0 }) ≡ false
@@ -84,13 +84,13 @@ past-ground g k h = ap (λ (x : Ground). isAmong k (linesOn x)) (no-ground g h)
 pub ranges-say : (g k : ℕ) → standsOn g k ≡ inRange g (standsIn k)
 unfolding standsOn kindsAgree
 ranges-say g k =
-    elim (decLt k 36) [
+    elim (decLt k 37) [
       | yes l ↦ elim (decLt g 8) [
         | yes h ↦ agree-is (isAmong k (linesOn (groundNumbered g))) (inRange g (standsIn k))
-            (under-at (kindsAgree k) 8 g (under-at (λ j. under (kindsAgree j) 8) 36 k all-agree l) h)
+            (under-at (kindsAgree k) 8 g (under-at (λ j. under (kindsAgree j) 8) 37 k all-agree l) h)
         | no h ↦ past-ground g k (omega arith) ∙ sym (low-high g k (omega arith) l)
       ]
-      | no l ↦ among-past 36 k (linesOn (groundNumbered g)) (lines-low (groundNumbered g)) (omega arith) ∙ sym (past-kinds g k (omega arith))
+      | no l ↦ among-past 37 k (linesOn (groundNumbered g)) (lines-low (groundNumbered g)) (omega arith) ∙ sym (past-kinds g k (omega arith))
     ]
 
 -- the two directions

@@ -118,6 +118,10 @@ leftOut = 34
 abbrev pub unknown : ℕ
 unknown = 35
 
+-- an `import`; only between functions is it taken, else it is left out
+abbrev pub importLine : ℕ
+importLine = 36
+
 -- all of them, as `all_kinds` gives them
 unfoldable pub kindsOf : Kinds
 kindsOf =
@@ -157,4 +161,5 @@ kindsOf =
       «end_group» = endGroup;
       «left_out» = leftOut;
       unknown = unknown;
+      «import_line» = importLine;
     }

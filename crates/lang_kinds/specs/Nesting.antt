@@ -50,7 +50,8 @@ standsIn k =
     (ifLt k kind.group (span ground.dataSection ground.group)
     (ifEq k kind.group (only ground.dataSection)
     (ifEq k kind.endGroup (only ground.group)
-    (refusedIn k))))))))
+    (ifEq k kind.importLine (only ground.functionsSection)
+    (refusedIn k)))))))))
 
 -- "Statements are `function` to `end function`. An `else if..` line is two statements"
 unfoldable pub rowsOf : ℕ → ℕ
@@ -85,7 +86,7 @@ abbrev pub wordKinds : List ℕ
 wordKinds =
     kind.unknown ∷
     kind.unknown ∷
-    kind.leftOut ∷
+    kind.importLine ∷
     kind.export ∷
     kind.align ∷
     kind.byte ∷

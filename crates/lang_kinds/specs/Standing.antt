@@ -63,8 +63,8 @@ refusedElse = kind.leftOut ∷ kind.unknown ∷ []
 unfoldable pub linesOn : Ground → List ℕ
 -- "Before the first `section` only blank lines and comments stand."
 linesOn BeforeSections = nothingOpen ++ refusedElse
--- "functions in functions"; `align` "does nothing between functions"
-linesOn FunctionsSection = kind.function ∷ kind.align ∷ kind.export ∷ nothingOpen ++ refusedElse
+-- "functions in functions"; `align` "does nothing between functions"; "`import` between functions is taken"
+linesOn FunctionsSection = kind.function ∷ kind.align ∷ kind.export ∷ kind.importLine ∷ nothingOpen ++ refusedElse
 linesOn DataSection = kind.group ∷ dataLines ++ kind.export ∷ nothingOpen ++ refusedElse
 -- "groups do not nest"
 linesOn Group = kind.endGroup ∷ dataLines ++ refusedElse

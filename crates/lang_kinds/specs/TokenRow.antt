@@ -34,6 +34,10 @@ hash = 6
 abbrev pub statement : ℕ
 statement = 7
 
+-- in the check's scratch, where no statement is known yet: of an import's name the mark of the host's entry, 0 for none
+abbrev pub host : ℕ
+host = 7
+
 -- all of them, as `all_token_words` gives them
 unfoldable pub tokenRowOf : TokenRows
 tokenRowOf =
@@ -46,4 +50,5 @@ tokenRowOf =
       word = word;
       hash = hash;
       statement = statement;
+      host = host;
     }

@@ -85,6 +85,8 @@ impl Kind {
     pub const LEFT_OUT: u32 = 34;
 
     pub const UNKNOWN: u32 = 35;
+
+    pub const IMPORT_LINE: u32 = 36;
 }
 
 // Every constant of Kind.
@@ -124,6 +126,7 @@ pub struct Kinds {
     pub end_group: u32,
     pub left_out: u32,
     pub unknown: u32,
+    pub import_line: u32,
 }
 
 // The constants of Kind are the numbers of specs/Kinds.
@@ -166,6 +169,7 @@ pub fn all_kinds() -> Kinds
         end_group: Kind::END_GROUP,
         left_out: Kind::LEFT_OUT,
         unknown: Kind::UNKNOWN,
+        import_line: Kind::IMPORT_LINE,
     }
 }
 
@@ -302,6 +306,8 @@ impl TokenRow {
     pub const HASH: usize = 6;
 
     pub const STATEMENT: usize = 7;
+
+    pub const HOST: usize = 7;
 }
 
 // Every constant of TokenRow.
@@ -314,6 +320,7 @@ pub struct TokenRows {
     pub word: usize,
     pub hash: usize,
     pub statement: usize,
+    pub host: usize,
 }
 
 // The constants of TokenRow are the numbers of specs/TokenRow.
@@ -329,6 +336,7 @@ pub fn all_token_words() -> TokenRows
         word: TokenRow::WORD,
         hash: TokenRow::HASH,
         statement: TokenRow::STATEMENT,
+        host: TokenRow::HOST,
     }
 }
 
@@ -394,6 +402,9 @@ pub fn stands_in(k: u32) -> Range
     }
     if k == Kind::END_GROUP {
         return between(Ground::GROUP, Ground::IN_FUNCTION);
+    }
+    if k == Kind::IMPORT_LINE {
+        return between(Ground::FUNCTIONS_SECTION, Ground::DATA_SECTION);
     }
     refused_range(k)
 }
@@ -503,7 +514,7 @@ pub fn is_frame(k: u32) -> bool
 const WORD_KINDS: [u32; 33] = [
     Kind::UNKNOWN,
     Kind::UNKNOWN,
-    Kind::LEFT_OUT,
+    Kind::IMPORT_LINE,
     Kind::EXPORT,
     Kind::ALIGN,
     Kind::BYTE,

@@ -25,6 +25,10 @@ valueAt t i = tokenWord t i field.value
 abbrev pub wordAt : List ℕ → ℕ → ℕ
 wordAt t i = tokenWord t i field.word
 
+-- of an import's name the mark of the host's entry, 0 where the host does not list it
+abbrev pub hostAt : List ℕ → ℕ → ℕ
+hostAt t i = tokenWord t i field.host
+
 -- a token's place; the source's length n at its end
 unfoldable pub placeAt : List ℕ → ℕ → ℕ → ℕ
 placeAt t n i = ifEq (kindAt t i) token.sourceEnd n (tokenWord t i field.first)

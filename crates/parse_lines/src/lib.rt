@@ -48,6 +48,13 @@ pub fn word_at(t: &[u32], i: u32) -> u32
     token_word(t, i, TokenRow::WORD)
 }
 
+// The host's mark of an import's name, 0 for none.
+pub fn host_at(t: &[u32], i: u32) -> u32
+    ensures { λ r. ⌜ r ≡ tokenWord (now (t .entry)) i field.host ⌝ }
+{
+    token_word(t, i, TokenRow::HOST)
+}
+
 // A token's place; the source's length n at its end.
 pub fn place_at(t: &[u32], n: u32, i: u32) -> u32
     ensures { λ r. ⌜ r ≡ placeAt (now (t .entry)) n i ⌝ }

@@ -13,7 +13,8 @@ use Rattle.base_prelude.specs.Choice.{ifLt, ifEq}
 use Rattle.base_prelude.proofs.Choice.{tests, either, either-eq, ifLt-yes, ifLt-no}
 use Rattle.parse_lines.specs.Tokens.{tokenWord}
 use Rattle.parse_lines.specs.declared.Span.{Span}
-use Rattle.parse_outline.specs.Labels.{labelKind, labelNumber, putLabel, Marked, marked, markToken, markFrom, markUnit}
+use Rattle.parse_units.specs.Places.{importLabels}
+use Rattle.parse_outline.specs.Labels.{labelKind, labelNumber, putLabel, Marked, marked, markToken, markFrom, markBefore, markImport, markUnit}
 use Rattle.parse_outline.specs.declared.Marks.{Marks}
 
 pub label-put : (x : List ℕ) (c token kind number : ℕ) → length x ≡ 1024 → c < 256
@@ -103,7 +104,45 @@ from-kept (suc left) t i kind number m l =
     let r = from-kept left t (i + 1) kind number (markToken t i kind number m) (k .0) in
     (r .0, omega (arith, r .1, k .1))
 
-pub unit-kept : (t : List ℕ) (u : Span) (k : ℕ) (s : Marks) (x : List ℕ) → length x ≡ 1024
-    → (length (markUnit t u k s x .table) ≡ 1024) × (markUnit t u k s x .count ≤ s .labels + (u .word - u .first))
+pub before-kept : (t : List ℕ) (u : Span) (k : ℕ) (s : Marks) (x : List ℕ) → length x ≡ 1024
+    → (length (markBefore t u k s x .table) ≡ 1024) × (markBefore t u k s x .count ≤ s .labels + (u .word - u .first))
+unfolding markBefore
+before-kept t u k s x l = from-kept (u .word - u .first) t (u .first) _ _ (marked (s .labels) x) l
+
+-- the label that an import is
+module _ (t : List ℕ) (u : Span) (k c : ℕ) (x : List ℕ) (j : ℕ) (p : j ≡ importLabels t u k) where
+  pub import-none : j ≡ 0 → marked c x ≡ markImport t u k (marked c x)
+  unfolding markImport
+  import-none e = rw (← p) (search tests)
+
+  pub import-label : (m : ℕ) (x′ : List ℕ) → (j ≡ 0 → ⊥) → m ≡ tokenWord t (u .word + 1) 7 → x′ ≡ putLabel x c (u .word + 1) 6 m
+      → marked (c + 1) x′ ≡ markImport t u k (marked c x)
+  unfolding markImport
+  import-label m x′ e q f = rw (← p, ← q, ← f) (search tests)
+
+pub ruleset importing = (import-none, import-label)
+
+pub import-kept : (t : List ℕ) (u : Span) (k : ℕ) (m : Marked) → length (m .table) ≡ 1024
+    → (length (markImport t u k m .table) ≡ 1024) × (markImport t u k m .count ≤ m .count + 1)
+unfolding markImport
+import-kept t u k m l =
+    either-eq (λ (y : Marked). (length (y .table) ≡ 1024) × (y .count ≤ m .count + 1)) _ 0 _ _ (λ _. (l, omega arith))
+    (λ _. (length-label (m .table) (m .count) (u .word + 1) 6 _ l, omega arith))
+
+-- so many labels may stand before an import
+pub import-fits : (t : List ℕ) (u : Span) (k c : ℕ) (s : Marks) (x x′ : List ℕ) → length x ≡ 1024 → u .word ≤ 4097 → s .labels ≤ 4097
+    → marked c x′ ≡ markBefore t u k s x → c < 4294967295
+import-fits t u k c s x x′ l h g e = omega (arith, before-kept t u k s x l .1, ap (λ (m : Marked). m .count) e)
+
+pub unit-is : (t : List ℕ) (u : Span) (k c r : ℕ) (s : Marks) (x x′ x″ : List ℕ) → marked c x′ ≡ markBefore t u k s x → marked r x″ ≡ markImport t u k (marked c x′)
+    → marked r x″ ≡ markUnit t u k s x
 unfolding markUnit
-unit-kept t u k s x l = from-kept (u .word - u .first) t (u .first) _ _ (marked (s .labels) x) l
+unit-is t u k c r s x x′ x″ e q = q ∙ ap (markImport t u k) e
+
+pub unit-kept : (t : List ℕ) (u : Span) (k : ℕ) (s : Marks) (x : List ℕ) → length x ≡ 1024
+    → (length (markUnit t u k s x .table) ≡ 1024) × (markUnit t u k s x .count ≤ s .labels + (u .word - u .first) + 1)
+unfolding markUnit
+unit-kept t u k s x l =
+    let b = before-kept t u k s x l in
+    let i = import-kept t u k (markBefore t u k s x) (b .0) in
+    (i .0, omega (arith, b .1, i .1))

@@ -1,4 +1,5 @@
--- Label rows: four words for each label, in source order: its token, its kind, what it names, 0.
+-- Label rows: four words for each label, in source order: its token, its kind, what it names, 0. An imported name is a label too, at its
+-- token; what it names is the mark of the host's entry.
 -- Assumes nothing.
 use Prim.Native.Nat.{ℕ, zero, suc, _+_, _-_, _*_}
 use mathlib.Core.List.{List, [], _∷_, _++_}
@@ -10,12 +11,13 @@ use Rattle.base_limits.specs.Limits as limits
 use Rattle.lang_kinds.specs.Kinds as kind
 use Rattle.lang_kinds.specs.Grounds as ground
 use Rattle.lang_kinds.specs.Tokens as token
-use Rattle.prog_tables.specs.Layout.{labelRow, labelWords, dataLabel, functionLabel, placeLabel}
+use Rattle.prog_tables.specs.Layout.{labelRow, labelWords, dataLabel, functionLabel, placeLabel, importLabel}
 use Rattle.lang_kinds.specs.Nesting.{rowsOf}
-use Rattle.parse_lines.specs.Tokens.{kindAt}
+use Rattle.parse_lines.specs.Tokens.{kindAt, hostAt}
 use Rattle.parse_lines.specs.Units.{unitAt}
 use Rattle.parse_lines.specs.Lines.{lineKind}
 use Rattle.parse_lines.specs.declared.Span.{Span}
+use Rattle.parse_units.specs.Places.{importLabels}
 use Rattle.parse_units.specs.Parse.{sectionBehind}
 use Rattle.parse_outline.specs.declared.Marks.{Marks}
 use Rattle.parse_outline.specs.declared.Going.{Going}
@@ -50,10 +52,19 @@ unfoldable pub markFrom : ℕ → List ℕ → ℕ → ℕ → ℕ → Marked �
 markFrom zero t i kind number m = m
 markFrom (suc left) t i kind number m = markFrom left t (i + 1) kind number (markToken t i kind number m)
 
+-- the labels before a line
+unfoldable pub markBefore : List ℕ → Span → ℕ → Marks → List ℕ → Marked
+markBefore t u k s x =
+    markFrom (u .word - u .first) t (u .first) (labelKind k (s .section)) (labelNumber (s .section) (u .word) (s .row)) (marked (s .labels) x)
+
+-- the label that an import of a listed name is
+unfoldable pub markImport : List ℕ → Span → ℕ → Marked → Marked
+markImport t u k m =
+    ifEq (importLabels t u k) 0 m (marked (m .count + 1) (putLabel (m .table) (m .count) (u .word + 1) importLabel (hostAt t (u .word + 1))))
+
 -- the labels of a unit
 unfoldable pub markUnit : List ℕ → Span → ℕ → Marks → List ℕ → Marked
-markUnit t u k s x =
-    markFrom (u .word - u .first) t (u .first) (labelKind k (s .section)) (labelNumber (s .section) (u .word) (s .row)) (marked (s .labels) x)
+markUnit t u k s x = markImport t u k (markBefore t u k s x)
 
 pub record Marking : Type 0 where
   pub state : Marks

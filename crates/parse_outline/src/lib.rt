@@ -15,7 +15,7 @@ ghost use lib.ListN.{length};
 ghost use Rattle.prog_tables.specs.Layout.{labelWords};
 ghost use Rattle.parse_units.specs.Outline.{outlineWords};
 ghost use Rattle.parse_units.specs.Parse.{result, parseOf};
-ghost use Rattle.parse_outline.specs.Labels.{labelKind, labelNumber, putLabel, marked, markToken, markFrom, markUnit, marking, marksBehind, markStep, marksFrom, labelRows, firstMarks, going};
+ghost use Rattle.parse_outline.specs.Labels.{labelKind, labelNumber, putLabel, marked, markToken, markFrom, markBefore, markImport, markUnit, marking, marksBehind, markStep, marksFrom, labelRows, firstMarks, going};
 ghost use Rattle.parse_outline.specs.Fits.{MarksFit};
 ghost use Rattle.parse_outline.specs.Outline.{answerOf, parsed, outlineOf};
 
@@ -121,13 +121,35 @@ fn mark_from(
     c
 }
 
-fn mark_unit(t: &[u32], x: &mut [u32], u: Span, k: u32, s: Marks) -> u32
+// The labels before a line.
+fn mark_before(t: &[u32], x: &mut [u32], u: Span, k: u32, s: Marks) -> u32
     requires { ⌜ (length (now x) ≡ labelWords) × (u .word ≤ limits.tokens + 1) × (s .labels ≤ limits.tokens + 1) ⌝ }
-    ensures { λ r. ⌜ marked r (now (x .exit)) ≡ markUnit (now (t .entry)) u k s (now (x .entry)) ⌝ }
+    ensures { λ r. ⌜ marked r (now (x .exit)) ≡ markBefore (now (t .entry)) u k s (now (x .entry)) ⌝ }
 {
     let kind = label_kind(k, s.section);
     let number = label_number(s.section, u.word, s.row);
     mark_from(t, x, u.first, u.word, kind, number, s.labels)
+}
+
+// The label that an import of a listed name is.
+fn mark_import(t: &[u32], x: &mut [u32], u: Span, k: u32, c: u32) -> u32
+    requires { ⌜ (length (now x) ≡ labelWords) × (u .word ≤ limits.tokens + 1) × (c < limits.greatestWord) ⌝ }
+    ensures { λ r. ⌜ marked r (now (x .exit)) ≡ markImport (now (t .entry)) u k (marked c (now (x .entry))) ⌝ }
+{
+    if parse_units::import_labels(t, u, k) == 0 {
+        return c;
+    }
+    let mark = parse_lines::host_at(t, u.word + 1);
+    put_label(x, c, u.word + 1, LabelKind::IMPORT, mark);
+    c + 1
+}
+
+fn mark_unit(t: &[u32], x: &mut [u32], u: Span, k: u32, s: Marks) -> u32
+    requires { ⌜ (length (now x) ≡ labelWords) × (u .word ≤ limits.tokens + 1) × (s .labels ≤ limits.tokens + 1) ⌝ }
+    ensures { λ r. ⌜ marked r (now (x .exit)) ≡ markUnit (now (t .entry)) u k s (now (x .entry)) ⌝ }
+{
+    let c = mark_before(t, x, u, k, s);
+    mark_import(t, x, u, k, c)
 }
 
 fn marks_behind(u: Span, k: u32, s: Marks, labels: u32) -> Marks

@@ -29,21 +29,21 @@ module _ (t : List ℕ) (u : Span) where
   abbrev Says : ℕ → Type 0
   Says k = ownWord t u k ≡ ownRange t u k
 
-  each-says : Each Says 36
+  each-says : Each Says 37
   unfolding ownWord ownIn shapeOf shapeIn shapes ifLt ifEq
-  each-says = ((((((((((((((((((((((((((((((((((((tt, refl), refl), refl), refl), refl), refl), refl), refl), refl), refl), refl), refl), refl), refl), refl), refl), refl), refl), refl), refl), refl), refl), refl), refl), refl), refl), refl), refl), refl), refl), refl), refl), refl), refl), refl), refl)
+  each-says = (((((((((((((((((((((((((((((((((((((tt, refl), refl), refl), refl), refl), refl), refl), refl), refl), refl), refl), refl), refl), refl), refl), refl), refl), refl), refl), refl), refl), refl), refl), refl), refl), refl), refl), refl), refl), refl), refl), refl), refl), refl), refl), refl), refl)
 
-  past-own : (k : ℕ) → 36 ≤ k → ownRange t u k ≡ 0
+  past-own : (k : ℕ) → 37 ≤ k → ownRange t u k ≡ 0
   past-own k h =
       ifEq-no _ _ (λ e. omega arith) ∙ ifEq-no _ _ (λ e. omega arith) ∙ ifEq-no _ _ (λ e. omega arith) ∙ ifEq-no _ _ (λ e. omega arith)
       ∙ ifEq-no _ _ (λ e. omega arith) ∙ ifEq-no _ _ (λ e. omega arith) ∙ ifLt-no _ _ (omega arith) ∙ ifLt-no _ _ (omega arith)
 
-  past-says : (k : ℕ) → 36 ≤ k → Says k
+  past-says : (k : ℕ) → 37 ≤ k → Says k
   unfolding ownWord ownIn
   past-says k h = ap (ownIn t u) (past-shapes k h) ∙ sym (past-own k h)
 
   own-says : (k : ℕ) → ownWord t u k ≡ ownRange t u k
-  own-says k = elim (decLt k 36) [ yes l ↦ each-at Says 36 k each-says l | no l ↦ past-says k (omega arith) ]
+  own-says k = elim (decLt k 37) [ yes l ↦ each-at Says 37 k each-says l | no l ↦ past-says k (omega arith) ]
 
   pub own-by : (k r : ℕ) → r ≡ ownRange t u k → r ≡ ownWord t u k
   own-by k r e = e ∙ sym (own-says k)

@@ -219,7 +219,8 @@ fn reserved_label(t: &[u32], n: u32, i: u32) -> u64
     1099511627776
 }
 
-fn label_limit(t: &[u32], n: u32, i: u32, c: u32) -> u64
+// 14: the 257th label, c labels standing before the token.
+pub fn label_limit(t: &[u32], n: u32, i: u32, c: u32) -> u64
     ensures { λ r. ⌜ r ≡ labelLimit (now (t .entry)) n i c ⌝ }
 {
     if c < MOST_LABELS {

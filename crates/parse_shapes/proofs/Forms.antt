@@ -23,16 +23,16 @@ true-is false t = absurd t
 
 abbrev kindsLow : List Production → Bool
 kindsLow [] = true
-kindsLow (x ∷ xs) = and (ltb (x .kind) 36) (kindsLow xs)
+kindsLow (x ∷ xs) = and (ltb (x .kind) 37) (kindsLow xs)
 
-past-table : (xs : List Production) (k : ℕ) → T (kindsLow xs) → 36 ≤ k → shapeIn xs k ≡ NoShape
+past-table : (xs : List Production) (k : ℕ) → T (kindsLow xs) → 37 ≤ k → shapeIn xs k ≡ NoShape
 unfolding shapeIn
 past-table [] k t h = refl
 past-table (x ∷ xs) k t h =
-    let l : x .kind < 36 = ltb-true (x .kind) 36 (true-is (ltb (x .kind) 36) (and-left (ltb (x .kind) 36) (kindsLow xs) t)) in
-    ifEq-no _ _ (λ e. let z : ⊥ = omega arith in z) ∙ past-table xs k (and-right (ltb (x .kind) 36) (kindsLow xs) t) h
+    let l : x .kind < 37 = ltb-true (x .kind) 37 (true-is (ltb (x .kind) 37) (and-left (ltb (x .kind) 37) (kindsLow xs) t)) in
+    ifEq-no _ _ (λ e. let z : ⊥ = omega arith in z) ∙ past-table xs k (and-right (ltb (x .kind) 37) (kindsLow xs) t) h
 
-pub past-shapes : (k : ℕ) → 36 ≤ k → shapeOf k ≡ NoShape
+pub past-shapes : (k : ℕ) → 37 ≤ k → shapeOf k ≡ NoShape
 unfolding shapeOf shapes
 past-shapes k h = past-table shapes k tt h
 
@@ -42,22 +42,22 @@ module _ (t : List ℕ) (u : Span) where
   abbrev Says : ℕ → Type 0
   Says k = formFits t u k ≡ rangedForm t u k
 
-  each-says : Each Says 36
+  each-says : Each Says 37
   unfolding formFits isShaped shapeOf shapeIn shapes rangedForm statementFits laterFits otherFits ifLt ifEq
-  each-says = ((((((((((((((((((((((((((((((((((((tt, refl), refl), refl), refl), refl), refl), refl), refl), refl), refl), refl), refl), refl), refl), refl), refl), refl), refl), refl), refl), refl), refl), refl), refl), refl), refl), refl), refl), refl), refl), refl), refl), refl), refl), refl), refl)
+  each-says = (((((((((((((((((((((((((((((((((((((tt, refl), refl), refl), refl), refl), refl), refl), refl), refl), refl), refl), refl), refl), refl), refl), refl), refl), refl), refl), refl), refl), refl), refl), refl), refl), refl), refl), refl), refl), refl), refl), refl), refl), refl), refl), refl), refl)
 
-  past-form : (k : ℕ) → 36 ≤ k → rangedForm t u k ≡ false
+  past-form : (k : ℕ) → 37 ≤ k → rangedForm t u k ≡ false
   unfolding rangedForm otherFits
   past-form k h =
       ifLt-no _ _ (omega arith) ∙ ifEq-no _ _ (λ e. omega arith) ∙ ifEq-no _ _ (λ e. omega arith) ∙ ifEq-no _ _ (λ e. omega arith)
-      ∙ ifEq-no _ _ (λ e. omega arith) ∙ ifEq-no _ _ (λ e. omega arith) ∙ le-ltb k 34 (omega arith)
+      ∙ ifEq-no _ _ (λ e. omega arith) ∙ ifEq-no _ _ (λ e. omega arith) ∙ ifEq-no _ _ (λ e. omega arith) ∙ le-ltb k 34 (omega arith)
 
-  past-says : (k : ℕ) → 36 ≤ k → Says k
+  past-says : (k : ℕ) → 37 ≤ k → Says k
   unfolding formFits isShaped
   past-says k h = ap (isShaped t u) (past-shapes k h) ∙ sym (past-form k h)
 
   pub forms-say : (k : ℕ) → formFits t u k ≡ rangedForm t u k
-  forms-say k = elim (decLt k 36) [ yes l ↦ each-at Says 36 k each-says l | no l ↦ past-says k (omega arith) ]
+  forms-say k = elim (decLt k 37) [ yes l ↦ each-at Says 37 k each-says l | no l ↦ past-says k (omega arith) ]
 
   pub form-by : (k : ℕ) (r : Bool) → r ≡ rangedForm t u k → r ≡ formFits t u k
   form-by k r e = e ∙ sym (forms-say k)
@@ -70,19 +70,19 @@ listedRange k = ifEq k 1 true (ifLt k 5 false (ifLt k 8 true (ifLt k 11 false (i
 listsAgree : ℕ → Bool
 listsAgree k = agree (isListed k) (listedRange k)
 
-lists-agree : T (under listsAgree 36)
+lists-agree : T (under listsAgree 37)
 unfolding listsAgree isListed endsInList shapeOf shapeIn shapes ifLt ifEq
 lists-agree = tt
 
-past-list : (k : ℕ) → 36 ≤ k → listedRange k ≡ false
+past-list : (k : ℕ) → 37 ≤ k → listedRange k ≡ false
 past-list k h =
     ifEq-no _ _ (λ e. omega arith) ∙ ifLt-no _ _ (omega arith) ∙ ifLt-no _ _ (omega arith) ∙ ifLt-no _ _ (omega arith) ∙ ifLt-no _ _ (omega arith)
 
 pub listed-says : (k : ℕ) → isListed k ≡ listedRange k
 unfolding listsAgree isListed endsInList
 listed-says k =
-    elim (decLt k 36) [
-      | yes l ↦ agree-is (endsInList (shapeOf k)) (listedRange k) (under-at listsAgree 36 k lists-agree l)
+    elim (decLt k 37) [
+      | yes l ↦ agree-is (endsInList (shapeOf k)) (listedRange k) (under-at listsAgree 37 k lists-agree l)
       | no l ↦ ap endsInList (past-shapes k (omega arith)) ∙ sym (past-list k (omega arith))
     ]
 

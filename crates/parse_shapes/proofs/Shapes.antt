@@ -225,6 +225,10 @@ module _ (t : List ℕ) (u : Span) (k : ℕ) (r : Bool) where
   unfolding otherFits
   other-string e f g h i q = rw (← q) (search tests)
 
+  pub other-import : (k ≡ 27 → ⊥) → (k ≡ 28 → ⊥) → (k ≡ 29 → ⊥) → (k ≡ 30 → ⊥) → (k ≡ 31 → ⊥) → k ≡ 36 → r ≡ isName t (u .word + 1) → r ≡ otherFits t u k
+  unfolding otherFits
+  other-import e f g h i j q = rw (← q) (search tests depth 16)
+
   pub form-statement : k < 25 → r ≡ statementFits t u k → r ≡ formFits t u k
   unfolding rangedForm
   form-statement h q = form-by t u k r (q ∙ sym (ifLt-yes _ _ h))
@@ -242,15 +246,15 @@ module _ (t : List ℕ) (u : Span) (k : ℕ) where
   unfolding statementFits
   fits-bare e h = search tests
 
-  pub other-none : (k ≡ 27 → ⊥) → (k ≡ 28 → ⊥) → (k ≡ 29 → ⊥) → (k ≡ 30 → ⊥) → (k ≡ 31 → ⊥) → ltb k 34 ≡ otherFits t u k
+  pub other-none : (k ≡ 27 → ⊥) → (k ≡ 28 → ⊥) → (k ≡ 29 → ⊥) → (k ≡ 30 → ⊥) → (k ≡ 31 → ⊥) → (k ≡ 36 → ⊥) → ltb k 34 ≡ otherFits t u k
   unfolding otherFits
-  other-none e f g h i = search tests
+  other-none e f g h i j = search tests depth 16
 
 pub ruleset laters = (later-goto, later-call, later-return, later-test, later-else-if, later-none)
 
 pub ruleset statements = (fits-function, fits-bare, fits-let, fits-set-at, fits-store, fits-later)
 
-pub ruleset others = (other-export, other-align, other-byte, other-word, other-string, other-none)
+pub ruleset others = (other-export, other-align, other-byte, other-word, other-string, other-import, other-none)
 
 pub ruleset forms = (form-statement, form-other)
 

@@ -39,7 +39,8 @@ otherFits t u k =
     (ifEq k kind.byte (isInteger t (u .word + 1))
     (ifEq k kind.word (isInteger t (u .word + 1))
     (ifEq k kind.string (isString t (u .word + 1))
-    (ltb k kind.leftOut)))))
+    (ifEq k kind.importLine (isName t (u .word + 1))
+    (ltb k kind.leftOut))))))
 
 unfoldable pub rangedForm : List ℕ → Span → ℕ → Bool
 rangedForm t u k = ifLt k kind.sectionData (statementFits t u k) (otherFits t u k)

@@ -101,6 +101,7 @@ shapes =
     production kind.edge Bare ∷
     production kind.sectionData Bare ∷
     production kind.sectionFunctions Bare ∷
+    production kind.importLine Name ∷
     production kind.export Name ∷
     production kind.align OptionalInteger ∷
     production kind.byte Integer ∷

@@ -286,6 +286,9 @@ fn other_fits(t: &[u32], u: Span, k: u32) -> bool
     if k == Kind::STRING {
         return is_string(t, u.word + 1);
     }
+    if k == Kind::IMPORT_LINE {
+        return is_name(t, u.word + 1);
+    }
     k < Kind::LEFT_OUT
 }
 

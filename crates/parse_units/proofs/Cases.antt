@@ -15,13 +15,13 @@ use Rattle.lang_kinds.specs.Nesting.{standsIn, rowsOf, enters, leaves, groundOf
 use Rattle.lang_kinds.specs.declared.Range.{Range}
 use Rattle.lang_kinds.proofs.Standing.{range-stands, below-stands, past-stands}
 use Rattle.parse_lines.specs.Tokens.{tokenWord, keyAt}
-use Rattle.parse_shapes.specs.Shapes.{operandCount}
+use Rattle.parse_shapes.specs.Shapes.{isName, operandCount}
 use Rattle.parse_lines.specs.declared.Span.{Span}
 use Rattle.base_limits.specs.declared.Width.{Width}
-use Rattle.parse_rules.specs.Rules.{shapeRule, leftRule, tokensRule, listRule, labelsRule}
+use Rattle.parse_rules.specs.Rules.{shapeRule, leftRule, tokensRule, listRule, labelLimit, labelsRule}
 use Rattle.parse_rules.specs.declared.Labelled.{Labelled}
 use Rattle.parse_units.specs.Outline.{rowAt, wordsOf, putRow, rowIn, behind}
-use Rattle.parse_units.specs.Places.{groundIn, mayLabel, labelRule, placeRule, roomRule, localsRule, depthRule, lineFaults, limitFaults}
+use Rattle.parse_units.specs.Places.{groundIn, lineOn, mayLabel, labelRule, placeRule, importLabels, importRule, roomRule, localsRule, depthRule, lineFaults, limitFaults}
 use Rattle.parse_units.specs.Parse.{World, world, putState, putKind, growTwo, growBy, localsBehind, depthBehind, stateBehind, joinState, advance}
 use Rattle.parse_units.specs.declared.Row.{Row}
 use Rattle.parse_units.specs.declared.State.{State}
@@ -69,6 +69,21 @@ module _ (s : State) (o : Row) where
 
 pub ruleset grounds = (ground-section, ground-open)
 
+module _ (g k : ℕ) where
+  pub line-taken : k ≡ 36 → g ≡ 1 → k ≡ lineOn g k
+  unfolding lineOn
+  line-taken e f = search tests
+
+  pub line-left : k ≡ 36 → (g ≡ 1 → ⊥) → 34 ≡ lineOn g k
+  unfolding lineOn
+  line-left e f = search tests
+
+  pub line-other : (k ≡ 36 → ⊥) → k ≡ lineOn g k
+  unfolding lineOn
+  line-other e = search tests
+
+pub ruleset lining = (line-taken, line-left, line-other)
+
 module _ (t : List ℕ) (n : ℕ) (u : Span) where
   module _ (g k : ℕ) (p : k ≡ tokenWord t (u .first) 0) where
     pub label-none : (k ≡ 2 → ⊥) → none ≡ labelRule t n u g
@@ -104,6 +119,33 @@ module _ (t : List ℕ) (n : ℕ) (u : Span) where
     place-high r h i q = q ∙ sym (ifTrue-no _ _ (past-stands g k (omega (arith, low-is)) (omega (arith, high-is))))
 
   module _ (k : ℕ) where
+    pub import-other : (k ≡ 36 → ⊥) → 0 ≡ importLabels t u k
+    unfolding importLabels
+    import-other e = search tests
+
+    module _ (b : Bool) (e : k ≡ 36) (p : b ≡ isName t (u .word + 1)) where
+      pub import-nameless : b ≡ false → 0 ≡ importLabels t u k
+      unfolding importLabels
+      import-nameless f = rw (← p) (search tests)
+
+      module _ (m : ℕ) (f : b ≡ true) (q : m ≡ tokenWord t (u .word + 1) 7) where
+        pub import-unlisted : m ≡ 0 → 0 ≡ importLabels t u k
+        unfolding importLabels
+        import-unlisted h = rw (← p, ← q) (search tests)
+
+        pub import-listed : (m ≡ 0 → ⊥) → 1 ≡ importLabels t u k
+        unfolding importLabels
+        import-listed h = rw (← p, ← q) (search tests)
+
+    module _ (c j : ℕ) (p : j ≡ importLabels t u k) where
+      pub import-none : j ≡ 0 → none ≡ importRule t n u k c
+      unfolding importRule
+      import-none e = rw (← p) (search tests)
+
+      pub import-limit : (r : ℕ) → (j ≡ 0 → ⊥) → r ≡ labelLimit t n (u .word + 1) c → r ≡ importRule t n u k c
+      unfolding importRule
+      import-limit r e q = rw (← p, ← q) (search tests)
+
     pub room-full : (count a b r : ℕ) → a ≡ 1025 - count → b ≡ rowsOf k → a < b → r ≡ keyAt t n (u .word) 14 → r ≡ roomRule t n u k count
     unfolding roomRule
     room-full count a b r p q h f = rw (← p, ← q, ← f) (search tests)
@@ -137,6 +179,8 @@ module _ (t : List ℕ) (n : ℕ) (u : Span) where
     depth-none depth e = search tests
 
 pub ruleset labelling = (label-none, label-good, label-bad)
+
+pub ruleset importing = (import-other, import-nameless, import-unlisted, import-listed, import-none, import-limit)
 
 pub ruleset placing = (place-low, place-good, place-high)
 
@@ -192,12 +236,13 @@ put-few k token next operands s x rows rows′ h e =
     omega (arith, ap (λ (y : World). y .state .count) e ∙ count-put k token next operands (world s rows))
 
 module _ (w : Width) (t : List ℕ) (n : ℕ) (u : Span) (k g : ℕ) (s : State) where
-  pub line-least : (x : Labelled) (r lab d c sh b p a l : ℕ) → r ≡ min lab d → lab ≡ labelRule t n u g → d ≡ min (x .fault) c → x ≡ labelsRule t n u (s .labels)
-      → c ≡ min sh b → sh ≡ shapeRule w t n u k → b ≡ min p a → p ≡ placeRule t n u k g → a ≡ min l none → l ≡ leftRule t n u k
-      → r ≡ leastOf (lineFaults w t n u k g s)
+  pub line-least : (x : Labelled) (r lab d c sh b p a l i m : ℕ) → r ≡ min lab d → lab ≡ labelRule t n u g → d ≡ min (x .fault) c → x ≡ labelsRule t n u (s .labels)
+      → c ≡ min sh b → sh ≡ shapeRule w t n u k → b ≡ min p a → p ≡ placeRule t n u k g → a ≡ min l i → l ≡ leftRule t n u k
+      → i ≡ min m none → m ≡ importRule t n u k (x .count) → r ≡ leastOf (lineFaults w t n u k g s)
   unfolding leastOf lineFaults
-  line-least x r lab d c sh b p a l e1 e2 e3 e4 e5 e6 e7 e8 e9 e10 =
-      e1 ∙ ap₂ min e2 (e3 ∙ ap₂ min (ap (λ (y : Labelled). y .fault) e4) (e5 ∙ ap₂ min e6 (e7 ∙ ap₂ min e8 (e9 ∙ ap (λ (i : ℕ). min i none) e10))))
+  line-least x r lab d c sh b p a l i m e1 e2 e3 e4 e5 e6 e7 e8 e9 e10 e11 e12 =
+      e1 ∙ ap₂ min e2 (e3 ∙ ap₂ min (ap (λ (y : Labelled). y .fault) e4) (e5 ∙ ap₂ min e6 (e7 ∙ ap₂ min e8 (e9 ∙ ap₂ min e10
+      (e11 ∙ ap (λ (j : ℕ). min j none) (e12 ∙ ap (λ (y : Labelled). importRule t n u k (y .count)) e4))))))
 
 module _ (t : List ℕ) (n : ℕ) (u : Span) (k : ℕ) (s : State) where
   pub limit-least : (r room d loc c dep b tok a l : ℕ) → r ≡ min room d → room ≡ roomRule t n u k (s .count) → d ≡ min loc c → loc ≡ localsRule t n u k (s .locals)

@@ -19,7 +19,7 @@ use Rattle.parse_lines.specs.Lines.{lineKind}
 use Rattle.parse_lines.specs.declared.Span.{Span}
 use Rattle.parse_rules.specs.Rules.{labelsRule}
 use Rattle.parse_units.specs.Outline.{rowAt, putRow}
-use Rattle.parse_units.specs.Places.{groundIn, unitFault}
+use Rattle.parse_units.specs.Places.{groundIn, lineOn, importLabels, unitFault}
 use Rattle.parse_units.specs.Parse.{World, world, putState, putKind, growTwo, growBy, stateBehind, joinState, advance, Result, result, stepped, openRow, faultIn, unitStepOn, unitStep, begin, parseFrom, parseOf}
 use Rattle.parse_units.specs.Fits.{StepFits, UnitStepFits}
 use Rattle.parse_units.specs.declared.Row.{Row}
@@ -29,15 +29,16 @@ use Rattle.parse_units.specs.declared.UnitStep.the-variants.{More, Done}
 use Rattle.parse_units.specs.declared.Verdict.{Verdict}
 use Rattle.parse_units.specs.declared.Verdict.the-variants.{Accepted, Refused}
 use Rattle.parse_units.proofs.Cases.{row-put}
-use Rattle.parse_units.proofs.Bounds.{unit-order, unit-near, unit-next, line-some, labels-count, clean-room, clean-lets, clean-deep}
+use Rattle.parse_units.proofs.Bounds.{unit-order, unit-near, unit-next, line-some, labels-count, import-few, clean-room, clean-lets, clean-deep, clean-line, unit-clean}
 
-module _ (w : Width) (t : List ℕ) (n : ℕ) (s : State) (rows : List ℕ) (u : Span) (k g : ℕ) (o : Row) (f : ℕ)
-    (pu : u ≡ unitAt t (s .at)) (pk : k ≡ lineKind t (u .word)) (po : o ≡ rowAt rows (s .top)) (pg : g ≡ groundIn s o) (pf : f ≡ unitFault w t n u k g s) where
+module _ (w : Width) (t : List ℕ) (n : ℕ) (s : State) (rows : List ℕ) (u : Span) (k g j : ℕ) (o : Row) (f : ℕ)
+    (pu : u ≡ unitAt t (s .at)) (pk : k ≡ lineKind t (u .word)) (po : o ≡ rowAt rows (s .top)) (pg : g ≡ groundIn s o) (pj : j ≡ lineOn g k) (pf : f ≡ unitFault w t n u j g s) where
   fault-is : f ≡ faultIn w t n (unitAt t (s .at)) (world s rows)
   unfolding faultIn openRow
   fault-is =
-      pf ∙ ap (λ (i : ℕ). unitFault w t n u k i s) (pg ∙ ap (groundIn s) po) ∙ ap (λ (i : ℕ). unitFault w t n u i (groundIn s (rowAt rows (s .top))) s) pk
-      ∙ ap (λ (v : Span). unitFault w t n v (lineKind t (v .word)) (groundIn s (rowAt rows (s .top))) s) pu
+      pf ∙ ap (λ (i : ℕ). unitFault w t n u i g s) pj ∙ ap (λ (i : ℕ). unitFault w t n u (lineOn i k) i s) (pg ∙ ap (groundIn s) po)
+      ∙ ap (λ (i : ℕ). unitFault w t n u (lineOn (groundIn s (rowAt rows (s .top))) i) (groundIn s (rowAt rows (s .top))) s) pk
+      ∙ ap (λ (v : Span). unitFault w t n v (lineOn (groundIn s (rowAt rows (s .top))) (lineKind t (v .word))) (groundIn s (rowAt rows (s .top))) s) pu
 
   kind-is : k ≡ lineKind t (unitAt t (s .at) .word)
   kind-is = pk ∙ ap (λ (v : Span). lineKind t (v .word)) pu
@@ -61,7 +62,8 @@ module _ (w : Width) (t : List ℕ) (n : ℕ) (s : State) (rows : List ℕ) (u :
 
   pub unit-step-fits : UnitStepFits t rows s → none ≤ f → StepFits rows u k s
   unit-step-fits h c =
-      let c′ : none ≤ unitFault w t n u k g s = subst (λ (i : ℕ). none ≤ i) pf c in
+      let b : none ≤ unitFault w t n u (lineOn g k) g s = subst (λ (i : ℕ). none ≤ i) (pf ∙ ap (λ (i : ℕ). unitFault w t n u i g s) pj) c in
+      let c′ : none ≤ unitFault w t n u k g s = subst (λ (i : ℕ). none ≤ unitFault w t n u i g s) (clean-line w t n u k g s b) b in
       let r : rowsOf k ≤ 1025 - s .count = clean-room w t n u k g s c′ in
       record {
         long = h .long;
@@ -120,15 +122,17 @@ module _ (w : Width) (t : List ℕ) (n : ℕ) (s : State) (rows : List ℕ) (h :
 
   advance-good : none ≤ faultIn w t n (unitAt t (s .at)) (world s rows) → (lineKind t (unitAt t (s .at) .word) ≡ 0 → ⊥)
       → UnitStepGood t s (go (advance t n (unitAt t (s .at)) (lineKind t (unitAt t (s .at) .word)) (world s rows)))
-  unfolding faultIn advance joinState stateBehind
+  unfolding advance joinState stateBehind
   advance-good c e =
       let o = unit-order t (s .at) in
+      let c′ = unit-clean w t n (unitAt t (s .at)) (world s rows) c in
       let i : unitAt t (s .at) .word < 4096 = line-some t (unitAt t (s .at) .word) (h .tokens) e in
       let x : unitAt t (s .at) .next ≤ 4097 = unit-next t (s .at) (h .tokens) (omega arith) in
-      let r : rowsOf (lineKind t (unitAt t (s .at) .word)) ≤ 1025 - s .count = clean-room w t n (unitAt t (s .at)) (lineKind t (unitAt t (s .at) .word)) (groundIn s (openRow (world s rows))) s c in
+      let r : rowsOf (lineKind t (unitAt t (s .at) .word)) ≤ 1025 - s .count = clean-room w t n (unitAt t (s .at)) (lineKind t (unitAt t (s .at) .word)) (groundIn s (openRow (world s rows))) s c′ in
       let m : s .count + rowsOf (lineKind t (unitAt t (s .at) .word)) ≤ 1025 = omega (arith, h .free) in
       let g = grow-good (rowsOf (lineKind t (unitAt t (s .at) .word))) t (unitAt t (s .at)) (lineKind t (unitAt t (s .at) .word)) (world s rows) m (h .long) in
-      let b : labelsRule t n (unitAt t (s .at)) (s .labels) .count ≤ unitAt t (s .at) .next = omega (arith, labels-count t n (unitAt t (s .at)) (s .labels), o .0, o .1, o .2) in (
+      let b : labelsRule t n (unitAt t (s .at)) (s .labels) .count + importLabels t (unitAt t (s .at)) (lineKind t (unitAt t (s .at) .word)) ≤ unitAt t (s .at) .next =
+      omega (arith, labels-count t n (unitAt t (s .at)) (s .labels), import-few t (unitAt t (s .at)) (lineKind t (unitAt t (s .at) .word)), o .0, o .1, o .2) in (
         (record { tokens = h .tokens; long = g .0; near = x; few = omega arith; free = omega (arith, g .1) }, b),
         omega (arith, o .0, o .1, o .2),
       )

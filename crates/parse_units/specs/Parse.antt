@@ -18,7 +18,7 @@ use Rattle.parse_shapes.specs.Shapes.{operandCount}
 use Rattle.parse_lines.specs.declared.Span.{Span}
 use Rattle.parse_rules.specs.Rules.{labelsRule}
 use Rattle.parse_units.specs.Outline.{outlineWords, rowAt, putRow, rowIn, behind}
-use Rattle.parse_units.specs.Places.{groundIn, unitFault}
+use Rattle.parse_units.specs.Places.{groundIn, lineOn, importLabels, unitFault}
 use Rattle.parse_units.specs.declared.Row.{Row}
 use Rattle.parse_units.specs.declared.State.{State}
 use Rattle.parse_units.specs.declared.UnitStep.{UnitStep}
@@ -79,7 +79,7 @@ stateBehind t n u k o s =
       section = sectionBehind k (s .section);
       locals = localsBehind k (operandCount u) (o .before) (s .locals);
       depth = depthBehind k (s .depth);
-      labels = labelsRule t n u (s .labels) .count;
+      labels = labelsRule t n u (s .labels) .count + importLabels t u k;
     }
 
 -- rows are made in the state before the line, and only the open row and the count go on
@@ -110,7 +110,8 @@ unfoldable pub openRow : World → Row
 openRow x = rowAt (x .table) (x .state .top)
 
 unfoldable pub faultIn : Width → List ℕ → ℕ → Span → World → ℕ
-faultIn w t n u x = unitFault w t n u (lineKind t (u .word)) (groundIn (x .state) (openRow x)) (x .state)
+faultIn w t n u x =
+    unitFault w t n u (lineOn (groundIn (x .state) (openRow x)) (lineKind t (u .word))) (groundIn (x .state) (openRow x)) (x .state)
 
 -- the unit at the state's token: refused, the end, or on to the next
 unfoldable pub unitStepOn : Width → List ℕ → ℕ → Span → World → Step World Result

@@ -9,13 +9,15 @@ use Rattle.base_prelude.specs.Lists.{isAmong}
 use Rattle.base_limits.specs.declared.Width.{Width}
 use Rattle.base_limits.specs.Limits as limits
 use Rattle.lang_kinds.specs.Kinds as kind
+use Rattle.lang_kinds.specs.Grounds as ground
 use Rattle.lang_kinds.specs.Tokens as token
 use Rattle.lang_words.specs.Numbers as word
 use Rattle.lang_kinds.specs.Nesting.{rowsOf, groundOf}
 use Rattle.lang_kinds.specs.Standing.{Ground, BeforeSections, FunctionsSection, DataSection, Group, InFunction, InBlock, InTestArm, InElseArm, NoGround, groundNumbered, standsOn}
-use Rattle.parse_lines.specs.Tokens.{kindAt, wordAt, keyAt}
+use Rattle.parse_lines.specs.Tokens.{kindAt, wordAt, hostAt, keyAt}
 use Rattle.parse_lines.specs.declared.Span.{Span}
-use Rattle.parse_rules.specs.Rules.{shapeRule, leftRule, tokensRule, listRule, labelsRule}
+use Rattle.parse_shapes.specs.Shapes.{isName}
+use Rattle.parse_rules.specs.Rules.{shapeRule, leftRule, tokensRule, listRule, labelLimit, labelsRule}
 use Rattle.parse_units.specs.Outline.{rowAt}
 use Rattle.parse_units.specs.declared.Row.{Row}
 use Rattle.parse_units.specs.declared.State.{State}
@@ -23,6 +25,10 @@ use Rattle.parse_units.specs.declared.State.{State}
 -- the ground on which the next line stands: that of the open row, or the section's
 unfoldable pub groundIn : State → Row → ℕ
 groundIn s o = ifEq (s .top) 0 (s .section) (groundOf (o .kind))
+
+-- the kind of a line on a ground: "`import` between functions is taken", "9 no longer for that `import`"; elsewhere it is left out
+unfoldable pub lineOn : ℕ → ℕ → ℕ
+lineOn g k = ifEq k kind.importLine (ifEq g ground.functionsSection k kind.leftOut) k
 
 -- "A label names a data definition, group or `align` in data"
 abbrev pub dataWords : List ℕ
@@ -87,6 +93,14 @@ labelRule t n u g =
 unfoldable pub placeRule : List ℕ → ℕ → Span → ℕ → ℕ → ℕ
 placeRule t n u k g = ifTrue (standsOn g k) none (keyAt t n (u .word) 8)
 
+-- "Imported names count as labels in the one space": an import of a name that the host lists is a label, at its name
+unfoldable pub importLabels : List ℕ → Span → ℕ → ℕ
+importLabels t u k = ifEq k kind.importLine (ifTrue (isName t (u .word + 1)) (ifEq (hostAt t (u .word + 1)) 0 0 1) 0) 0
+
+-- 14 at the name that is the 257th label, c labels standing before it
+unfoldable pub importRule : List ℕ → ℕ → Span → ℕ → ℕ → ℕ
+importRule t n u k c = ifEq (importLabels t u k) 0 none (labelLimit t n (u .word + 1) c)
+
 -- 14: "statements 1,024"; row 0 is the edge, so the first free row is at most one more
 unfoldable pub roomRule : List ℕ → ℕ → Span → ℕ → ℕ → ℕ
 roomRule t n u k count = ifLt (limits.statements + 1 - count) (rowsOf k) (keyAt t n (u .word) 14) none
@@ -99,10 +113,16 @@ localsRule t n u k locals = ifEq k kind.letLocal (ifLt locals limits.locals none
 unfoldable pub depthRule : List ℕ → ℕ → Span → ℕ → ℕ → ℕ
 depthRule t n u k depth = ifEq k kind.block (ifLt depth limits.blockDepth none (keyAt t n (u .word) 14)) none
 
--- what the rules find in a unit, on a ground, in a state: words, shapes and places
+-- what the rules find in a unit of kind k, on a ground, in a state: words, shapes and places, imports
 unfoldable pub lineFaults : Width → List ℕ → ℕ → Span → ℕ → ℕ → State → List ℕ
 lineFaults w t n u k g s =
-    labelRule t n u g ∷ labelsRule t n u (s .labels) .fault ∷ shapeRule w t n u k ∷ placeRule t n u k g ∷ leftRule t n u k ∷ []
+    labelRule t n u g
+    ∷ labelsRule t n u (s .labels) .fault
+    ∷ shapeRule w t n u k
+    ∷ placeRule t n u k g
+    ∷ leftRule t n u k
+    ∷ importRule t n u k (labelsRule t n u (s .labels) .count)
+    ∷ []
 
 -- limits, and the tokens of the line
 unfoldable pub limitFaults : List ℕ → ℕ → Span → ℕ → State → List ℕ

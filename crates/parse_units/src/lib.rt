@@ -16,7 +16,7 @@ ghost use Rattle.lang_kinds.specs.Nesting.{isFrame, leaves};
 ghost use Rattle.base_prelude.specs.Fault.{none};
 ghost use Rattle.parse_units.specs.OutlineRow.{outlineRowOf};
 ghost use Rattle.parse_units.specs.Outline.{outlineRow, outlineWords, rowAt, putRow, rowIn, behind};
-ghost use Rattle.parse_units.specs.Places.{groundIn, dataWords, functionWords, statementWords, mayLabel, labelRule, placeRule, roomRule, localsRule, depthRule, lineFaults, limitFaults, unitFault};
+ghost use Rattle.parse_units.specs.Places.{groundIn, lineOn, dataWords, functionWords, statementWords, mayLabel, labelRule, placeRule, importLabels, importRule, roomRule, localsRule, depthRule, lineFaults, limitFaults, unitFault};
 ghost use Rattle.base_prelude.specs.Fault.{leastOf};
 ghost use Rattle.lang_kinds.specs.Nesting.{rowsOf};
 ghost use Rattle.parse_lines.specs.Tokens.{tokenWord};
@@ -226,6 +226,19 @@ fn ground_in(s: State, o: Row) -> u32
     lang_kinds::ground_of(o.kind)
 }
 
+// The kind of a line on a ground: an import that stands elsewhere than between functions is left out.
+fn line_on(g: u32, k: u32) -> u32
+    ensures { λ r. ⌜ r ≡ lineOn g k ⌝ }
+{
+    if k == Kind::IMPORT_LINE {
+        if g == Ground::FUNCTIONS_SECTION {
+            return k;
+        }
+        return Kind::LEFT_OUT;
+    }
+    k
+}
+
 fn data_word(w: u32) -> bool
     ensures { λ r. ⌜ r ≡ isAmong w dataWords ⌝ }
 {
@@ -314,6 +327,34 @@ fn place_rule(t: &[u32], n: u32, u: Span, k: u32, g: u32) -> u64
     parse_lines::key_at(t, n, u.word, 8)
 }
 
+// The labels that a line itself is: one for an import of a name that the host lists.
+pub fn import_labels(t: &[u32], u: Span, k: u32) -> u32
+    requires { ⌜ u .word < limits.greatestWord ⌝ }
+    ensures { λ r. ⌜ r ≡ importLabels (now (t .entry)) u k ⌝ }
+{
+    if k == Kind::IMPORT_LINE {
+        if parse_shapes::is_name(t, u.word + 1) {
+            if parse_lines::host_at(t, u.word + 1) == 0 {
+                return 0;
+            }
+            return 1;
+        }
+        return 0;
+    }
+    0
+}
+
+// 14: an imported name that is the 257th label.
+fn import_rule(t: &[u32], n: u32, u: Span, k: u32, c: u32) -> u64
+    requires { ⌜ u .word < limits.greatestWord ⌝ }
+    ensures { λ r. ⌜ r ≡ importRule (now (t .entry)) n u k c ⌝ }
+{
+    if import_labels(t, u, k) == 0 {
+        return 1099511627776;
+    }
+    parse_rules::label_limit(t, n, u.word + 1, c)
+}
+
 fn rows_left(count: u32) -> u32
     ensures { λ r. ⌜ r ≡ limits.statements + 1 - count ⌝ }
 {
@@ -364,7 +405,8 @@ fn line_faults(w: Width, t: &[u32], n: u32, u: Span, k: u32, g: u32, s: State) -
     ensures { λ r. ⌜ r ≡ leastOf (lineFaults w (now (t .entry)) n u k g s) ⌝ }
 {
     let x = parse_rules::labels_rule(t, n, u, s.labels);
-    let a = base_prelude::least(parse_rules::left_rule(t, n, u, k), 1099511627776);
+    let i = base_prelude::least(import_rule(t, n, u, k, x.count), 1099511627776);
+    let a = base_prelude::least(parse_rules::left_rule(t, n, u, k), i);
     let b = base_prelude::least(place_rule(t, n, u, k, g), a);
     let c = base_prelude::least(parse_rules::shape_rule(w, t, n, u, k), b);
     let d = base_prelude::least(x.fault, c);
@@ -514,7 +556,7 @@ fn state_behind(t: &[u32], n: u32, u: Span, k: u32, o: Row, s: State) -> State
         section: section_behind(k, s.section),
         locals: locals_behind(k, parse_shapes::operand_count(u), o.before, s.locals),
         depth: depth_behind(k, s.depth),
-        labels: x.count,
+        labels: x.count + import_labels(t, u, k),
     }
 }
 
@@ -550,7 +592,8 @@ fn step_unit(w: Width, t: &[u32], n: u32, rows: &mut [u32], s: State) -> UnitSte
     let u = parse_lines::unit_at(t, s.at);
     let k = parse_lines::line_kind(t, u.word);
     let o = row_at(rows, s.top);
-    let f = unit_fault(w, t, n, u, k, ground_in(s, o), s);
+    let g = ground_in(s, o);
+    let f = unit_fault(w, t, n, u, line_on(g, k), g, s);
     if f < 1099511627776 {
         return UnitStep::Done(Verdict::Refused(f));
     }

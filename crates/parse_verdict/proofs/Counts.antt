@@ -19,12 +19,13 @@ use Rattle.parse_lines.specs.declared.Span.{Span}
 use Rattle.parse_lines.proofs.Keys.{key-low}
 use Rattle.parse_rules.specs.Rules.{labelLimit, labelKey, labelled, labelStep, labelsFrom, labelsRule}
 use Rattle.parse_rules.specs.declared.Labelled.{Labelled}
-use Rattle.parse_units.specs.Places.{groundIn, lineFaults, unitFault}
+use Rattle.parse_units.specs.Places.{groundIn, importLabels, importRule, lineFaults, unitFault}
 use Rattle.parse_units.specs.Parse.{World, world, Result, result, begin, stateBehind, joinState, advance, openRow, faultIn, unitStepOn, unitStep, parseFrom, parseOf}
 use Rattle.parse_units.specs.Fits.{UnitStepFits}
 use Rattle.parse_units.specs.declared.State.{State}
 use Rattle.parse_units.specs.declared.Verdict.{Verdict}
 use Rattle.parse_units.specs.declared.Verdict.the-variants.{Accepted, Refused}
+use Rattle.parse_units.proofs.Bounds.{import-few, import-clean, unit-clean}
 use Rattle.parse_units.proofs.UnitSteps.{UnitStepGood, unit-step-good}
 use Rattle.parse_outline.specs.Outline.{answerOf, outlineOf}
 use Rattle.parse_outline.specs.declared.Parsed.{Parsed}
@@ -74,6 +75,13 @@ labels-clean : (w : Width) (t : List ℕ) (n : ℕ) (u : Span) (k g : ℕ) (s : 
 unfolding lineFaults leastOf
 labels-clean w t n u k g s c = omega (arith, lines-clean w t n u k g s c)
 
+-- an import without a fault
+import-room : (t : List ℕ) (n : ℕ) (u : Span) (k c : ℕ) → c ≤ 256 → none ≤ importRule t n u k c → c + importLabels t u k ≤ 256
+unfolding importRule
+import-room t n u k c h =
+    either-eq (λ (x : ℕ). none ≤ x → c + importLabels t u k ≤ 256) (importLabels t u k) 0 _ _ (λ e _. omega arith)
+    (λ _ g. omega (arith, import-few t u k, limit-clean t n (u .word + 1) c g))
+
 -- between two units
 abbrev Counted : List ℕ → World → Type 0
 Counted t x = UnitStepFits t (x .table) (x .state) × (x .state .labels ≤ x .state .at) × (x .state .labels ≤ 256)
@@ -90,10 +98,14 @@ FewLabels (stop r) = Few (r .verdict)
 module _ (w : Width) (t : List ℕ) (n : ℕ) (x : World) (h : Counted t x) where
   behind-few : none ≤ faultIn w t n (unitAt t (x .state .at)) x
       → advance t n (unitAt t (x .state .at)) (lineKind t (unitAt t (x .state .at) .word)) x .state .labels ≤ 256
-  unfolding faultIn advance joinState stateBehind
+  unfolding advance joinState stateBehind
   behind-few c =
-      unit-few t n (unitAt t (x .state .at)) (x .state .labels) (h .2)
-      (labels-clean w t n (unitAt t (x .state .at)) (lineKind t (unitAt t (x .state .at) .word)) (groundIn (x .state) (openRow x)) (x .state) c)
+      let u : Span = unitAt t (x .state .at) in
+      let k : ℕ = lineKind t (u .word) in
+      let c′ : none ≤ unitFault w t n u k (groundIn (x .state) (openRow x)) (x .state) = unit-clean w t n u x c in
+      import-room t n u k (labelsRule t n u (x .state .labels) .count)
+      (unit-few t n u (x .state .labels) (h .2) (labels-clean w t n u k (groundIn (x .state) (openRow x)) (x .state) c′))
+      (import-clean w t n u k (groundIn (x .state) (openRow x)) (x .state) c′)
 
   unit-step-few : FewLabels (unitStep w t n x)
   unfolding unitStep unitStepOn

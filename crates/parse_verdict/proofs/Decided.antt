@@ -23,7 +23,7 @@ use Rattle.parse_lines.specs.Units.{spanFrom, spanOf, unitAt}
 use Rattle.parse_lines.specs.Lines.{lineKind}
 use Rattle.parse_lines.specs.declared.Span.{Span}
 use Rattle.parse_lines.proofs.Edge.{edge-is}
-use Rattle.parse_units.specs.Places.{groundIn, unitFault}
+use Rattle.parse_units.specs.Places.{groundIn, lineOn, unitFault}
 use Rattle.parse_units.specs.Parse.{World, world, Result, result, begin, stateBehind, joinState, advance, openRow, faultIn, unitStepOn, unitStep, parseFrom, parseOf}
 use Rattle.parse_units.specs.Fits.{UnitStepFits}
 use Rattle.parse_units.specs.declared.Verdict.{Verdict}
@@ -31,6 +31,7 @@ use Rattle.parse_units.specs.declared.Verdict.the-variants.{Accepted, Refused}
 use Rattle.parse_units.proofs.Bounds.{unit-order, line-some}
 use Rattle.parse_units.proofs.UnitSteps.{UnitStepGood, unit-step-good}
 use Rattle.parse_verdict.specs.Verdict.{kindIn, faultAt, nextWorld, faultsFrom, allFaults, verdictOf, All, Clean, keyOf, Rising}
+use Rattle.parse_verdict.proofs.Scans.{name-inside}
 use Rattle.parse_verdict.proofs.Found.{Found, nothing, found, unit-found}
 
 -- lists of faults
@@ -135,7 +136,8 @@ module _ (t : List ℕ) (n : ℕ) (r : Rising t n) where
     unfolding faultAt faultIn
     at-found x =
         let o = unit-order t (x .state .at) in
-        unit-found w t n (unitAt t (x .state .at)) (lineKind t (unitAt t (x .state .at) .word)) (groundIn (x .state) (openRow x)) (x .state) (o .1) (o .2)
+        unit-found w t n (unitAt t (x .state .at)) (lineOn (groundIn (x .state) (openRow x)) (lineKind t (unitAt t (x .state .at) .word))) (groundIn (x .state) (openRow x))
+        (x .state) (o .1) (o .2) (name-inside t (x .state .at))
 
     next-at : (x : World) → nextWorld t n x .state .at ≡ unitAt t (x .state .at) .next
     unfolding nextWorld advance joinState stateBehind

@@ -53,6 +53,26 @@ every-unit : allFaults Bits32 (tableOf (lexOf Bits32 two-unknown)) 25 ≡ none �
 unfolding opened two-unknown
 every-unit = refl
 
+-- `section functions`, `import`, `import "a"`, `import a`, a line each: between functions a name stands behind `import`, and only it
+imports-between : List ℕ
+imports-between =
+    115 ∷ 101 ∷ 99 ∷ 116 ∷ 105 ∷ 111 ∷ 110 ∷ 32 ∷ 102 ∷ 117 ∷ 110 ∷ 99 ∷ 116 ∷ 105 ∷ 111 ∷ 110 ∷ 115 ∷ 10
+    ∷ 105 ∷ 109 ∷ 112 ∷ 111 ∷ 114 ∷ 116 ∷ 10 ∷ 105 ∷ 109 ∷ 112 ∷ 111 ∷ 114 ∷ 116 ∷ 32 ∷ 34 ∷ 97 ∷ 34 ∷ 10
+    ∷ 105 ∷ 109 ∷ 112 ∷ 111 ∷ 114 ∷ 116 ∷ 32 ∷ 97 ∷ []
+
+between-functions : allFaults Bits32 (tableOf (lexOf Bits32 imports-between)) 44 ≡ none ∷ key 18 7 ∷ key 25 7 ∷ none ∷ none ∷ []
+unfolding opened imports-between
+between-functions = refl
+
+-- `section data`, `import a`: left out
+import-inside : List ℕ
+import-inside =
+    115 ∷ 101 ∷ 99 ∷ 116 ∷ 105 ∷ 111 ∷ 110 ∷ 32 ∷ 100 ∷ 97 ∷ 116 ∷ 97 ∷ 10 ∷ 105 ∷ 109 ∷ 112 ∷ 111 ∷ 114 ∷ 116 ∷ 32 ∷ 97 ∷ []
+
+inside-data : allFaults Bits32 (tableOf (lexOf Bits32 import-inside)) 21 ≡ none ∷ key 13 9 ∷ none ∷ []
+unfolding opened import-inside
+inside-data = refl
+
 -- two tokens at one place do not rise
 twice-at-five : List ℕ
 twice-at-five = 3 ∷ 5 ∷ 0 ∷ 0 ∷ 0 ∷ 0 ∷ 0 ∷ 0 ∷ 3 ∷ 5 ∷ []

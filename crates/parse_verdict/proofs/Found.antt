@@ -10,13 +10,14 @@ use native.Mathlib.Decide.{decLt}
 use native.Mathlib.Omega.{arith}
 use Rattle.base_prelude.specs.Choice.{ifLt, ifEq, ifTrue}
 use Rattle.base_prelude.specs.Fault.{none, leastOf}
-use Rattle.base_prelude.proofs.Choice.{either, either-eq, either-true}
+use Rattle.base_prelude.proofs.Choice.{either, either-eq, either-true, true-false}
 use Rattle.base_limits.specs.declared.Width.{Width}
 use Rattle.parse_lines.specs.Tokens.{kindAt, wordAt, keyAt}
 use Rattle.parse_lines.specs.declared.Span.{Span}
+use Rattle.parse_shapes.specs.Shapes.{isName}
 use Rattle.parse_rules.specs.Rules.{shapeRule, leftRule, nameKey, substituteKey, tokenKey, tokensLeast, tokensRule, pastMost, listRule, reservedLabel, labelLimit, labelKey, labelled, labelStep, labelsFrom, labelsRule}
 use Rattle.parse_rules.specs.declared.Labelled.{Labelled}
-use Rattle.parse_units.specs.Places.{labelRule, placeRule, roomRule, localsRule, depthRule, lineFaults, limitFaults, unitFault}
+use Rattle.parse_units.specs.Places.{labelRule, placeRule, importLabels, importRule, roomRule, localsRule, depthRule, lineFaults, limitFaults, unitFault}
 use Rattle.parse_units.specs.declared.State.{State}
 
 -- nothing, or a fault at a token from a to before b
@@ -78,7 +79,8 @@ module _ (t : List ℕ) (n : ℕ) (a b : ℕ) where
   labels-found zero i x h g p = p
   labels-found (suc left) i x h g p = labels-found left (i + 1) (labelStep t n i x) (omega arith) (omega arith) (step-found i x h (omega arith) p)
 
-module _ (w : Width) (t : List ℕ) (n : ℕ) (u : Span) (k g : ℕ) (s : State) (o : u .first ≤ u .word) (l : u .word < u .next) where
+module _ (w : Width) (t : List ℕ) (n : ℕ) (u : Span) (k g : ℕ) (s : State) (o : u .first ≤ u .word) (l : u .word < u .next)
+    (q : kindAt t (u .word + 1) ≡ 3 → u .word + 1 < u .next) where
   abbrev F : ℕ → Type 0
   F x = Found t n (u .first) (u .next) x
 
@@ -107,6 +109,24 @@ module _ (w : Width) (t : List ℕ) (n : ℕ) (u : Span) (k g : ℕ) (s : State)
   rule-left : F (leftRule t n u k)
   unfolding leftRule
   rule-left = either-eq F k 34 _ _ (λ _. at-word 9 (omega arith)) (λ _. nothing)
+
+  limit-found : (c : ℕ) → u .word + 1 < u .next → F (labelLimit t n (u .word + 1) c)
+  unfolding labelLimit
+  limit-found c h = either F c 256 _ _ (λ _. nothing) (λ _. found (u .word + 1) 14 (omega arith) h (omega arith))
+
+  -- an import that is a label has a name
+  named : (importLabels t u k ≡ 0 → ⊥) → kindAt t (u .word + 1) ≡ 3
+  unfolding importLabels isName
+  named =
+      either-eq (λ (x : ℕ). (x ≡ 0 → ⊥) → kindAt t (u .word + 1) ≡ 3) k 36 _ _
+      (λ _. either-true (λ (x : ℕ). (x ≡ 0 → ⊥) → kindAt t (u .word + 1) ≡ 3) _ _ _ (λ b _. by b) (λ _ d. absurd (d refl))) (λ _ d. absurd (d refl))
+    where
+      by : ifEq (kindAt t (u .word + 1)) 3 true false ≡ true → kindAt t (u .word + 1) ≡ 3
+      by = either-eq (λ (b : Bool). b ≡ true → kindAt t (u .word + 1) ≡ 3) (kindAt t (u .word + 1)) 3 _ _ (λ e _. e) (λ _ z. true-false (sym z))
+
+  rule-import : F (importRule t n u k (labelsRule t n u (s .labels) .count))
+  unfolding importRule
+  rule-import = either-eq F (importLabels t u k) 0 _ _ (λ _. nothing) (λ d. limit-found _ (q (named d)))
 
   rule-room : F (roomRule t n u k (s .count))
   unfolding roomRule
@@ -138,6 +158,7 @@ module _ (w : Width) (t : List ℕ) (n : ℕ) (u : Span) (k g : ℕ) (s : State)
   unit-found =
       found-min t n (u .first) (u .next) _ _
       (found-min t n (u .first) (u .next) _ _ rule-label (found-min t n (u .first) (u .next) _ _ rule-labels (found-min t n (u .first) (u .next) _ _ rule-shape
-      (found-min t n (u .first) (u .next) _ _ rule-place (found-min t n (u .first) (u .next) _ _ rule-left nothing)))))
+      (found-min t n (u .first) (u .next) _ _ rule-place (found-min t n (u .first) (u .next) _ _ rule-left
+      (found-min t n (u .first) (u .next) _ _ rule-import nothing))))))
       (found-min t n (u .first) (u .next) _ _ rule-room (found-min t n (u .first) (u .next) _ _ rule-locals (found-min t n (u .first) (u .next) _ _ rule-depth
       (found-min t n (u .first) (u .next) _ _ rule-tokens (found-min t n (u .first) (u .next) _ _ rule-list nothing)))))

@@ -1,3 +1,4 @@
+pub mod Scans
 pub mod Found
 pub mod Decided
 pub mod Lexed

@@ -12,10 +12,10 @@ use borrow.Author.Tests.{eq-eqb, ne-eqb, lt-ltb, le-ltb, le-leb, lt-leb}
 use lib.Dec.{eqb, ltb, leb}
 use Rattle.base_prelude.specs.Choice.{ifTrue, ifEq}
 use Rattle.prog_tables.specs.Tests.{oneOf, some, someOf}
-use Rattle.prog_tables.specs.Statement.{Row, hasExpression, isTest, isOperator, isCall, usedBy, operandAt, slots, rowFrom, rowAt}
+use Rattle.prog_tables.specs.Statement.{Row, hasExpression, isTest, isOperator, isCallRow, isCall, isImport, isCallExpression, usedBy, operandAt, slots, rowFrom, rowAt}
 use Rattle.prog_tables.specs.Nesting.{isListed, hasTarget}
 use Rattle.prog_tables.specs.Program.{Program, lentProgram}
-use Rattle.prog_tables.specs.Faults.{expressionListed, isCallRow, expressionFault, inFunction, sizeAt, operandFault, addressListed, kindFault, targetFault, calleeFault, sizeFault, ownWord, hasWord, wordFault, operandsFault, addressFault, rowFault}
+use Rattle.prog_tables.specs.Faults.{expressionListed, expressionFault, inFunction, sizeAt, operandFault, addressListed, kindFault, targetFault, functionFault, importFault, calleeFault, sizeFault, ownWord, hasWord, wordFault, operandsFault, addressFault, rowFault}
 use Rattle.prog_tables.specs.declared.Operand.{Operand}
 use Rattle.prog_tables.specs.declared.Operand.the-variants.{Unlisted}
 use Rattle.prog_tables.proofs.Each.{one-true}
@@ -34,11 +34,15 @@ module _ (k : ℕ) (b : Bool) (d : b ≡ isTest k) where
   unfolding hasTarget ifTrue ifEq
   has-jump h p = rw (← d, h, ne-eqb _ _ p)
 
-pub has-operator : (k e : ℕ) (b : Bool) → (e ≡ 0 → ⊥) → (e ≡ 1 → ⊥) → (e ≡ 2 → ⊥) → b ≡ isOperator e → b ≡ expressionListed k e
-unfolding expressionListed ifEq
-has-operator k e b p q r d = rw (ne-eqb _ _ p, ne-eqb _ _ q, ne-eqb _ _ r) d
+pub has-call : (k e : ℕ) (b : Bool) → (e ≡ 0 → ⊥) → (e ≡ 1 → ⊥) → b ≡ isCallExpression e → b ≡ true → true ≡ expressionListed k e
+unfolding expressionListed ifEq ifTrue
+has-call k e b p q r h = rw (ne-eqb _ _ p, ne-eqb _ _ q, ← r, h)
 
-pub ruleset has = (has-test, has-else, has-jump, has-operator)
+pub has-operator : (k e : ℕ) (b v : Bool) → (e ≡ 0 → ⊥) → (e ≡ 1 → ⊥) → v ≡ isCallExpression e → v ≡ false → b ≡ isOperator e → b ≡ expressionListed k e
+unfolding expressionListed ifEq ifTrue
+has-operator k e b v p q r h d = rw (ne-eqb _ _ p, ne-eqb _ _ q, ← r, h) d
+
+pub ruleset has = (has-test, has-else, has-jump, has-call, has-operator)
 
 -- ---- the function of a row
 
@@ -64,20 +68,12 @@ pub ruleset sizes = (within-kind, within-not, size-in, size-out)
 
 -- ---- causes
 
-pub row-call : (k : ℕ) → k ≡ 11 → true ≡ isCallRow k
-row-call k h = rw h
-
-pub row-tail : (k : ℕ) → (k ≡ 11 → ⊥) → eqb k 12 ≡ isCallRow k
-row-tail k h = rw (ne-eqb k 11 h)
-
-pub ruleset call-rows = (row-call, row-tail)
-
 module _ (k e : ℕ) (b : Bool) (d : b ≡ isCallRow k) where
-  pub call-good : b ≡ true → e ≡ 2 → false ≡ expressionFault k e
-  call-good h q = rw (← d, h, call-bare k (sym d ∙ h), eq-eqb e 2 q)
+  pub call-good : (v : Bool) → b ≡ true → v ≡ isCallExpression e → v ≡ true → false ≡ expressionFault k e
+  call-good v h q r = rw (← d, h, call-bare k (sym d ∙ h), ← q, r)
 
-  pub call-bad : b ≡ true → (e ≡ 2 → ⊥) → true ≡ expressionFault k e
-  call-bad h q = rw (← d, h, ne-eqb e 2 q)
+  pub call-bad : (v : Bool) → b ≡ true → v ≡ isCallExpression e → v ≡ false → true ≡ expressionFault k e
+  call-bad v h q r = rw (← d, h, ← q, r)
 
   module _ (h : b ≡ false) (v : Bool) (r : v ≡ hasExpression k) where
     pub no-expression : v ≡ false → false ≡ expressionFault k e
@@ -137,34 +133,75 @@ module _ (prog : Program) (n k : ℕ) (b : Bool) (e : k ≡ prog .rows n .kind) 
 pub ruleset target-ways = (target-none, target-outside, target-far, target-same, target-other)
 
 module _ (prog : Program) (n k x : ℕ) (b : Bool) (e : k ≡ prog .rows n .kind) (w : x ≡ prog .rows n .expr) (d : b ≡ isCall k x) where
-  pub callee-none : b ≡ false → false ≡ calleeFault prog n
-  unfolding calleeFault
-  callee-none h = rw (← e, ← w, ← d, h)
+  pub function-none : b ≡ false → false ≡ functionFault prog n
+  unfolding functionFault
+  function-none h = rw (← e, ← w, ← d, h)
 
   module _ (g : ℕ) (h : b ≡ true) (r : g ≡ prog .rows n .callee) where
-    pub callee-far : prog .count ≤ g → true ≡ calleeFault prog n
-    unfolding calleeFault
-    callee-far l = rw (← e, ← w, ← d, h, ← r, le-ltb _ _ l)
+    pub function-far : prog .count ≤ g → true ≡ functionFault prog n
+    unfolding functionFault
+    function-far l = rw (← e, ← w, ← d, h, ← r, le-ltb _ _ l)
 
     module _ (j : ℕ) (l : g < prog .count) (s : j ≡ prog .rows g .kind) where
-      pub callee-kind : (j ≡ 1 → ⊥) → true ≡ calleeFault prog n
-      unfolding calleeFault
-      callee-kind q = rw (← e, ← w, ← d, h, ← r, lt-ltb _ _ l, ← s, ne-eqb _ _ q)
+      pub function-kind : (j ≡ 1 → ⊥) → true ≡ functionFault prog n
+      unfolding functionFault
+      function-kind q = rw (← e, ← w, ← d, h, ← r, lt-ltb _ _ l, ← s, ne-eqb _ _ q)
 
       module _ (p m : ℕ) (q : j ≡ 1) (u : p ≡ prog .rows g .b) (v : m ≡ prog .rows n .count) where
-        pub callee-count : (p ≡ m → ⊥) → true ≡ calleeFault prog n
-        unfolding calleeFault
-        callee-count o = rw (← e, ← w, ← d, h, ← r, lt-ltb _ _ l, ← s, eq-eqb _ _ q, ← u, ← v, ne-eqb _ _ o)
+        pub function-count : (p ≡ m → ⊥) → true ≡ functionFault prog n
+        unfolding functionFault
+        function-count o = rw (← e, ← w, ← d, h, ← r, lt-ltb _ _ l, ← s, eq-eqb _ _ q, ← u, ← v, ne-eqb _ _ o)
 
-        pub callee-good : p ≡ m → m ≤ 8 → false ≡ calleeFault prog n
-        unfolding calleeFault
-        callee-good o i = rw (← e, ← w, ← d, h, ← r, lt-ltb _ _ l, ← s, eq-eqb _ _ q, ← u, ← v, eq-eqb _ _ o, le-leb _ _ i)
+        pub function-good : p ≡ m → m ≤ 8 → false ≡ functionFault prog n
+        unfolding functionFault
+        function-good o i = rw (← e, ← w, ← d, h, ← r, lt-ltb _ _ l, ← s, eq-eqb _ _ q, ← u, ← v, eq-eqb _ _ o, le-leb _ _ i)
 
-        pub callee-many : p ≡ m → 8 < m → true ≡ calleeFault prog n
-        unfolding calleeFault
-        callee-many o i = rw (← e, ← w, ← d, h, ← r, lt-ltb _ _ l, ← s, eq-eqb _ _ q, ← u, ← v, eq-eqb _ _ o, lt-leb _ _ i)
+        pub function-many : p ≡ m → 8 < m → true ≡ functionFault prog n
+        unfolding functionFault
+        function-many o i = rw (← e, ← w, ← d, h, ← r, lt-ltb _ _ l, ← s, eq-eqb _ _ q, ← u, ← v, eq-eqb _ _ o, lt-leb _ _ i)
 
-pub ruleset callee-ways = (callee-none, callee-far, callee-kind, callee-count, callee-good, callee-many)
+pub ruleset function-ways = (function-none, function-far, function-kind, function-count, function-good, function-many)
+
+module _ (prog : Program) (n k x : ℕ) (b : Bool) (e : k ≡ prog .rows n .kind) (w : x ≡ prog .rows n .expr) (d : b ≡ isImport k x) where
+  pub import-none : b ≡ false → false ≡ importFault prog n
+  unfolding importFault
+  import-none h = rw (← e, ← w, ← d, h)
+
+  module _ (g : ℕ) (h : b ≡ true) (r : g ≡ prog .rows n .callee) where
+    pub import-far : prog .labelCount ≤ g → true ≡ importFault prog n
+    unfolding importFault
+    import-far l = rw (← e, ← w, ← d, h, ← r, le-ltb _ _ l)
+
+    module _ (j : ℕ) (l : g < prog .labelCount) (s : j ≡ prog .labels g .kind) where
+      pub import-kind : (j ≡ 6 → ⊥) → true ≡ importFault prog n
+      unfolding importFault
+      import-kind q = rw (← e, ← w, ← d, h, ← r, lt-ltb _ _ l, ← s, ne-eqb _ _ q)
+
+      module _ (p m : ℕ) (q : j ≡ 6) (u : p ≡ prog .labels g .arguments) (v : m ≡ prog .rows n .count) where
+        pub import-count : (p ≡ m → ⊥) → true ≡ importFault prog n
+        unfolding importFault
+        import-count o = rw (← e, ← w, ← d, h, ← r, lt-ltb _ _ l, ← s, eq-eqb _ _ q, ← u, ← v, ne-eqb _ _ o)
+
+        pub import-good : p ≡ m → m ≤ 8 → false ≡ importFault prog n
+        unfolding importFault
+        import-good o i = rw (← e, ← w, ← d, h, ← r, lt-ltb _ _ l, ← s, eq-eqb _ _ q, ← u, ← v, eq-eqb _ _ o, le-leb _ _ i)
+
+        pub import-many : p ≡ m → 8 < m → true ≡ importFault prog n
+        unfolding importFault
+        import-many o i = rw (← e, ← w, ← d, h, ← r, lt-ltb _ _ l, ← s, eq-eqb _ _ q, ← u, ← v, eq-eqb _ _ o, lt-leb _ _ i)
+
+pub ruleset import-ways = (import-none, import-far, import-kind, import-count, import-good, import-many)
+
+module _ (prog : Program) (n : ℕ) (b : Bool) (d : b ≡ functionFault prog n) where
+  pub callee-function : b ≡ true → true ≡ calleeFault prog n
+  unfolding calleeFault
+  callee-function h = rw (← d, h)
+
+  pub callee-import : (v : Bool) → b ≡ false → v ≡ importFault prog n → v ≡ calleeFault prog n
+  unfolding calleeFault
+  callee-import v h q = rw (← d, h) q
+
+pub ruleset callee-ways = (callee-function, callee-import)
 
 module _ (r : Row) (k a : ℕ) (e : k ≡ r .kind) (q : a ≡ r .a) where
   pub word-block : (b : ℕ) → k ≡ 3 → b ≡ r .b → a + b ≡ ownWord r

@@ -13,12 +13,13 @@ use lib.Arith.{lt-of-le-ne}
 use Rattle.base_prelude.specs.Choice.{ifLt, ifEq, ifTrue}
 use Rattle.base_prelude.proofs.Choice.{true-false, either}
 use Rattle.prog_tables.specs.Tests.{both, oneOf, some, someOf}
-use Rattle.prog_tables.specs.Statement.{Row, hasExpression, isTest, isCall, usedBy, slots, rowFrom, rowAt}
+use Rattle.prog_tables.specs.Statement.{Row, hasExpression, isTest, isCallRow, usedBy, slots, rowFrom, rowAt}
 use Rattle.prog_tables.specs.Nesting.{isListed, hasTarget}
 use Rattle.prog_tables.specs.Program.{Program, lentProgram}
-use Rattle.prog_tables.specs.Faults.{isCallRow, operandFault, kindFault, targetFault, calleeFault, sizeFault, hasWord, wordFault, operandsFault, addressFault, rowFault, sizeAt}
+use Rattle.prog_tables.specs.Faults.{operandFault, kindFault, targetFault, functionFault, importFault, calleeFault, sizeFault, hasWord, wordFault, operandsFault, addressFault, rowFault, sizeAt}
 use Rattle.prog_tables.proofs.Each.{one-false, one-no, one-rest}
 use Rattle.prog_tables.proofs.Ranges.{test-least, test-most}
+use Rattle.prog_tables.proofs.CallRows.{bare-call, bare-import}
 
 test-bare : (k : ℕ) → 14 ≤ k → hasExpression k ≡ false
 unfolding hasExpression ifLt
@@ -45,9 +46,12 @@ module _ (t : List ℕ) (c : ℕ) (l : List ℕ) (lc d n : ℕ) where
   unfolding targetFault
   no-target h = rw h
 
-  no-callee : isCall kind expr ≡ false → calleeFault prog n ≡ false
-  unfolding calleeFault
-  no-callee h = rw h
+  no-callee : oneOf (hasExpression kind) (isCallRow kind) ≡ false → calleeFault prog n ≡ false
+  unfolding calleeFault functionFault importFault
+  no-callee e =
+      let h = one-no (hasExpression kind) (isCallRow kind) e in
+      let q = one-rest (hasExpression kind) (isCallRow kind) e in
+      rw (bare-call kind expr h q, bare-import kind expr h q)
 
   no-size : eqb kind 1 ≡ false → sizeFault prog n ≡ false
   unfolding sizeFault
@@ -76,19 +80,16 @@ module _ (t : List ℕ) (c : ℕ) (l : List ℕ) (lc d n : ℕ) where
     aimless : oneOf (hasTarget k) (eqb k 10) ≡ false → oneOf (hasTarget kind) (eqb kind 10) ≡ false
     aimless h = ap (λ (i : ℕ). oneOf (hasTarget i) (eqb i 10)) e ∙ h
 
-    uncalled : isCall k expr ≡ false → isCall kind expr ≡ false
-    uncalled h = ap (λ (i : ℕ). isCall i expr) e ∙ h
-
     unused : usedBy k expr (rowAt t n .count) ≡ 0 → usedBy kind expr (rowAt t n .count) ≡ 0
     unused h = ap (λ (i : ℕ). usedBy i expr (rowAt t n .count)) e ∙ h
 
   pub of-function : kind ≡ 1 → rowFault prog n ≡ sizeFault prog n
-  unfolding rowFault some isListed hasExpression hasTarget isTest isCall hasWord usedBy ifTrue ifEq ifLt
+  unfolding rowFault some isListed hasExpression hasTarget isTest hasWord usedBy ifTrue ifEq ifLt
   of-function e =
       rw (
         no-kind (listed 1 e refl) (bare 1 e refl),
         no-target (aimless 1 e refl),
-        no-callee (uncalled 1 e refl),
+        no-callee (bare 1 e refl),
         no-word (ap hasWord e),
         no-operands (unused 1 e refl),
         no-address (ap (λ (i : ℕ). eqb i 7) e),
@@ -96,12 +97,12 @@ module _ (t : List ℕ) (c : ℕ) (l : List ℕ) (lc d n : ℕ) where
       (one-false (sizeFault prog n))
 
   pub of-end : kind ≡ 2 → rowFault prog n ≡ false
-  unfolding rowFault some isListed hasExpression hasTarget isTest isCall hasWord usedBy ifTrue ifEq ifLt
+  unfolding rowFault some isListed hasExpression hasTarget isTest hasWord usedBy ifTrue ifEq ifLt
   of-end e =
       rw (
         no-kind (listed 2 e refl) (bare 2 e refl),
         no-target (aimless 2 e refl),
-        no-callee (uncalled 2 e refl),
+        no-callee (bare 2 e refl),
         no-size (ap (λ (i : ℕ). eqb i 1) e),
         no-word (ap hasWord e),
         no-operands (unused 2 e refl),
@@ -109,12 +110,12 @@ module _ (t : List ℕ) (c : ℕ) (l : List ℕ) (lc d n : ℕ) where
       )
 
   pub of-block : kind ≡ 3 → rowFault prog n ≡ wordFault prog n
-  unfolding rowFault some isListed hasExpression hasTarget isTest isCall hasWord usedBy ifTrue ifEq ifLt
+  unfolding rowFault some isListed hasExpression hasTarget isTest hasWord usedBy ifTrue ifEq ifLt
   of-block e =
       rw (
         no-kind (listed 3 e refl) (bare 3 e refl),
         no-target (aimless 3 e refl),
-        no-callee (uncalled 3 e refl),
+        no-callee (bare 3 e refl),
         no-size (ap (λ (i : ℕ). eqb i 1) e),
         no-operands (unused 3 e refl),
         no-address (ap (λ (i : ℕ). eqb i 7) e),
@@ -122,12 +123,12 @@ module _ (t : List ℕ) (c : ℕ) (l : List ℕ) (lc d n : ℕ) where
       (one-false (wordFault prog n))
 
   pub of-end-block : kind ≡ 4 → rowFault prog n ≡ wordFault prog n
-  unfolding rowFault some isListed hasExpression hasTarget isTest isCall hasWord usedBy ifTrue ifEq ifLt
+  unfolding rowFault some isListed hasExpression hasTarget isTest hasWord usedBy ifTrue ifEq ifLt
   of-end-block e =
       rw (
         no-kind (listed 4 e refl) (bare 4 e refl),
         no-target (aimless 4 e refl),
-        no-callee (uncalled 4 e refl),
+        no-callee (bare 4 e refl),
         no-size (ap (λ (i : ℕ). eqb i 1) e),
         no-operands (unused 4 e refl),
         no-address (ap (λ (i : ℕ). eqb i 7) e),
@@ -135,7 +136,7 @@ module _ (t : List ℕ) (c : ℕ) (l : List ℕ) (lc d n : ℕ) where
       (one-false (wordFault prog n))
 
   pub of-let : kind ≡ 5 → rowFault prog n ≡ some (kindFault prog n ∷ calleeFault prog n ∷ wordFault prog n ∷ operandsFault prog n ∷ [])
-  unfolding rowFault some isListed hasExpression hasTarget isTest isCall hasWord usedBy ifTrue ifEq ifLt
+  unfolding rowFault some isListed hasExpression hasTarget isTest hasWord usedBy ifTrue ifEq ifLt
   of-let e =
       rw (
         no-target (aimless 5 e refl),
@@ -144,7 +145,7 @@ module _ (t : List ℕ) (c : ℕ) (l : List ℕ) (lc d n : ℕ) where
       )
 
   pub of-set : kind ≡ 6 → rowFault prog n ≡ some (kindFault prog n ∷ calleeFault prog n ∷ wordFault prog n ∷ operandsFault prog n ∷ [])
-  unfolding rowFault some isListed hasExpression hasTarget isTest isCall hasWord usedBy ifTrue ifEq ifLt
+  unfolding rowFault some isListed hasExpression hasTarget isTest hasWord usedBy ifTrue ifEq ifLt
   of-set e =
       rw (
         no-target (aimless 6 e refl),
@@ -153,7 +154,7 @@ module _ (t : List ℕ) (c : ℕ) (l : List ℕ) (lc d n : ℕ) where
       )
 
   pub of-set-at : kind ≡ 7 → rowFault prog n ≡ some (kindFault prog n ∷ calleeFault prog n ∷ operandsFault prog n ∷ addressFault prog n ∷ [])
-  unfolding rowFault some isListed hasExpression hasTarget isTest isCall hasWord usedBy ifTrue ifEq ifLt
+  unfolding rowFault some isListed hasExpression hasTarget isTest hasWord usedBy ifTrue ifEq ifLt
   of-set-at e =
       rw (
         no-target (aimless 7 e refl),
@@ -162,12 +163,12 @@ module _ (t : List ℕ) (c : ℕ) (l : List ℕ) (lc d n : ℕ) where
       )
 
   pub of-set-byte : kind ≡ 8 → rowFault prog n ≡ operandsFault prog n
-  unfolding rowFault some isListed hasExpression hasTarget isTest isCall hasWord usedBy ifTrue ifEq ifLt
+  unfolding rowFault some isListed hasExpression hasTarget isTest hasWord usedBy ifTrue ifEq ifLt
   of-set-byte e =
       rw (
         no-kind (listed 8 e refl) (bare 8 e refl),
         no-target (aimless 8 e refl),
-        no-callee (uncalled 8 e refl),
+        no-callee (bare 8 e refl),
         no-size (ap (λ (i : ℕ). eqb i 1) e),
         no-word (ap hasWord e),
         no-address (ap (λ (i : ℕ). eqb i 7) e),
@@ -175,12 +176,12 @@ module _ (t : List ℕ) (c : ℕ) (l : List ℕ) (lc d n : ℕ) where
       (one-false (operandsFault prog n))
 
   pub of-set-word : kind ≡ 9 → rowFault prog n ≡ operandsFault prog n
-  unfolding rowFault some isListed hasExpression hasTarget isTest isCall hasWord usedBy ifTrue ifEq ifLt
+  unfolding rowFault some isListed hasExpression hasTarget isTest hasWord usedBy ifTrue ifEq ifLt
   of-set-word e =
       rw (
         no-kind (listed 9 e refl) (bare 9 e refl),
         no-target (aimless 9 e refl),
-        no-callee (uncalled 9 e refl),
+        no-callee (bare 9 e refl),
         no-size (ap (λ (i : ℕ). eqb i 1) e),
         no-word (ap hasWord e),
         no-address (ap (λ (i : ℕ). eqb i 7) e),
@@ -188,11 +189,11 @@ module _ (t : List ℕ) (c : ℕ) (l : List ℕ) (lc d n : ℕ) where
       (one-false (operandsFault prog n))
 
   pub of-goto : kind ≡ 10 → rowFault prog n ≡ targetFault prog n
-  unfolding rowFault some isListed hasExpression hasTarget isTest isCall hasWord usedBy ifTrue ifEq ifLt
+  unfolding rowFault some isListed hasExpression hasTarget isTest hasWord usedBy ifTrue ifEq ifLt
   of-goto e =
       rw (
         no-kind (listed 10 e refl) (bare 10 e refl),
-        no-callee (uncalled 10 e refl),
+        no-callee (bare 10 e refl),
         no-size (ap (λ (i : ℕ). eqb i 1) e),
         no-word (ap hasWord e),
         no-operands (unused 10 e refl),
@@ -201,7 +202,7 @@ module _ (t : List ℕ) (c : ℕ) (l : List ℕ) (lc d n : ℕ) where
       (one-false (targetFault prog n))
 
   pub of-call : kind ≡ 11 → rowFault prog n ≡ some (kindFault prog n ∷ calleeFault prog n ∷ operandsFault prog n ∷ [])
-  unfolding rowFault some isListed hasExpression hasTarget isTest isCall hasWord usedBy ifTrue ifEq ifLt
+  unfolding rowFault some isListed hasExpression hasTarget isTest hasWord usedBy ifTrue ifEq ifLt
   of-call e =
       rw (
         no-target (aimless 11 e refl),
@@ -211,7 +212,7 @@ module _ (t : List ℕ) (c : ℕ) (l : List ℕ) (lc d n : ℕ) where
       )
 
   pub of-tail-call : kind ≡ 12 → rowFault prog n ≡ some (kindFault prog n ∷ calleeFault prog n ∷ operandsFault prog n ∷ [])
-  unfolding rowFault some isListed hasExpression hasTarget isTest isCall hasWord usedBy ifTrue ifEq ifLt
+  unfolding rowFault some isListed hasExpression hasTarget isTest hasWord usedBy ifTrue ifEq ifLt
   of-tail-call e =
       rw (
         no-target (aimless 12 e refl),
@@ -221,7 +222,7 @@ module _ (t : List ℕ) (c : ℕ) (l : List ℕ) (lc d n : ℕ) where
       )
 
   pub of-return : kind ≡ 13 → rowFault prog n ≡ some (kindFault prog n ∷ calleeFault prog n ∷ operandsFault prog n ∷ [])
-  unfolding rowFault some isListed hasExpression hasTarget isTest isCall hasWord usedBy ifTrue ifEq ifLt
+  unfolding rowFault some isListed hasExpression hasTarget isTest hasWord usedBy ifTrue ifEq ifLt
   of-return e =
       rw (
         no-target (aimless 13 e refl),
@@ -231,11 +232,11 @@ module _ (t : List ℕ) (c : ℕ) (l : List ℕ) (lc d n : ℕ) where
       )
 
   pub of-else : kind ≡ 20 → rowFault prog n ≡ targetFault prog n
-  unfolding rowFault some isListed hasExpression hasTarget isTest isCall hasWord usedBy ifTrue ifEq ifLt
+  unfolding rowFault some isListed hasExpression hasTarget isTest hasWord usedBy ifTrue ifEq ifLt
   of-else e =
       rw (
         no-kind (listed 20 e refl) (bare 20 e refl),
-        no-callee (uncalled 20 e refl),
+        no-callee (bare 20 e refl),
         no-size (ap (λ (i : ℕ). eqb i 1) e),
         no-word (ap hasWord e),
         no-operands (unused 20 e refl),
@@ -244,11 +245,11 @@ module _ (t : List ℕ) (c : ℕ) (l : List ℕ) (lc d n : ℕ) where
       (one-false (targetFault prog n))
 
   pub of-jump : kind ≡ 21 → rowFault prog n ≡ targetFault prog n
-  unfolding rowFault some isListed hasExpression hasTarget isTest isCall hasWord usedBy ifTrue ifEq ifLt
+  unfolding rowFault some isListed hasExpression hasTarget isTest hasWord usedBy ifTrue ifEq ifLt
   of-jump e =
       rw (
         no-kind (listed 21 e refl) (bare 21 e refl),
-        no-callee (uncalled 21 e refl),
+        no-callee (bare 21 e refl),
         no-size (ap (λ (i : ℕ). eqb i 1) e),
         no-word (ap hasWord e),
         no-operands (unused 21 e refl),
@@ -257,12 +258,12 @@ module _ (t : List ℕ) (c : ℕ) (l : List ℕ) (lc d n : ℕ) where
       (one-false (targetFault prog n))
 
   pub of-end-if : kind ≡ 22 → rowFault prog n ≡ false
-  unfolding rowFault some isListed hasExpression hasTarget isTest isCall hasWord usedBy ifTrue ifEq ifLt
+  unfolding rowFault some isListed hasExpression hasTarget isTest hasWord usedBy ifTrue ifEq ifLt
   of-end-if e =
       rw (
         no-kind (listed 22 e refl) (bare 22 e refl),
         no-target (aimless 22 e refl),
-        no-callee (uncalled 22 e refl),
+        no-callee (bare 22 e refl),
         no-size (ap (λ (i : ℕ). eqb i 1) e),
         no-word (ap hasWord e),
         no-operands (unused 22 e refl),
@@ -270,13 +271,13 @@ module _ (t : List ℕ) (c : ℕ) (l : List ℕ) (lc d n : ℕ) where
       )
 
   pub of-test : isTest kind ≡ true → rowFault prog n ≡ some (targetFault prog n ∷ operandsFault prog n ∷ [])
-  unfolding rowFault some isListed hasExpression isCall hasWord ifTrue ifEq ifLt
+  unfolding rowFault some isListed hasExpression hasWord ifTrue ifEq ifLt
   of-test e =
       let l = test-least kind e in
       let u = test-most kind e in
       rw (
         no-kind (rw (ne-eqb kind 0 (λ q. omega (arith, l, q)), lt-ltb kind 23 (omega (arith, u)))) (test-no-kind kind l),
-        no-callee (rw (ne-eqb kind 11 (λ q. omega (arith, l, q)), ne-eqb kind 12 (λ q. omega (arith, l, q)), test-bare kind l)),
+        no-callee (test-no-kind kind l),
         no-size (ne-eqb kind 1 (λ q. omega (arith, l, q))),
         no-word (rw (le-ltb kind 3 (omega (arith, l)), le-ltb kind 7 (omega (arith, l)))),
         no-address (ne-eqb kind 7 (λ q. omega (arith, l, q))),

@@ -2,6 +2,7 @@
 use base_limits::Machine;
 use lang_kinds::Kind;
 use prog_tables::ExpressionKind;
+use prog_tables::LabelKind;
 use prog_tables::Operand;
 use prog_tables::Table;
 ghost use mathlib.Core.Path.{_≡_};
@@ -12,7 +13,7 @@ ghost use Rattle.prog_tables.specs.Tests.{oneOf, some};
 ghost use Rattle.prog_tables.specs.Statement.{usedBy, rowAt};
 ghost use Rattle.prog_tables.specs.Program.{lentProgram};
 ghost use Rattle.prog_tables.specs.Nesting.{isListed, hasTarget};
-ghost use Rattle.prog_tables.specs.Faults.{expressionListed, isCallRow, expressionFault, inFunction, sizeAt, operandFault, addressListed, kindFault, targetFault, calleeFault, sizeFault, ownWord, hasWord, wordFault, operandsFault, addressFault, rowFault};
+ghost use Rattle.prog_tables.specs.Faults.{expressionListed, expressionFault, inFunction, sizeAt, operandFault, addressListed, kindFault, targetFault, functionFault, importFault, calleeFault, sizeFault, ownWord, hasWord, wordFault, operandsFault, addressFault, rowFault};
 ghost use Rattle.lang_kinds.specs.Kinds as kind;
 ghost use Rattle.prog_tables.specs.Layout.{operandSlots};
 ghost use Rattle.prog_tables.specs.Places.{slotAt};
@@ -40,16 +41,6 @@ pub fn has_target(k: u32) -> bool
     k == Kind::ELSE_IF
 }
 
-// `call` and `tail-call`.
-fn is_call_row(k: u32) -> bool
-    ensures { λ r. ⌜ r ≡ isCallRow k ⌝ }
-{
-    if k == Kind::CALL {
-        return true;
-    }
-    k == Kind::TAIL_CALL
-}
-
 // Whether a row of this kind with an expression may have one of kind e.
 pub fn is_expression(k: u32, e: u32) -> bool
     ensures { λ r. ⌜ r ≡ expressionListed k e ⌝ }
@@ -60,7 +51,7 @@ pub fn is_expression(k: u32, e: u32) -> bool
     if e == ExpressionKind::PLAIN {
         return true;
     }
-    if e == ExpressionKind::CALL {
+    if prog_tables::is_call_expression(e) {
         return true;
     }
     prog_tables::is_operator(e)
@@ -70,8 +61,8 @@ pub fn is_expression(k: u32, e: u32) -> bool
 fn is_unlisted(k: u32, e: u32) -> bool
     ensures { λ r. ⌜ r ≡ expressionFault k e ⌝ }
 {
-    if is_call_row(k) {
-        if e == ExpressionKind::CALL {
+    if prog_tables::is_call_row(k) {
+        if prog_tables::is_call_expression(e) {
             return false;
         }
         return true;
@@ -182,8 +173,8 @@ fn target_fault(t: &[u32], c: u32, l: &[u32], lc: u32, d: u32, n: u32) -> bool
 }
 
 // A callee that is no function, or has another parameter count; too many arguments.
-fn callee_fault(t: &[u32], c: u32, l: &[u32], lc: u32, d: u32, n: u32) -> bool
-    ensures { λ r. ⌜ r ≡ calleeFault (lentProgram (now (t .entry)) c (now (l .entry)) lc d) n ⌝ }
+fn function_fault(t: &[u32], c: u32, l: &[u32], lc: u32, d: u32, n: u32) -> bool
+    ensures { λ r. ⌜ r ≡ functionFault (lentProgram (now (t .entry)) c (now (l .entry)) lc d) n ⌝ }
 {
     let k = prog_tables::kind_at(t, n);
     let e = prog_tables::expression_at(t, n);
@@ -207,6 +198,44 @@ fn callee_fault(t: &[u32], c: u32, l: &[u32], lc: u32, d: u32, n: u32) -> bool
         return true;
     }
     false
+}
+
+// A callee that is no label row of an imported function, or has another argument count; too many arguments.
+fn import_fault(t: &[u32], c: u32, l: &[u32], lc: u32, d: u32, n: u32) -> bool
+    ensures { λ r. ⌜ r ≡ importFault (lentProgram (now (t .entry)) c (now (l .entry)) lc d) n ⌝ }
+{
+    let k = prog_tables::kind_at(t, n);
+    let e = prog_tables::expression_at(t, n);
+    if prog_tables::is_import(k, e) {
+        let g = prog_tables::callee_at(t, n);
+        if g < lc {
+            let j = prog_tables::label_kind_at(l, g);
+            if j == LabelKind::IMPORT {
+                let p = prog_tables::label_arguments_at(l, g);
+                let m = prog_tables::count_at(t, n);
+                if p == m {
+                    if m <= Machine::PARAMETERS {
+                        return false;
+                    }
+                    return true;
+                }
+                return true;
+            }
+            return true;
+        }
+        return true;
+    }
+    false
+}
+
+// A broken callee of a call in any form.
+fn callee_fault(t: &[u32], c: u32, l: &[u32], lc: u32, d: u32, n: u32) -> bool
+    ensures { λ r. ⌜ r ≡ calleeFault (lentProgram (now (t .entry)) c (now (l .entry)) lc d) n ⌝ }
+{
+    if function_fault(t, c, l, lc, d, n) {
+        return true;
+    }
+    import_fault(t, c, l, lc, d, n)
 }
 
 // A frame size below 3 + parameters.

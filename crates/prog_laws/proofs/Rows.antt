@@ -14,16 +14,16 @@ use Rattle.base_limits.specs.declared.Width.{Width}
 use Rattle.base_limits.specs.Limits.{parameters, locals}
 use Rattle.prog_tables.specs.Layout.{statementRow}
 use Rattle.prog_tables.specs.Tests.{both, oneOf, given, all, someOf, countBelow, greatestBelow}
-use Rattle.prog_tables.specs.Statement.{Row, isCall}
+use Rattle.prog_tables.specs.Statement.{Row, isCall, isImport}
 use Rattle.prog_tables.specs.Label.{Tables, rows, labelsOf, isFunctionLabel}
 use Rattle.prog_tables.specs.Program.{programFrom}
 use Rattle.prog_tables.specs.Frames.{isIn, letsBefore, blockNeed, needOf, frameSize, localsAt}
 use Rattle.prog_tables.specs.Faults.{sizeAt, operandFault, operandsFault, addressFault, addressListed, rowFault}
-use Rattle.prog_tables.specs.WellFormed.{labelled, calls, fewLocals, countsGood, WellFormed}
+use Rattle.prog_tables.specs.WellFormed.{labelled, functionCalls, importCalls, fewLocals, countsGood, WellFormed}
 use Rattle.prog_tables.specs.declared.Operand.{Operand}
 use Rattle.prog_tables.specs.declared.Operand.the-variants.{Constant, Local, Address, AtLocal, AtAddress, Unlisted}
-use Rattle.prog_tables.proofs.Each.{both-left, given-then, all-at, counts-good, calls-at, few-at}
-use Rattle.prog_tables.proofs.Sound.{function-sound, row-held, size-is}
+use Rattle.prog_tables.proofs.Each.{both-left, given-then, all-at, counts-good, few-at}
+use Rattle.prog_tables.proofs.Sound.{function-sound, function-calls, import-calls, row-held, size-is}
 use Rattle.prog_tables.proofs.Whole.{operands-sound, address-sound, row-sound}
 use Rattle.prog_tables.proofs.Unbroken.{counts, not-true}
 
@@ -163,14 +163,41 @@ module _ (bits : Width) (t : Tables) (w : WellFormed (programFrom bits t)) where
         ∷ []
 
     pub callee-facts : isCall (rows t n .kind) (rows t n .expr) ≡ true → Callee
-    unfolding calls call-tests
+    unfolding functionCalls call-tests
     callee-facts e =
-        let q : all call-tests ≡ true = given-then (isCall (rows t n .kind) (rows t n .expr)) (all call-tests) (calls-at bits t w n h) e in
+        let q : all call-tests ≡ true = given-then (isCall (rows t n .kind) (rows t n .expr)) (all call-tests) (function-calls bits t w n h) e in
         record {
           within = ltb-true _ _ (all-at call-tests 0 q (omega arith));
           is-function = eqb-true _ _ (all-at call-tests 1 q (omega arith));
           arguments = eqb-true _ _ (all-at call-tests 2 q (omega arith));
           few = leb-true _ _ (all-at call-tests 3 q (omega arith));
+        }
+
+    -- ---- calls of imported functions
+
+    pub record Imported : Type 0 where
+      pub within : rows t n .callee < t .labelCount
+      pub is-import : labelsOf t (rows t n .callee) .kind ≡ 6
+      pub arguments : labelsOf t (rows t n .callee) .arguments ≡ rows t n .count
+      pub few : rows t n .count ≤ 8
+
+    import-tests : List Bool
+    import-tests =
+        ltb (rows t n .callee) (t .labelCount)
+        ∷ eqb (labelsOf t (rows t n .callee) .kind) 6
+        ∷ eqb (labelsOf t (rows t n .callee) .arguments) (rows t n .count)
+        ∷ leb (rows t n .count) 8
+        ∷ []
+
+    pub import-facts : isImport (rows t n .kind) (rows t n .expr) ≡ true → Imported
+    unfolding importCalls import-tests
+    import-facts e =
+        let q : all import-tests ≡ true = given-then (isImport (rows t n .kind) (rows t n .expr)) (all import-tests) (import-calls bits t w n h) e in
+        record {
+          within = ltb-true _ _ (all-at import-tests 0 q (omega arith));
+          is-import = eqb-true _ _ (all-at import-tests 1 q (omega arith));
+          arguments = eqb-true _ _ (all-at import-tests 2 q (omega arith));
+          few = leb-true _ _ (all-at import-tests 3 q (omega arith));
         }
 
     -- ---- operands

@@ -15,12 +15,12 @@ use Rattle.base_limits.specs.declared.Width.the-variants.{Bits32}
 use Rattle.lang_kinds.specs.Kinds as kind
 use Rattle.prog_tables.specs.Layout.{frameHead, noExpression, plain, constantOperand, dataLabel, exportedFunction}
 use Rattle.prog_tables.specs.Tests.{both, given, all, allOf, allBelow, countBelow, greatestBelow}
-use Rattle.prog_tables.specs.Statement.{Row, isCall, rowAt}
+use Rattle.prog_tables.specs.Statement.{Row, isCall, isImport, rowAt}
 use Rattle.prog_tables.specs.Label.{Tables, labelAt}
 use Rattle.prog_tables.specs.Program.{Program, programFrom}
 use Rattle.prog_tables.specs.Nesting.{stands, allClosed, hasTarget}
 use Rattle.prog_tables.specs.Frames.{isIn, letsBefore, blockNeed, needOf, frameDepth, frameSize}
-use Rattle.prog_tables.specs.WellFormed.{shallow, aimed, jumps, calls, forwardCalls, shaped, operandGood, operandsGood, addressGood, setsLocal, framed, fewLocals, rowTests, countsGood, rowGood, wellFormed}
+use Rattle.prog_tables.specs.WellFormed.{shallow, aimed, jumps, functionCalls, importCalls, calls, forwardCalls, shaped, operandGood, operandsGood, addressGood, setsLocal, framed, fewLocals, rowTests, countsGood, rowGood, wellFormed}
 use Rattle.prog_tables.specs.declared.Operand.the-variants.{Unlisted}
 use Rattle.prog_tables.proofs.Each.{both-true, all-at}
 use Rattle.prog_tables.proofs.Opened.{opened}
@@ -99,7 +99,7 @@ labelsOf n =
       width = Bits32;
       rows = rowAt [];
       count = 0;
-      labels = λ i. record { kind = dataLabel; number = 0; size = 2; name = i / 2 ∷ i % 2 ∷ [] };
+      labels = λ i. record { kind = dataLabel; number = 0; arguments = 0; size = 2; name = i / 2 ∷ i % 2 ∷ [] };
       labelCount = n;
       dataLength = 0;
       statementsPast = false;
@@ -168,17 +168,18 @@ quiet r =
     ∷ not (eqb (r .kind) kind.set)
     ∷ given (eqb (r .kind) kind.function) (leb (r .b) parameters)
     ∷ not (eqb (r .kind) kind.letLocal)
+    ∷ not (isImport (r .kind) (r .expr))
     ∷ []
 
 quiet-good : (p : Program) (n : ℕ) → all (quiet (p .rows n)) ≡ true → p .rows n .operands ≡ [] → stands (p .rows) n ≡ true
     → framed (p .rows) (p .count) n ≡ true → rowGood p n ≡ true
-unfolding rowTests all shallow aimed jumps calls forwardCalls shaped operandsGood addressGood setsLocal fewLocals allOf
+unfolding rowTests all shallow aimed jumps calls functionCalls importCalls forwardCalls shaped operandsGood addressGood setsLocal fewLocals allOf
 quiet-good p n q o h w =
     both-true _ _ h
     (both-true _ _ (unless (eqb (p .rows n .kind) kind.block) _ (test 0 (omega arith)))
     (both-true _ _ (unless (hasTarget (p .rows n .kind)) _ (test 1 (omega arith)))
     (both-true _ _ (unless (eqb (p .rows n .kind) kind.goto) _ (test 2 (omega arith)))
-    (both-true _ _ (unless (isCall (p .rows n .kind) (p .rows n .expr)) _ (test 3 (omega arith)))
+    (both-true _ _ (both-true _ _ (unless (isCall (p .rows n .kind) (p .rows n .expr)) _ (test 3 (omega arith))) (unless (isImport (p .rows n .kind) (p .rows n .expr)) _ (test 9 (omega arith))))
     (both-true (shaped (p .rows) n) _ (test 4 (omega arith))
     (both-true _ _ (ap (allOf (operandGood p n)) o)
     (both-true _ _ (unless (eqb (p .rows n .kind) kind.setAt) _ (test 5 (omega arith)))

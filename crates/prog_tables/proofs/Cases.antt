@@ -12,7 +12,8 @@ use Rattle.base_prelude.specs.Choice.{pick, ifLt, ifTrue, ifEq}
 use Rattle.base_prelude.proofs.Choice.{tests, ifEq-no, either}
 use Rattle.lang_words.specs.Words.{words, firstOf, isNumber, entryOf, leastOperands}
 use Rattle.prog_tables.specs.Tests.{given, allBelow}
-use Rattle.prog_tables.specs.Statement.{hasExpression, isTest, isOperator, isCall, expressionUses, usedBy}
+use Rattle.prog_tables.specs.Tests.{oneOf}
+use Rattle.prog_tables.specs.Statement.{hasExpression, isTest, isOperator, isCallRow, isCall, isImport, isCallExpression, expressionUses, usedBy}
 use Rattle.prog_tables.proofs.Each.{below-at, given-then}
 use Rattle.prog_tables.proofs.Ranges.{operator-most}
 
@@ -44,14 +45,18 @@ module _ (e n : ℕ) where
     unfolding expressionUses ifEq
     uses-call h = rw (ne-eqb _ _ p, eq-eqb _ _ h)
 
-    module _ (b : Bool) (q : e ≡ 2 → ⊥) (d : b ≡ isOperator e) where
+    pub uses-import : (e ≡ 2 → ⊥) → e ≡ 3 → n ≡ expressionUses e n
+    unfolding expressionUses ifEq
+    uses-import q h = rw (ne-eqb _ _ p, ne-eqb _ _ q, eq-eqb _ _ h)
+
+    module _ (b : Bool) (q : e ≡ 2 → ⊥) (q′ : e ≡ 3 → ⊥) (d : b ≡ isOperator e) where
       pub uses-none : b ≡ false → 0 ≡ expressionUses e n
       unfolding expressionUses ifEq ifTrue
-      uses-none h = rw (ne-eqb _ _ p, ne-eqb _ _ q, ← d, h)
+      uses-none h = rw (ne-eqb _ _ p, ne-eqb _ _ q, ne-eqb _ _ q′, ← d, h)
 
       operator : b ≡ true → usual e ≡ expressionUses e n
       unfolding expressionUses ifTrue
-      operator h = rw (ifEq-no 1 (ifEq e 2 n (pick (isOperator e) (leastOperands e) 0)) p, ifEq-no n (pick (isOperator e) (leastOperands e) 0) q, ← d, h, operands-usual e (sym d ∙ h)) refl
+      operator h = rw (ifEq-no 1 (ifEq e 2 n (ifEq e 3 n (pick (isOperator e) (leastOperands e) 0))) p, ifEq-no n (ifEq e 3 n (pick (isOperator e) (leastOperands e) 0)) q, ifEq-no n (pick (isOperator e) (leastOperands e) 0) q′, ← d, h, operands-usual e (sym d ∙ h)) refl
 
       pub uses-36 : b ≡ true → e ≡ 36 → 1 ≡ expressionUses e n
       uses-36 h g = ifEq-yes-1 ∙ operator h
@@ -77,7 +82,7 @@ module _ (e n : ℕ) where
           is-2 : 2 ≡ usual e
           is-2 = search tests
 
-pub ruleset uses = (uses-plain, uses-call, uses-none, uses-36, uses-37, uses-44, uses-two)
+pub ruleset uses = (uses-plain, uses-call, uses-import, uses-none, uses-36, uses-37, uses-44, uses-two)
 
 -- ---- operands of a row, calls
 
@@ -89,7 +94,7 @@ module _ (k e : ℕ) (b : Bool) (d : b ≡ hasExpression k) where
   unfolding usedBy ifTrue
   used-expression n m h q = rw (← d, h) q
 
-  module _ (n : ℕ) (v : Bool) (h : b ≡ false) (r : v ≡ isCall k e) where
+  module _ (n : ℕ) (v : Bool) (h : b ≡ false) (r : v ≡ isCallRow k) where
     pub used-call : v ≡ true → n ≡ usedBy k e n
     unfolding usedBy ifTrue
     used-call q = rw (← d, h, ← r, q)
@@ -121,12 +126,40 @@ module _ (k e : ℕ) (b : Bool) (d : b ≡ hasExpression k) where
           is-0 : 0 ≡ stores k
           is-0 = search tests
 
-  pub call-expression : (k ≡ 11 → ⊥) → (k ≡ 12 → ⊥) → b ≡ true → eqb e 2 ≡ isCall k e
+  pub call-expression : (e ≡ 3 → ⊥) → (k ≡ 11 → ⊥) → (k ≡ 12 → ⊥) → b ≡ true → eqb e 2 ≡ isCall k e
   unfolding isCall ifEq ifTrue
-  call-expression p q h = rw (ne-eqb _ _ p, ne-eqb _ _ q, ← d, h)
+  call-expression o p q h = rw (ne-eqb _ _ o, ne-eqb _ _ p, ne-eqb _ _ q, ← d, h)
 
-  pub call-none : (k ≡ 11 → ⊥) → (k ≡ 12 → ⊥) → b ≡ false → false ≡ isCall k e
+  pub call-none : (e ≡ 3 → ⊥) → (k ≡ 11 → ⊥) → (k ≡ 12 → ⊥) → b ≡ false → false ≡ isCall k e
   unfolding isCall ifEq ifTrue
-  call-none p q h = rw (ne-eqb _ _ p, ne-eqb _ _ q, ← d, h)
+  call-none o p q h = rw (ne-eqb _ _ o, ne-eqb _ _ p, ne-eqb _ _ q, ← d, h)
+
+  pub import-expression : (v : Bool) → e ≡ 3 → v ≡ isCallRow k → v ≡ false → b ≡ isImport k e
+  unfolding isImport ifEq ifTrue
+  import-expression v o q h = rw (eq-eqb _ _ o, ← q, h) d
+
+pub import-row : (k e : ℕ) (v : Bool) → e ≡ 3 → v ≡ isCallRow k → v ≡ true → true ≡ isImport k e
+unfolding isImport ifEq ifTrue
+import-row k e v o q h = rw (eq-eqb _ _ o, ← q, h)
+
+pub import-none : (k e : ℕ) → (e ≡ 3 → ⊥) → false ≡ isImport k e
+unfolding isImport ifEq
+import-none k e o = rw (ne-eqb _ _ o)
+
+pub row-call : (k : ℕ) → k ≡ 11 → true ≡ isCallRow k
+row-call k h = rw (eq-eqb _ _ h)
+
+pub row-tail : (k : ℕ) → (k ≡ 11 → ⊥) → eqb k 12 ≡ isCallRow k
+row-tail k h = rw (ne-eqb _ _ h)
+
+pub either-call : (e : ℕ) → e ≡ 2 → true ≡ isCallExpression e
+unfolding isCallExpression ifEq
+either-call e h = rw (eq-eqb _ _ h)
+
+pub either-import : (e : ℕ) → (e ≡ 2 → ⊥) → eqb e 3 ≡ isCallExpression e
+unfolding isCallExpression ifEq
+either-import e h = rw (ne-eqb _ _ h)
+
+pub ruleset calls = (import-expression, import-row, import-none, row-call, row-tail, either-call, either-import)
 
 pub ruleset used = (used-expression, used-call, used-test, used-byte, used-word, used-none, call-expression, call-none)

@@ -14,3 +14,4 @@ pub mod Strong
 pub mod AtLimits
 pub mod Samples
 pub mod Values
+pub mod Imported

@@ -11,14 +11,14 @@ use Rattle.base_prelude.proofs.Choice.{true-false, ifTrue-yes}
 use Rattle.base_limits.specs.declared.Width.{Width}
 use Rattle.prog_tables.specs.Layout.{frameHead}
 use Rattle.prog_tables.specs.Tests.{both, oneOf, given, all}
-use Rattle.prog_tables.specs.Statement.{hasExpression, isCall, usedBy}
+use Rattle.prog_tables.specs.Statement.{hasExpression, isCall, isImport, usedBy}
 use Rattle.prog_tables.specs.Label.{Tables, rows, labelsOf, isFunctionLabel}
 use Rattle.prog_tables.specs.Program.{Program, programFrom}
 use Rattle.prog_tables.specs.Nesting.{openBefore, stands, allClosed, targetOf, hasTarget}
 use Rattle.prog_tables.specs.Frames.{frameSize, blockWord, letWord, letsBefore, localsAt}
-use Rattle.prog_tables.specs.Faults.{expressionFault, inFunction, kindFault, targetFault, calleeFault, sizeFault}
-use Rattle.prog_tables.specs.WellFormed.{aimed, labelled, jumps, calls, hasOperands, shaped, framed, WellFormed}
-use Rattle.prog_tables.proofs.Each.{both-left, both-true, given-then, all-at, all-closed, stands-at, aimed-at, jumps-at, calls-at, shaped-at, framed-at}
+use Rattle.prog_tables.specs.Faults.{expressionFault, inFunction, kindFault, targetFault, functionFault, importFault, calleeFault, sizeFault}
+use Rattle.prog_tables.specs.WellFormed.{aimed, labelled, jumps, functionCalls, importCalls, calls, hasOperands, shaped, framed, WellFormed}
+use Rattle.prog_tables.proofs.Each.{both-left, both-right, both-true, given-then, all-at, all-closed, stands-at, aimed-at, jumps-at, calls-at, shaped-at, framed-at}
 use Rattle.prog_tables.proofs.Nested.{not-true, here, Held, held}
 use Rattle.prog_tables.proofs.Targets.{Aimed, target-aimed}
 
@@ -37,6 +37,10 @@ given-or false false y a b = refl
 given-map : (p q r : Bool) → given p q ≡ true → (q ≡ true → r ≡ true) → given p r ≡ true
 given-map true q r e k = k e
 given-map false q r e k = refl
+
+neither : (p q : Bool) → p ≡ false → q ≡ false → oneOf p q ≡ false
+neither true q e d = e
+neither false q e d = d
 
 pub both-false : (p q : Bool) → (p ≡ true → q ≡ false) → both p q ≡ false
 both-false true q k = k refl
@@ -113,11 +117,19 @@ module _ (bits : Width) (t : Tables) (w : WellFormed (programFrom bits t)) where
         ∷ labelled (labelsOf t) (t .labelCount) isFunctionLabel (rows t n .callee)
         ∷ []
 
-    pub callee-sound : calleeFault (programFrom bits t) n ≡ false
-    unfolding calleeFault calls call-tests
-    callee-sound =
+    pub function-calls : functionCalls (programFrom bits t) n ≡ true
+    unfolding calls
+    function-calls = both-left (functionCalls (programFrom bits t) n) (importCalls (programFrom bits t) n) (calls-at bits t w n h)
+
+    pub import-calls : importCalls (programFrom bits t) n ≡ true
+    unfolding calls
+    import-calls = both-right (functionCalls (programFrom bits t) n) (importCalls (programFrom bits t) n) (calls-at bits t w n h)
+
+    function-callee : functionFault (programFrom bits t) n ≡ false
+    unfolding functionFault functionCalls call-tests
+    function-callee =
         given-both (isCall (rows t n .kind) (rows t n .expr)) good
-        (given-map (isCall (rows t n .kind) (rows t n .expr)) (all call-tests) good (calls-at bits t w n h)
+        (given-map (isCall (rows t n .kind) (rows t n .expr)) (all call-tests) good function-calls
         (λ q. both-true (ltb (rows t n .callee) (t .count)) good2 (all-at call-tests 0 q (omega arith))
         (both-true (eqb (rows t (rows t n .callee) .kind) 1) good3 (all-at call-tests 1 q (omega arith))
         (both-true (eqb (rows t (rows t n .callee) .b) (rows t n .count)) (leb (rows t n .count) 8) (all-at call-tests 2 q (omega arith)) (all-at call-tests 3 q (omega arith))))))
@@ -130,6 +142,36 @@ module _ (bits : Width) (t : Tables) (w : WellFormed (programFrom bits t)) where
 
         good : Bool
         good = both (ltb (rows t n .callee) (t .count)) good2
+
+    import-tests : List Bool
+    import-tests =
+        ltb (rows t n .callee) (t .labelCount)
+        ∷ eqb (labelsOf t (rows t n .callee) .kind) 6
+        ∷ eqb (labelsOf t (rows t n .callee) .arguments) (rows t n .count)
+        ∷ leb (rows t n .count) 8
+        ∷ []
+
+    import-callee : importFault (programFrom bits t) n ≡ false
+    unfolding importFault importCalls import-tests
+    import-callee =
+        given-both (isImport (rows t n .kind) (rows t n .expr)) good
+        (given-map (isImport (rows t n .kind) (rows t n .expr)) (all import-tests) good import-calls
+        (λ q. both-true (ltb (rows t n .callee) (t .labelCount)) good2 (all-at import-tests 0 q (omega arith))
+        (both-true (eqb (labelsOf t (rows t n .callee) .kind) 6) good3 (all-at import-tests 1 q (omega arith))
+        (both-true (eqb (labelsOf t (rows t n .callee) .arguments) (rows t n .count)) (leb (rows t n .count) 8) (all-at import-tests 2 q (omega arith)) (all-at import-tests 3 q (omega arith))))))
+      where
+        good3 : Bool
+        good3 = both (eqb (labelsOf t (rows t n .callee) .arguments) (rows t n .count)) (leb (rows t n .count) 8)
+
+        good2 : Bool
+        good2 = both (eqb (labelsOf t (rows t n .callee) .kind) 6) good3
+
+        good : Bool
+        good = both (ltb (rows t n .callee) (t .labelCount)) good2
+
+    pub callee-sound : calleeFault (programFrom bits t) n ≡ false
+    unfolding calleeFault
+    callee-sound = neither (functionFault (programFrom bits t) n) (importFault (programFrom bits t) n) function-callee import-callee
 
     unfoldable pub frame-tests : List Bool
     frame-tests =

@@ -4,13 +4,14 @@ use mathlib.Core.Path.{_≡_, refl, sym, _∙_, ap}
 use mathlib.Core.Bool.{Bool, true, false, not}
 use mathlib.Core.List.{List, [], _∷_}
 use Prim.Native.Nat.{ℕ, zero, suc, _<_}
+use native.Mathlib.Decide.{ℕ-discrete}
 use native.Mathlib.Omega.{arith}
 use borrow.Author.Tests.{eqb-true, leb-true, ltb-true, le-ltb, lt-leb}
 use lib.Dec.{eqb, ltb, leb}
 use Rattle.base_prelude.specs.Choice.{ifEq, ifTrue}
-use Rattle.base_prelude.proofs.Choice.{ifEq-yes, ifTrue-yes, ifTrue-no}
+use Rattle.base_prelude.proofs.Choice.{ifEq-yes, ifEq-no, ifTrue-yes, ifTrue-no}
 use Rattle.base_limits.specs.Limits as limits
-use Rattle.base_limits.specs.Limits.{nameBytes, dataBytes}
+use Rattle.base_limits.specs.Limits.{nameBytes, dataBytes, parameters}
 use Rattle.lang_words.specs.Words.{numberOf}
 use Rattle.base_limits.specs.declared.Width.{Width}
 use Rattle.prog_tables.specs.Tests.{both, oneOf, all, some, someBelow}
@@ -53,37 +54,44 @@ module _ (p : Program) (l : Label) where
   abbrev d : ℕ
   d = p .dataLength
 
-  what : names p l ≡ true → ifTrue (isData (l .kind)) (ltb d (l .number)) (ifTrue (isFunctionLabel (l .kind)) (not (both (ltb (l .number) c) (eqb (f (l .number) .kind) 1))) (ifEq (l .kind) 5 (leb c (l .number)) true)) ≡ false
-  unfolding names
-  what e = split (isData (l .kind)) refl
+  what : names p l ≡ true → ifTrue (isData (l .kind)) (ltb d (l .number)) (ifTrue (isFunctionLabel (l .kind)) (not (both (ltb (l .number) c) (eqb (f (l .number) .kind) 1))) (ifEq (l .kind) 5 (leb c (l .number)) (not (eqb (l .kind) 6)))) ≡ false
+  unfolding names isData isFunctionLabel ifEq ifTrue
+  what e =
+      elim (ℕ-discrete (l .kind) 6) [
+        | yes q ↦ rw q
+        | no q ↦ plainly (ap (ifTrue (isData (l .kind)) (leb (l .number) d)) (sym (ifEq-no (leb (l .arguments) parameters) (both (ltb (l .number) c) (kinds f l)) q)) ∙ e)
+      ]
     where
-      far : ifTrue (isData (l .kind)) (leb (l .number) d) (both (ltb (l .number) c) (kinds f l)) ≡ true → isData (l .kind) ≡ false → both (ltb (l .number) c) (kinds f l) ≡ true
-      far e q = sym (ifTrue-no (leb (l .number) d) (both (ltb (l .number) c) (kinds f l)) q) ∙ e
+      plainly : ifTrue (isData (l .kind)) (leb (l .number) d) (both (ltb (l .number) c) (kinds f l)) ≡ true → ifTrue (isData (l .kind)) (ltb d (l .number)) (ifTrue (isFunctionLabel (l .kind)) (not (both (ltb (l .number) c) (eqb (f (l .number) .kind) 1))) (ifEq (l .kind) 5 (leb c (l .number)) (not (eqb (l .kind) 6)))) ≡ false
+      plainly e = split (isData (l .kind)) refl
+        where
+          far : ifTrue (isData (l .kind)) (leb (l .number) d) (both (ltb (l .number) c) (kinds f l)) ≡ true → isData (l .kind) ≡ false → both (ltb (l .number) c) (kinds f l) ≡ true
+          far e q = sym (ifTrue-no (leb (l .number) d) (both (ltb (l .number) c) (kinds f l)) q) ∙ e
 
-      other : both (ltb (l .number) c) (kinds f l) ≡ true → (b : Bool) → isFunctionLabel (l .kind) ≡ b
-          → ifTrue (isFunctionLabel (l .kind)) (not (both (ltb (l .number) c) (eqb (f (l .number) .kind) 1))) (ifEq (l .kind) 5 (leb c (l .number)) true) ≡ false
-      other g true q =
-          ifTrue-yes (not (both (ltb (l .number) c) (eqb (f (l .number) .kind) 1))) (ifEq (l .kind) 5 (leb c (l .number)) true) q
-          ∙ not-both (both (ltb (l .number) c) (eqb (f (l .number) .kind) 1))
-          (ap (both (ltb (l .number) c)) (sym (ifTrue-yes (eqb (f (l .number) .kind) 1) (all (places f l)) q)) ∙ g)
-      other g false q =
-          ifTrue-no (not (both (ltb (l .number) c) (eqb (f (l .number) .kind) 1))) (ifEq (l .kind) 5 (leb c (l .number)) true) q
-          ∙ ifEq-yes (leb c (l .number)) true
-          (eqb-true (l .kind) 5 (all-at (places f l) 0 (sym (ifTrue-no (eqb (f (l .number) .kind) 1) (all (places f l)) q) ∙ both-right (ltb (l .number) c) (kinds f l) g) (omega arith)))
-          ∙ lt-leb c (l .number) (ltb-true (l .number) c (both-left (ltb (l .number) c) (kinds f l) g))
+          other : both (ltb (l .number) c) (kinds f l) ≡ true → (b : Bool) → isFunctionLabel (l .kind) ≡ b
+              → ifTrue (isFunctionLabel (l .kind)) (not (both (ltb (l .number) c) (eqb (f (l .number) .kind) 1))) (ifEq (l .kind) 5 (leb c (l .number)) (not (eqb (l .kind) 6))) ≡ false
+          other g true q =
+              ifTrue-yes (not (both (ltb (l .number) c) (eqb (f (l .number) .kind) 1))) (ifEq (l .kind) 5 (leb c (l .number)) (not (eqb (l .kind) 6))) q
+              ∙ not-both (both (ltb (l .number) c) (eqb (f (l .number) .kind) 1))
+              (ap (both (ltb (l .number) c)) (sym (ifTrue-yes (eqb (f (l .number) .kind) 1) (all (places f l)) q)) ∙ g)
+          other g false q =
+              ifTrue-no (not (both (ltb (l .number) c) (eqb (f (l .number) .kind) 1))) (ifEq (l .kind) 5 (leb c (l .number)) (not (eqb (l .kind) 6))) q
+              ∙ ifEq-yes (leb c (l .number)) (not (eqb (l .kind) 6))
+              (eqb-true (l .kind) 5 (all-at (places f l) 0 (sym (ifTrue-no (eqb (f (l .number) .kind) 1) (all (places f l)) q) ∙ both-right (ltb (l .number) c) (kinds f l) g) (omega arith)))
+              ∙ lt-leb c (l .number) (ltb-true (l .number) c (both-left (ltb (l .number) c) (kinds f l) g))
 
-      split : (b : Bool) → isData (l .kind) ≡ b → ifTrue (isData (l .kind)) (ltb d (l .number)) (ifTrue (isFunctionLabel (l .kind)) (not (both (ltb (l .number) c) (eqb (f (l .number) .kind) 1))) (ifEq (l .kind) 5 (leb c (l .number)) true)) ≡ false
-      split true q =
-          ifTrue-yes (ltb d (l .number)) (ifTrue (isFunctionLabel (l .kind)) (not (both (ltb (l .number) c) (eqb (f (l .number) .kind) 1))) (ifEq (l .kind) 5 (leb c (l .number)) true)) q
-          ∙ le-ltb d (l .number) (leb-true (l .number) d (sym (ifTrue-yes (leb (l .number) d) (both (ltb (l .number) c) (kinds f l)) q) ∙ e))
-      split false q =
-          ifTrue-no (ltb d (l .number)) (ifTrue (isFunctionLabel (l .kind)) (not (both (ltb (l .number) c) (eqb (f (l .number) .kind) 1))) (ifEq (l .kind) 5 (leb c (l .number)) true)) q
-          ∙ other (far e q) (isFunctionLabel (l .kind)) refl
+          split : (b : Bool) → isData (l .kind) ≡ b → ifTrue (isData (l .kind)) (ltb d (l .number)) (ifTrue (isFunctionLabel (l .kind)) (not (both (ltb (l .number) c) (eqb (f (l .number) .kind) 1))) (ifEq (l .kind) 5 (leb c (l .number)) (not (eqb (l .kind) 6)))) ≡ false
+          split true q =
+              ifTrue-yes (ltb d (l .number)) (ifTrue (isFunctionLabel (l .kind)) (not (both (ltb (l .number) c) (eqb (f (l .number) .kind) 1))) (ifEq (l .kind) 5 (leb c (l .number)) (not (eqb (l .kind) 6)))) q
+              ∙ le-ltb d (l .number) (leb-true (l .number) d (sym (ifTrue-yes (leb (l .number) d) (both (ltb (l .number) c) (kinds f l)) q) ∙ e))
+          split false q =
+              ifTrue-no (ltb d (l .number)) (ifTrue (isFunctionLabel (l .kind)) (not (both (ltb (l .number) c) (eqb (f (l .number) .kind) 1))) (ifEq (l .kind) 5 (leb c (l .number)) (not (eqb (l .kind) 6)))) q
+              ∙ other (far e q) (isFunctionLabel (l .kind)) refl
 
   label-sound : names p l ≡ true → nameGood l ≡ true → labelFault p l ≡ false
   unfolding labelFault nameGood
   label-sound e g =
-      ap (λ (b : Bool). oneOf b (ifTrue (isData (l .kind)) (ltb d (l .number)) (ifTrue (isFunctionLabel (l .kind)) (not (both (ltb (l .number) c) (eqb (f (l .number) .kind) 1))) (ifEq (l .kind) 5 (leb c (l .number)) true))))
+      ap (λ (b : Bool). oneOf b (ifTrue (isData (l .kind)) (ltb d (l .number)) (ifTrue (isFunctionLabel (l .kind)) (not (both (ltb (l .number) c) (eqb (f (l .number) .kind) 1))) (ifEq (l .kind) 5 (leb c (l .number)) (not (eqb (l .kind) 6))))))
       (le-ltb nameBytes (l .size) (leb-true (l .size) nameBytes (all-at (sizes l) 1 g (omega arith))))
       ∙ what e
 

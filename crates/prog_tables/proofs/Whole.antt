@@ -16,7 +16,7 @@ use Rattle.base_limits.specs.Limits.{blockDepth}
 use Rattle.base_limits.specs.declared.Width.{Width}
 use Rattle.prog_tables.specs.Layout.{frameHead}
 use Rattle.prog_tables.specs.Tests.{both, oneOf, some, allOf, someOf, someBelow}
-use Rattle.prog_tables.specs.Statement.{Row, hasExpression, isTest, isCall, usedBy, slots, rowFrom, rowAt}
+use Rattle.prog_tables.specs.Statement.{Row, hasExpression, isTest, usedBy, slots, rowFrom, rowAt}
 use Rattle.prog_tables.specs.Label.{Tables, rows, labelsOf, isData}
 use Rattle.prog_tables.specs.Program.{Program, programFrom}
 use Rattle.prog_tables.specs.Nesting.{openBefore, scopeIn, depthOf, encloses}
@@ -66,7 +66,7 @@ unfolding frameSize
 size-head f c s = omega arith
 
 nothing : (x m : ℕ) (os : List Operand) → take (usedBy 1 x m) os ≡ []
-unfolding usedBy hasExpression isCall isTest ifTrue ifEq ifLt
+unfolding usedBy hasExpression isTest ifTrue ifEq ifLt
 nothing x m [] = refl
 nothing x m (o ∷ os) = refl
 

@@ -10,13 +10,12 @@ use Rattle.base_prelude.specs.Choice.{ifLt, ifEq}
 use Rattle.base_limits.specs.Limits.{nameBytes}
 use Rattle.lang_kinds.specs.Kinds as kind
 use Rattle.prog_tables.specs.StatementRow as row
-use Rattle.prog_tables.specs.LabelRow as label
-use Rattle.prog_tables.specs.Layout.{statementRow, labelRow}
+use Rattle.prog_tables.specs.Layout.{statementRow, labelRow, importLabel}
 use Rattle.prog_tables.specs.Tests.{both, oneOf, all, allOf, allBelow}
-use Rattle.prog_tables.specs.Statement.{Row, hasExpression, isCall, usedBy, rowAt}
+use Rattle.prog_tables.specs.Statement.{Row, hasExpression, isCallRow, isCall, isImport, usedBy, rowAt}
 use Rattle.prog_tables.specs.Label.{Tables, labelAt}
 use Rattle.prog_tables.specs.Nesting.{hasTarget}
-use Rattle.prog_tables.specs.Faults.{isCallRow, hasWord}
+use Rattle.prog_tables.specs.Faults.{hasWord}
 use Rattle.prog_tables.specs.WellFormed.{hasOperands}
 
 -- a row uses its word j
@@ -26,7 +25,7 @@ usesWord r j =
     (ifEq j row.a (oneOf (eqb (r .kind) kind.function) (oneOf (hasWord (r .kind)) (oneOf (hasTarget (r .kind)) (eqb (r .kind) kind.goto))))
     (ifEq j row.b (oneOf (eqb (r .kind) kind.function) (eqb (r .kind) kind.block))
     (ifEq j row.expr (oneOf (hasExpression (r .kind)) (isCallRow (r .kind)))
-    (ifEq j row.callee (oneOf (eqb (r .kind) kind.block) (isCall (r .kind) (r .expr)))
+    (ifEq j row.callee (oneOf (eqb (r .kind) kind.block) (oneOf (isCall (r .kind) (r .expr)) (isImport (r .kind) (r .expr))))
     (ifEq j row.count (hasOperands (r .kind))
     (ifLt j row.operands (eqb (r .kind) kind.setAt)
     (ltb j (row.operands + 2 * usedBy (r .kind) (r .expr) (r .count)))))))))
@@ -34,10 +33,10 @@ usesWord r j =
 unfoldable pub unusedZero : List ℕ → ℕ → Bool
 unusedZero t n = allBelow (λ j. oneOf (usesWord (rowAt t n) j) (eqb (getD t (n * statementRow + j) 0) 0)) statementRow
 
--- the unused word of a label row, and the bytes behind its name
+-- the arguments of a label row that is none of an imported function, and the bytes behind its name
 unfoldable pub labelUnusedZero : List ℕ → List ℕ → ℕ → Bool
 labelUnusedZero t names n =
-    both (eqb (getD t (n * labelRow + label.unused) 0) 0)
+    both (oneOf (eqb (labelAt t names n .kind) importLabel) (eqb (labelAt t names n .arguments) 0))
     (allBelow (λ j. oneOf (ltb j (labelAt t names n .size)) (eqb (getD names (n * nameBytes + j) 0) 0)) nameBytes)
 
 unfoldable pub zeroFrom : ℕ → List ℕ → Bool

@@ -10,9 +10,9 @@ use lib.Dec.{ltb, leb, eqb}
 use Rattle.base_prelude.specs.Choice.{ifLt, ifEq, ifTrue}
 use Rattle.base_limits.specs.Limits.{nameBytes}
 use Rattle.lang_kinds.specs.Kinds as kind
-use Rattle.prog_tables.specs.Layout.{operandSlots, frameHead, noExpression, plain, callExpression, placeLabel}
+use Rattle.prog_tables.specs.Layout.{operandSlots, frameHead, noExpression, plain, placeLabel, importLabel}
 use Rattle.prog_tables.specs.Tests.{both, oneOf, some, someOf, someBelow}
-use Rattle.prog_tables.specs.Statement.{Row, hasExpression, isOperator, isCall}
+use Rattle.prog_tables.specs.Statement.{Row, hasExpression, isOperator, isCallRow, isCall, isImport, isCallExpression}
 use Rattle.prog_tables.specs.Label.{Label, isData, isFunctionLabel}
 use Rattle.prog_tables.specs.Program.{Program}
 use Rattle.prog_tables.specs.Nesting.{isListed, hasTarget}
@@ -21,15 +21,11 @@ use Rattle.prog_tables.specs.declared.Operand.the-variants.{Constant, Lo
 
 -- the expression kinds that a row of kind k with an expression may have: a bare `return` alone has none
 unfoldable pub expressionListed : ℕ → ℕ → Bool
-expressionListed k e = ifEq e noExpression (eqb k kind.return) (ifEq e plain true (ifEq e callExpression true (isOperator e)))
-
--- `call` and `tail-call`
-abbrev pub isCallRow : ℕ → Bool
-isCallRow k = oneOf (eqb k kind.call) (eqb k kind.tailCall)
+expressionListed k e = ifEq e noExpression (eqb k kind.return) (ifEq e plain true (ifTrue (isCallExpression e) true (isOperator e)))
 
 -- an unlisted expression kind e of a row of kind k: `call` and `tail-call` have that of a call
 abbrev pub expressionFault : ℕ → ℕ → Bool
-expressionFault k e = oneOf (both (isCallRow k) (not (eqb e callExpression))) (both (hasExpression k) (not (expressionListed k e)))
+expressionFault k e = oneOf (both (isCallRow k) (not (isCallExpression e))) (both (hasExpression k) (not (expressionListed k e)))
 
 -- row n is in a function: its function field names a `function` row
 unfoldable pub inFunction : (ℕ → Row) → ℕ → ℕ → Bool
@@ -74,13 +70,26 @@ targetFault p n =
     (both (ltb (p .rows n .a) (p .count)) (eqb (p .rows (p .rows n .a) .func) (p .rows n .func)))))
 
 -- "a callee that is no function or has another parameter count"; a count of arguments past the row's slots
-unfoldable pub calleeFault : Program → ℕ → Bool
-calleeFault p n =
+unfoldable pub functionFault : Program → ℕ → Bool
+functionFault p n =
     both (isCall (p .rows n .kind) (p .rows n .expr))
     (not
     (both (ltb (p .rows n .callee) (p .count))
     (both (eqb (p .rows (p .rows n .callee) .kind) kind.function)
     (both (eqb (p .rows (p .rows n .callee) .b) (p .rows n .count)) (leb (p .rows n .count) operandSlots)))))
+
+-- "35 takes an imported name as a function with its argument count" (02, 3): a callee that is no label row of an imported function
+unfoldable pub importFault : Program → ℕ → Bool
+importFault p n =
+    both (isImport (p .rows n .kind) (p .rows n .expr))
+    (not
+    (both (ltb (p .rows n .callee) (p .labelCount))
+    (both (eqb (p .labels (p .rows n .callee) .kind) importLabel)
+    (both (eqb (p .labels (p .rows n .callee) .arguments) (p .rows n .count)) (leb (p .rows n .count) operandSlots)))))
+
+-- of a call in any form
+unfoldable pub calleeFault : Program → ℕ → Bool
+calleeFault p n = oneOf (functionFault p n) (importFault p n)
 
 -- "a function's frame size below 3 + parameters"
 unfoldable pub sizeFault : Program → ℕ → Bool
@@ -119,14 +128,14 @@ rowFault p n =
     ∷ addressFault p n
     ∷ [])
 
--- a label row is broken: an unlisted kind, an address above the data's length, a function label on no `function` row, a place past
+-- a label row is broken, but for that of an imported function: an unlisted kind, an address above the data's length, a function label on no `function` row, a place past
 -- the statements, a name longer than its bytes
 unfoldable pub labelFault : Program → Label → Bool
 labelFault p l =
     oneOf (ltb nameBytes (l .size))
     (ifTrue (isData (l .kind)) (ltb (p .dataLength) (l .number))
     (ifTrue (isFunctionLabel (l .kind)) (not (both (ltb (l .number) (p .count)) (eqb (p .rows (l .number) .kind) kind.function)))
-    (ifEq (l .kind) placeLabel (leb (p .count) (l .number)) true)))
+    (ifEq (l .kind) placeLabel (leb (p .count) (l .number)) (not (eqb (l .kind) importLabel)))))
 
 -- a count past its table
 unfoldable pub countFault : Program → Bool

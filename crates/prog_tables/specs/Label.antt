@@ -13,8 +13,10 @@ use Rattle.prog_tables.specs.Statement.{Row, rowAt}
 
 pub record Label : Type 0 where
   pub kind : ℕ
-  -- the address of data, else the statement
+  -- the address of data, the number of an imported name, else the statement
   pub number : ℕ
+  -- of an imported function
+  pub arguments : ℕ
   -- bytes of the name
   pub size : ℕ
   pub name : List ℕ
@@ -25,6 +27,7 @@ labelAt t names n =
     record {
       kind = getD t (n * labelRow) 0;
       number = getD t (n * labelRow + label.number) 0;
+      arguments = getD t (n * labelRow + label.arguments) 0;
       size = getD t (n * labelRow + label.size) 0;
       name = take (getD t (n * labelRow + label.size) 0) (drop (n * nameBytes) names);
     }

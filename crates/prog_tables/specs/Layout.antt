@@ -35,6 +35,14 @@ labelWords = 1024
 abbrev pub nameTable : ℕ
 nameTable = 16384
 
+-- words of an entry of the host's list
+abbrev pub hostRow : ℕ
+hostRow = 2
+
+-- entries of the host's list that are looked at
+abbrev pub hostEntries : ℕ
+hostEntries = 268435456
+
 -- a slot for each argument
 pub slot-each : operandSlots ≡ parameters
 slot-each = refl
@@ -58,13 +66,16 @@ sizesOf =
       «label_row» = labelRow;
       «label_words» = labelWords;
       «name_table» = nameTable;
+      «host_row» = hostRow;
+      «host_entries» = hostEntries;
     }
 
 -- frame words before the parameters: "place to return to, start of the caller's frame [..], auto top at entry"
 abbrev pub frameHead : ℕ
 frameHead = 3
 
--- expression kinds: none, one operand alone, a call; an operator has its number in the word list
+-- expression kinds: none, one operand alone, a call of a function, a call of an imported function; an operator has its number in the
+-- word list
 abbrev pub noExpression : ℕ
 noExpression = 0
 
@@ -73,6 +84,9 @@ plain = 1
 
 abbrev pub callExpression : ℕ
 callExpression = 2
+
+abbrev pub importExpression : ℕ
+importExpression = 3
 
 abbrev pub firstOperator : ℕ
 firstOperator = op.add
@@ -120,6 +134,9 @@ exportedFunction = 4
 abbrev pub placeLabel : ℕ
 placeLabel = 5
 
+abbrev pub importLabel : ℕ
+importLabel = 6
+
 -- the words of rows and the numbers above, as `all_numbers` gives them
 unfoldable pub numbersOf : Numbers
 numbersOf =
@@ -142,7 +159,7 @@ numbersOf =
       «row_next» = row.next;
       «label_kind» = label.kind;
       «label_number» = label.number;
-      «label_unused» = label.unused;
+      «label_arguments» = label.arguments;
       «label_size» = label.size;
       «outline_token» = outline.token;
       «outline_kind» = outline.kind;
@@ -150,6 +167,7 @@ numbersOf =
       «no_expression» = noExpression;
       plain = plain;
       «call_expression» = callExpression;
+      «import_expression» = importExpression;
       «first_operator» = firstOperator;
       «last_operator» = lastOperator;
       «no_operand» = noOperand;
@@ -164,4 +182,5 @@ numbersOf =
       «function_label» = functionLabel;
       «exported_function» = exportedFunction;
       «place_label» = placeLabel;
+      «import_label» = importLabel;
     }

@@ -12,3 +12,4 @@ pub mod Frames
 pub mod Faults
 pub mod WellFormed
 pub mod Canonical
+pub mod Hosts

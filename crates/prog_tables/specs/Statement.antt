@@ -9,7 +9,8 @@ use Rattle.base_prelude.specs.Choice.{ifLt, ifEq, ifTrue}
 use Rattle.lang_kinds.specs.Kinds as kind
 use Rattle.lang_words.specs.Words.{leastOperands}
 use Rattle.prog_tables.specs.StatementRow as row
-use Rattle.prog_tables.specs.Layout.{statementRow, plain, callExpression, firstOperator, lastOperator, operandSlots, noOperand, constantOperand, localOperand, addressOperand, atConstant, atLocal, atAddress}
+use Rattle.prog_tables.specs.Tests.{oneOf}
+use Rattle.prog_tables.specs.Layout.{statementRow, plain, callExpression, importExpression, firstOperator, lastOperator, operandSlots, noOperand, constantOperand, localOperand, addressOperand, atConstant, atLocal, atAddress}
 use Rattle.prog_tables.specs.declared.Operand.{Operand}
 use Rattle.prog_tables.specs.declared.Operand.the-variants.{Constant, Local, Address, AtConstant, AtLocal, AtAddress, Unlisted}
 
@@ -56,19 +57,32 @@ isTest k = ifLt k kind.ifeq false (ltb k kind.else)
 unfoldable pub isOperator : ℕ → Bool
 isOperator e = ifLt e firstOperator false (ltb e (suc lastOperator))
 
--- the row of kind k with expression kind e calls a function
+-- `call` and `tail-call`
+abbrev pub isCallRow : ℕ → Bool
+isCallRow k = oneOf (eqb k kind.call) (eqb k kind.tailCall)
+
+-- the row of kind k with expression kind e calls a function of the source
 unfoldable pub isCall : ℕ → ℕ → Bool
-isCall k e = ifEq k kind.call true (ifEq k kind.tailCall true (ifTrue (hasExpression k) (eqb e callExpression) false))
+isCall k e =
+    ifEq e importExpression false (ifEq k kind.call true (ifEq k kind.tailCall true (ifTrue (hasExpression k) (eqb e callExpression) false)))
+
+-- it calls an imported function
+unfoldable pub isImport : ℕ → ℕ → Bool
+isImport k e = ifEq e importExpression (ifTrue (isCallRow k) true (hasExpression k)) false
+
+-- an expression of kind e is a call
+unfoldable pub isCallExpression : ℕ → Bool
+isCallExpression e = ifEq e callExpression true (eqb e importExpression)
 
 -- operands of an expression of kind e; n arguments where it is a call
 unfoldable pub expressionUses : ℕ → ℕ → ℕ
-expressionUses e n = ifEq e plain 1 (ifEq e callExpression n (ifTrue (isOperator e) (leastOperands e) 0))
+expressionUses e n = ifEq e plain 1 (ifEq e callExpression n (ifEq e importExpression n (ifTrue (isOperator e) (leastOperands e) 0)))
 
 -- operands of a row of kind k with expression kind e; n arguments where it is a call
 unfoldable pub usedBy : ℕ → ℕ → ℕ → ℕ
 usedBy k e n =
     ifTrue (hasExpression k) (expressionUses e n)
-    (ifTrue (isCall k e) n
+    (ifTrue (isCallRow k) n
     (ifTrue (isTest k) 2
     (ifEq k kind.setByte 3
     (ifEq k kind.setWord 3 0))))
@@ -88,7 +102,7 @@ pub record Row : Type 0 where
   -- parameters of a function, own lets of a block
   pub b : ℕ
   pub expr : ℕ
-  -- the `function` row a call goes to; of a block the locals in scope before it
+  -- the `function` row a call goes to, of an imported function its label row; of a block the locals in scope before it
   pub callee : ℕ
   pub count : ℕ
   -- of `set @`

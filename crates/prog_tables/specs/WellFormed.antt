@@ -7,15 +7,15 @@ use Prim.Native.Nat.{ℕ}
 use mathlib.Core.Bool.{Bool, true, false, not}
 use mathlib.Core.List.{List, [], _∷_}
 use lib.Dec.{ltb, leb, eqb}
-use Rattle.base_prelude.specs.Choice.{ifTrue}
+use Rattle.base_prelude.specs.Choice.{ifEq, ifTrue}
 use Rattle.base_prelude.specs.Lists.{sameList}
 use Rattle.base_limits.specs.Limits as limits
 use Rattle.base_limits.specs.Limits.{nameBytes, dataBytes, parameters, locals, blockDepth}
 use Rattle.lang_kinds.specs.Kinds as kind
 use Rattle.lang_words.specs.Words.{numberOf}
-use Rattle.prog_tables.specs.Layout.{functionLabel, placeLabel}
+use Rattle.prog_tables.specs.Layout.{functionLabel, placeLabel, importLabel}
 use Rattle.prog_tables.specs.Tests.{both, oneOf, given, all, allOf, allBelow, someBelow}
-use Rattle.prog_tables.specs.Statement.{Row, hasExpression, isTest, isCall, usedBy}
+use Rattle.prog_tables.specs.Statement.{Row, hasExpression, isTest, isCall, isImport, usedBy}
 use Rattle.prog_tables.specs.Label.{Label, isData, isFunctionLabel}
 use Rattle.prog_tables.specs.Program.{Program}
 use Rattle.prog_tables.specs.Nesting.{stands, allClosed, hasTarget, targetOf, depthOf, followsJump}
@@ -50,8 +50,8 @@ jumps p n =
     ∷ []))
 
 -- "`call` and `tail-call` take a function label with its parameter count."
-unfoldable pub calls : Program → ℕ → Bool
-calls p n =
+unfoldable pub functionCalls : Program → ℕ → Bool
+functionCalls p n =
     given (isCall (p .rows n .kind) (p .rows n .expr))
     (all
     (ltb (p .rows n .callee) (p .count)
@@ -60,6 +60,20 @@ calls p n =
     ∷ leb (p .rows n .count) parameters
     ∷ labelled (p .labels) (p .labelCount) isFunctionLabel (p .rows n .callee)
     ∷ []))
+
+-- the same of an imported function, "with its argument count" (02, 3)
+unfoldable pub importCalls : Program → ℕ → Bool
+importCalls p n =
+    given (isImport (p .rows n .kind) (p .rows n .expr))
+    (all
+    (ltb (p .rows n .callee) (p .labelCount)
+    ∷ eqb (p .labels (p .rows n .callee) .kind) importLabel
+    ∷ eqb (p .labels (p .rows n .callee) .arguments) (p .rows n .count)
+    ∷ leb (p .rows n .count) parameters
+    ∷ []))
+
+unfoldable pub calls : Program → ℕ → Bool
+calls p n = both (functionCalls p n) (importCalls p n)
 
 -- exports: "An export stands before the first operand or target that means its label", its definition is the first behind it, and no
 -- function holds one; so a forward call, to a function that stands behind it, is by a label that is not exported
@@ -136,13 +150,14 @@ rowTests p n =
 -- ---- labels
 
 -- "A label names a data definition [..] in data, a function in functions, or a statement inside a function"; that of an `else
--- if..` line "names the jump", not the test behind it
+-- if..` line "names the jump", not the test behind it; an imported name has "an argument count of 0 to 8" (02, 3)
 unfoldable pub names : Program → Label → Bool
 names p l =
     ifTrue (isData (l .kind)) (leb (l .number) (p .dataLength))
+    (ifEq (l .kind) importLabel (leb (l .arguments) parameters)
     (both (ltb (l .number) (p .count))
     (ifTrue (isFunctionLabel (l .kind)) (eqb (p .rows (l .number) .kind) kind.function)
-    (all (eqb (l .kind) placeLabel ∷ not (eqb (p .rows (l .number) .kind) kind.function) ∷ not (followsJump (p .rows) (l .number)) ∷ []))))
+    (all (eqb (l .kind) placeLabel ∷ not (eqb (p .rows (l .number) .kind) kind.function) ∷ not (followsJump (p .rows) (l .number)) ∷ [])))))
 
 -- "a name 64 decoded bytes", "none empty or reserved"
 unfoldable pub nameGood : Label → Bool

@@ -7,7 +7,9 @@ ghost use Prim.Native.Nat.{_+_, _≤_, _<_};
 ghost use lib.ListN.{length, getD};
 ghost use Rattle.prog_tables.specs.Layout.{statementRow, operandSlots, sizesOf, numbersOf};
 ghost use Rattle.prog_tables.specs.Places.{placeOf, kindFrom, funcFrom, aFrom, bFrom, exprFrom, addressKind, addressPlace, firstPlace, secondPlace, thirdPlace, slotPlace, slotAt, tokenIn, nextIn};
-ghost use Rattle.prog_tables.specs.Statement.{operandOf, hasExpression, isTest, isOperator, isCall, expressionUses, usedBy, operandAt, rowAt};
+ghost use mathlib.Core.List.{[]};
+ghost use Rattle.prog_tables.specs.Label.{labelAt};
+ghost use Rattle.prog_tables.specs.Statement.{operandOf, hasExpression, isTest, isOperator, isCallRow, isCall, isImport, isCallExpression, expressionUses, usedBy, operandAt, rowAt};
 
 // An operand: a constant, a local's word, a data address, or the word at one of these. Unlisted is any other kind.
 pub enum Operand {
@@ -36,6 +38,11 @@ impl Table {
 
     pub const NAME_TABLE: usize = Machine::LABELS * Machine::NAME_BYTES;
 
+    // Words of an entry of the host's list, and the entries that are looked at.
+    pub const HOST_ROW: usize = 2;
+
+    pub const HOST_ENTRIES: usize = 268435456;
+
     // Frame words before the parameters.
     pub const FRAME_HEAD: u32 = 3;
 
@@ -51,6 +58,8 @@ pub struct Sizes {
     pub label_row: usize,
     pub label_words: usize,
     pub name_table: usize,
+    pub host_row: usize,
+    pub host_entries: usize,
 }
 
 // The constants of the type are the numbers of specs/Layout.
@@ -64,6 +73,8 @@ pub fn all_sizes() -> Sizes
         label_row: Table::LABEL_ROW,
         label_words: Table::LABEL_WORDS,
         name_table: Table::NAME_TABLE,
+        host_row: Table::HOST_ROW,
+        host_entries: Table::HOST_ENTRIES,
     }
 }
 
@@ -111,7 +122,7 @@ impl LabelRow {
 
     pub const NUMBER: usize = 1;
 
-    pub const UNUSED: usize = 2;
+    pub const ARGUMENTS: usize = 2;
 
     pub const SIZE: usize = 3;
 }
@@ -127,7 +138,7 @@ impl OutlineLabel {
     pub const NAMES: usize = 2;
 }
 
-// Expression kinds: none, one operand alone, a call; an operator has its number among the words.
+// Expression kinds: none, one operand alone, a call of a function, one of an imported function; an operator has its number among the words.
 pub struct ExpressionKind {}
 
 impl ExpressionKind {
@@ -136,6 +147,8 @@ impl ExpressionKind {
     pub const PLAIN: u32 = 1;
 
     pub const CALL: u32 = 2;
+
+    pub const IMPORT: u32 = 3;
 
     pub const FIRST_OPERATOR: u32 = Word::ADD;
 
@@ -174,6 +187,8 @@ impl LabelKind {
     pub const EXPORTED_FUNCTION: u32 = 4;
 
     pub const PLACE: u32 = 5;
+
+    pub const IMPORT: u32 = 6;
 }
 
 // The words of rows and the numbers in them.
@@ -196,7 +211,7 @@ pub struct Numbers {
     pub row_next: usize,
     pub label_kind: usize,
     pub label_number: usize,
-    pub label_unused: usize,
+    pub label_arguments: usize,
     pub label_size: usize,
     pub outline_token: usize,
     pub outline_kind: usize,
@@ -204,6 +219,7 @@ pub struct Numbers {
     pub no_expression: u32,
     pub plain: u32,
     pub call_expression: u32,
+    pub import_expression: u32,
     pub first_operator: u32,
     pub last_operator: u32,
     pub no_operand: u32,
@@ -218,6 +234,7 @@ pub struct Numbers {
     pub function_label: u32,
     pub exported_function: u32,
     pub place_label: u32,
+    pub import_label: u32,
 }
 
 // The constants are the numbers of specs/Layout, StatementRow, LabelRow and OutlineLabel.
@@ -243,7 +260,7 @@ pub fn all_numbers() -> Numbers
         row_next: StatementRow::NEXT,
         label_kind: LabelRow::KIND,
         label_number: LabelRow::NUMBER,
-        label_unused: LabelRow::UNUSED,
+        label_arguments: LabelRow::ARGUMENTS,
         label_size: LabelRow::SIZE,
         outline_token: OutlineLabel::TOKEN,
         outline_kind: OutlineLabel::KIND,
@@ -251,6 +268,7 @@ pub fn all_numbers() -> Numbers
         no_expression: ExpressionKind::NONE,
         plain: ExpressionKind::PLAIN,
         call_expression: ExpressionKind::CALL,
+        import_expression: ExpressionKind::IMPORT,
         first_operator: ExpressionKind::FIRST_OPERATOR,
         last_operator: ExpressionKind::LAST_OPERATOR,
         no_operand: OperandKind::NONE,
@@ -265,6 +283,7 @@ pub fn all_numbers() -> Numbers
         function_label: LabelKind::FUNCTION,
         exported_function: LabelKind::EXPORTED_FUNCTION,
         place_label: LabelKind::PLACE,
+        import_label: LabelKind::IMPORT,
     }
 }
 
@@ -387,10 +406,46 @@ pub fn is_operator(e: u32) -> bool
     e < Word::PAST_WORDS
 }
 
-// Whether a row calls a function.
+// `call` and `tail-call`.
+pub fn is_call_row(k: u32) -> bool
+    ensures { λ r. ⌜ r ≡ isCallRow k ⌝ }
+{
+    if k == Kind::CALL {
+        return true;
+    }
+    k == Kind::TAIL_CALL
+}
+
+// Whether an expression kind is that of a call.
+pub fn is_call_expression(e: u32) -> bool
+    ensures { λ r. ⌜ r ≡ isCallExpression e ⌝ }
+{
+    if e == ExpressionKind::CALL {
+        return true;
+    }
+    e == ExpressionKind::IMPORT
+}
+
+// Whether a row calls an imported function.
+pub fn is_import(k: u32, e: u32) -> bool
+    ensures { λ r. ⌜ r ≡ isImport k e ⌝ }
+{
+    if e == ExpressionKind::IMPORT {
+        if is_call_row(k) {
+            return true;
+        }
+        return has_expression(k);
+    }
+    false
+}
+
+// Whether a row calls a function of the source.
 pub fn is_call(k: u32, e: u32) -> bool
     ensures { λ r. ⌜ r ≡ isCall k e ⌝ }
 {
+    if e == ExpressionKind::IMPORT {
+        return false;
+    }
     if k == Kind::CALL {
         return true;
     }
@@ -411,6 +466,9 @@ pub fn expression_uses(e: u32, n: u32) -> u32
         return 1;
     }
     if e == ExpressionKind::CALL {
+        return n;
+    }
+    if e == ExpressionKind::IMPORT {
         return n;
     }
     if is_operator(e) {
@@ -435,7 +493,7 @@ pub fn used_by(k: u32, e: u32, n: u32) -> u32
     if has_expression(k) {
         return expression_uses(e, n);
     }
-    if is_call(k, e) {
+    if is_call_row(k) {
         return n;
     }
     if is_test(k) {
@@ -484,6 +542,29 @@ pub fn slot_at(t: &[u32], n: u32, i: u32) -> Operand
     ensures { λ r. ⌜ r ≡ slotAt (now (t .entry)) n i ⌝ }
 {
     operand_at(t, slot_place(n, i))
+}
+
+// ---- label rows
+
+// The kind of a label row.
+pub fn label_kind_at(l: &[u32], n: u32) -> u32
+    ensures { λ r. ⌜ r ≡ labelAt (now (l .entry)) [] n .kind ⌝ }
+{
+    word_at(l, n as usize * Table::LABEL_ROW)
+}
+
+// The number of a label row.
+pub fn label_number_at(l: &[u32], n: u32) -> u32
+    ensures { λ r. ⌜ r ≡ labelAt (now (l .entry)) [] n .number ⌝ }
+{
+    word_at(l, n as usize * Table::LABEL_ROW + LabelRow::NUMBER)
+}
+
+// The arguments of a label row.
+pub fn label_arguments_at(l: &[u32], n: u32) -> u32
+    ensures { λ r. ⌜ r ≡ labelAt (now (l .entry)) [] n .arguments ⌝ }
+{
+    word_at(l, n as usize * Table::LABEL_ROW + LabelRow::ARGUMENTS)
 }
 
 // ---- rows that are in the table: read without a test

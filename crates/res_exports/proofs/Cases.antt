@@ -5,18 +5,18 @@ use mathlib.Core.Bool.{Bool, true, false}
 use mathlib.Core.List.{List}
 use Prim.Native.Nat.{ℕ, zero, suc, _+_, _-_, _<_, _≤_, min}
 use native.Mathlib.Omega.{arith}
-use lib.Dec.{ltb}
+use lib.Dec.{ltb, eqb}
 use lib.ListN.{length, getD, set}
 use Rattle.base_prelude.specs.Choice.{ifLt, ifEq, ifTrue}
 use Rattle.base_prelude.specs.Fault.{none}
 use Rattle.base_prelude.specs.Walk.{Step, go, stop}
 use Rattle.base_prelude.proofs.Choice.{ifLt-yes, ifLt-no, ifEq-yes, ifEq-no}
-use Rattle.parse_lines.specs.Tokens.{keyAt}
+use Rattle.parse_lines.specs.Tokens.{tokenWord, keyAt}
 use Rattle.parse_lines.specs.declared.Span.{Span}
 use Rattle.prog_tables.specs.Tests.{firstFrom}
 use Rattle.res_scope.specs.Lines.{labelToken}
 use Rattle.res_scope.specs.Names.{labelOf}
-use Rattle.res_exports.specs.Exports.{isDefinition, endsSearch, nowhere, seekOn, sought, carriesLabel, carriedBy, definitionFrom, useFault, missingFault, exportFault, Exported, exported, flagged, judgedBy, exportPart}
+use Rattle.res_exports.specs.Exports.{isDefinition, endsSearch, nowhere, seekOn, sought, carriesLabel, carriedBy, definitionFrom, useFault, missingFault, exportFault, labelAtToken, importUse, importFault, importJudged, Exported, exported, flagged, judgedBy, exportPart}
 use Rattle.res_exports.specs.declared.Seek.{Seek}
 use Rattle.res_exports.specs.declared.Seek.the-variants as seek
 
@@ -92,6 +92,32 @@ module _ (same : ℕ → ℕ → Bool) (t : List ℕ) (n : ℕ) (y : List ℕ) (
     unfolding judgedBy
     export-judged best q x f g a b c = rw (← a, ← b) (ap (λ (z : ℕ). exported z g) c)
 
+module _ (t : List ℕ) (n : ℕ) (y : List ℕ) (l : ℕ) (uses : List ℕ) (i h : ℕ) (e : h ≡ tokenWord t i 7) where
+  pub import-unlisted : (z : ℕ) → h ≡ 0 → z ≡ keyAt t n i 10 → z ≡ importFault t n y l uses i
+  unfolding importFault
+  import-unlisted z g d = d ∙ rw (← e) (sym (ifEq-yes _ _ g))
+
+  pub import-listed : (j z : ℕ) → (h ≡ 0 → ⊥) → j ≡ labelAtToken y l i → z ≡ importUse t n l uses i j → z ≡ importFault t n y l uses i
+  unfolding importFault
+  import-listed j z g f d = d ∙ rw (← e, ← f) (sym (ifEq-no _ _ g))
+
+pub at-is : (y : List ℕ) (l i r : ℕ) → r ≡ firstFrom (λ j. eqb (labelToken y j) i) (l - 0) 0 → r ≡ labelAtToken y l i
+unfolding labelAtToken
+at-is y l i r q = let e : l - 0 ≡ l = omega arith in rw e at q
+
+module _ (t : List ℕ) (n l : ℕ) (uses : List ℕ) (i j : ℕ) where
+  pub import-used : (q z : ℕ) → j < l → q ≡ getD uses j 0 → z ≡ useFault t n i q → z ≡ importUse t n l uses i j
+  unfolding importUse
+  import-used q z h e d = d ∙ rw (← e) (sym (ifLt-yes _ _ h))
+
+  pub import-alone : l ≤ j → none ≡ importUse t n l uses i j
+  unfolding importUse
+  import-alone h = sym (ifLt-no _ _ h)
+
+pub ruleset import-uses = (import-used, import-alone)
+
+pub ruleset importing = (import-unlisted, import-listed)
+
 pub ruleset faulting = (use-none, use-before, use-behind, missing-kind, missing-name, export-found, export-missing)
 
 module _ (f : List ℕ) (l j : ℕ) where
@@ -115,8 +141,13 @@ module _ (same : ℕ → ℕ → Bool) (t : List ℕ) (n : ℕ) (y : List ℕ) (
   unfolding exportPart
   part-export d j x g h e q p = p ∙ rw (← e, ← q) (sym (ifEq-yes _ _ h))
 
-  pub part-other : (k ≡ 27 → ⊥) → exported best f ≡ exportPart same t n y l uses u k (exported best f)
-  unfolding exportPart
-  part-other h = sym (ifEq-no _ _ h)
+  pub part-import : (q x : ℕ) → (k ≡ 27 → ⊥) → k ≡ 36 → q ≡ importFault t n y l uses (u .word + 1) → x ≡ min best q
+      → exported x f ≡ exportPart same t n y l uses u k (exported best f)
+  unfolding exportPart importJudged
+  part-import q x h g e p = rw (← e) (ap (λ (z : ℕ). exported z f) p) ∙ sym (ifEq-no _ _ h ∙ ifEq-yes _ _ g)
 
-pub ruleset exporting = (part-export, part-other)
+  pub part-other : (k ≡ 27 → ⊥) → (k ≡ 36 → ⊥) → exported best f ≡ exportPart same t n y l uses u k (exported best f)
+  unfolding exportPart
+  part-other h g = sym (ifEq-no _ _ h ∙ ifEq-no _ _ g)
+
+pub ruleset exporting = (part-export, part-import, part-other)

@@ -15,7 +15,7 @@ use Rattle.base_prelude.specs.Choice.{pick, ifLt, ifEq}
 use Rattle.base_prelude.specs.Fault.{none}
 use Rattle.base_prelude.specs.Lists.{zeros, isAmong}
 use Rattle.base_prelude.specs.Walk.{Step, go, stop, walk}
-use Rattle.base_prelude.proofs.Choice.{ifLt-yes, ifLt-no, ifEq-yes, ifEq-no}
+use Rattle.base_prelude.proofs.Choice.{either-eq, ifLt-yes, ifLt-no, ifEq-yes, ifEq-no}
 use Rattle.base_prelude.proofs.Walk.{walk-go, walk-stop}
 use Rattle.parse_lines.specs.Tokens.{kindAt}
 use Rattle.parse_lines.specs.Units.{unitAt}
@@ -24,7 +24,7 @@ use Rattle.parse_lines.specs.declared.Span.{Span}
 use Rattle.parse_lines.proofs.Scans.{token-within}
 use Rattle.parse_lines.proofs.Edge.{edge-is}
 use Rattle.parse_units.proofs.Bounds.{unit-order}
-use Rattle.res_exports.specs.Exports.{Exported, exported, World, world, exports, flagged, judgedBy, exportPart, exportOn, exportStep, exportsFrom, exportsOf, carriedIn, exportedFrom, isExported}
+use Rattle.res_exports.specs.Exports.{Exported, exported, World, world, exports, flagged, judgedBy, importJudged, exportPart, exportOn, exportStep, exportsFrom, exportsOf, carriedIn, exportedFrom, isExported}
 
 -- ---- one flag
 
@@ -105,8 +105,9 @@ module _ (same : ℕ → ℕ → Bool) (t : List ℕ) (n : ℕ) (y : List ℕ) (
   part-export u k x e = ap (λ (z : Exported). z .flags) (ifEq-yes _ _ e)
 
   part-other : (u : Span) (k : ℕ) (x : Exported) → (k ≡ 27 → ⊥) → exportPart same t n y l uses u k x .flags ≡ x .flags
-  unfolding exportPart
-  part-other u k x d = ap (λ (z : Exported). z .flags) (ifEq-no _ _ d)
+  unfolding exportPart importJudged
+  part-other u k x d =
+      ap (λ (z : Exported). z .flags) (ifEq-no _ _ d) ∙ either-eq (λ (z : Exported). z .flags ≡ x .flags) k 36 _ _ (λ _. refl) (λ _. refl)
 
   step-edge : (x : World) → kindOf (x .state .at) ≡ 0 → step x ≡ stop (exported (x .state .best) (x .flags))
   unfolding exportStep exportOn

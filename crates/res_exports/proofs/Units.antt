@@ -18,7 +18,7 @@ use Rattle.parse_lines.specs.declared.Span.{Span}
 use Rattle.parse_units.proofs.Bounds.{unit-order, unit-near, unit-next, line-some}
 use Rattle.res_exports.specs.Fits.{UnitFits}
 use Rattle.res_exports.proofs.Lists.{ends-by}
-use Rattle.res_exports.specs.Exports.{isDefinition, endsSearch, nowhere, seekOn, seekStep, sought, definitionFrom, Exported, exported, World, world, exports, flagged, judgedBy, exportPart, exportOn, exportStep, going, exportsFrom, exportsOf}
+use Rattle.res_exports.specs.Exports.{isDefinition, endsSearch, nowhere, seekOn, seekStep, sought, definitionFrom, Exported, exported, World, world, exports, flagged, judgedBy, importJudged, exportPart, exportOn, exportStep, going, exportsFrom, exportsOf}
 use Rattle.res_exports.specs.declared.Exports.{Exports}
 use Rattle.res_exports.specs.declared.Seek.{Seek}
 use Rattle.res_exports.specs.declared.Seek.the-variants as seek
@@ -111,9 +111,10 @@ flag-long l j f =
 
 module _ (same : ℕ → ℕ → Bool) (t : List ℕ) (n : ℕ) (y : List ℕ) (l : ℕ) (uses : List ℕ) where
   part-long : (u : Span) (k : ℕ) (x : Exported) → length (exportPart same t n y l uses u k x .flags) ≡ length (x .flags)
-  unfolding exportPart judgedBy
+  unfolding exportPart judgedBy importJudged
   part-long u k x =
-      either-eq (λ (z : Exported). length (z .flags) ≡ length (x .flags)) k 27 _ _ (λ _. flag-long l _ (x .flags)) (λ _. refl)
+      either-eq (λ (z : Exported). length (z .flags) ≡ length (x .flags)) k 27 _ _ (λ _. flag-long l _ (x .flags))
+      (λ _. either-eq (λ (z : Exported). length (z .flags) ≡ length (x .flags)) k 36 _ _ (λ _. refl) (λ _. refl))
 
   module _ (s : Exports) (f : List ℕ) (u : Span) (k : ℕ) (pu : u ≡ unitAt t (s .at)) (pk : k ≡ lineKind t (u .word)) where
     on-is : exportStep same t n y l uses (world s f) ≡ exportOn same t n y l uses u k (world s f)

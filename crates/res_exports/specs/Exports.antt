@@ -1,10 +1,11 @@
 -- "`export n`: the first data definition, group or function after it carries label n, with no `section` between; else 10 if no label is n, 11
 -- if one is. Exporting n twice is as once." "An export stands before the first operand or target that means its label": else 17. Each at the
--- export's name.
+-- export's name. At an import's name: "10 for a name the host didn't list, no label then; 17 also for an import after use" (02, 3).
 -- Assumes nothing.
 use Prim.Native.Nat.{ℕ, zero, suc, _+_, _-_, min}
 use mathlib.Core.Bool.{Bool, true, false}
 use mathlib.Core.List.{List, [], _∷_}
+use lib.Dec.{eqb}
 use lib.ListN.{length, getD, set}
 use Rattle.base_prelude.specs.Choice.{ifLt, ifEq, ifTrue}
 use Rattle.base_prelude.specs.Fault.{none}
@@ -12,7 +13,7 @@ use Rattle.base_prelude.specs.Lists.{zeros, isAmong}
 use Rattle.base_prelude.specs.Walk.{Step, go, stop, walk}
 use Rattle.base_limits.specs.Limits as limits
 use Rattle.lang_kinds.specs.Kinds as kind
-use Rattle.parse_lines.specs.Tokens.{keyAt}
+use Rattle.parse_lines.specs.Tokens.{hostAt, keyAt}
 use Rattle.parse_lines.specs.Units.{unitAt}
 use Rattle.parse_lines.specs.Lines.{lineKind}
 use Rattle.parse_lines.specs.declared.Span.{Span}
@@ -27,7 +28,7 @@ use Rattle.res_exports.specs.declared.Going.the-variants.{On, Over}
 
 -- ---- the definition behind an export
 
--- "data definition, group or function": `align` and exports are passed over
+-- "data definition, group or function": `align`, exports and imports are passed over
 abbrev pub definitions : List ℕ
 definitions = kind.byte ∷ kind.word ∷ kind.string ∷ kind.group ∷ kind.function ∷ []
 
@@ -84,7 +85,19 @@ missingFault same t n y l i = ifLt (labelOf same y l i) l (keyAt t n i 11) (keyA
 unfoldable pub exportFault : (ℕ → ℕ → Bool) → List ℕ → ℕ → List ℕ → ℕ → List ℕ → ℕ → ℕ → ℕ
 exportFault same t n y l uses i j = ifLt j l (useFault t n i (getD uses j 0)) (missingFault same t n y l i)
 
--- ---- all exports
+-- the label that stands at token i; l for none
+unfoldable pub labelAtToken : List ℕ → ℕ → ℕ → ℕ
+labelAtToken y l i = firstFrom (λ j. eqb (labelToken y j) i) l 0
+
+-- the import whose name is token i and whose label is j: "17 also for an import after use, at its name"
+unfoldable pub importUse : List ℕ → ℕ → ℕ → List ℕ → ℕ → ℕ → ℕ
+importUse t n l uses i j = ifLt j l (useFault t n i (getD uses j 0)) none
+
+-- "10 for a name the host didn't list, no label then"
+unfoldable pub importFault : List ℕ → ℕ → List ℕ → ℕ → List ℕ → ℕ → ℕ
+importFault t n y l uses i = ifEq (hostAt t i) 0 (keyAt t n i 10) (importUse t n l uses i (labelAtToken y l i))
+
+-- ---- all exports and imports
 
 -- the least fault, and for each label 1 where it is exported
 pub record Exported : Type 0 where
@@ -112,10 +125,15 @@ flagged l j flags = ifLt j l (ifLt j (length flags) (set flags j 1) flags) flags
 unfoldable pub judgedBy : (ℕ → ℕ → Bool) → List ℕ → ℕ → List ℕ → ℕ → List ℕ → ℕ → ℕ → Exported → Exported
 judgedBy same t n y l uses i j x = exported (min (x .fault) (exportFault same t n y l uses i j)) (flagged l j (x .flags))
 
+unfoldable pub importJudged : List ℕ → ℕ → List ℕ → ℕ → List ℕ → ℕ → Exported → Exported
+importJudged t n y l uses i x = exported (min (x .fault) (importFault t n y l uses i)) (x .flags)
+
 -- the line whose unit is u
 unfoldable pub exportPart : (ℕ → ℕ → Bool) → List ℕ → ℕ → List ℕ → ℕ → List ℕ → Span → ℕ → Exported → Exported
 exportPart same t n y l uses u k x =
-    ifEq k kind.export (judgedBy same t n y l uses (u .word + 1) (carriedBy same y l (definitionFrom t (u .next) .first) (definitionFrom t (u .next) .word) (u .word + 1)) x) x
+    ifEq k kind.export
+    (judgedBy same t n y l uses (u .word + 1) (carriedBy same y l (definitionFrom t (u .next) .first) (definitionFrom t (u .next) .word) (u .word + 1)) x)
+    (ifEq k kind.importLine (importJudged t n y l uses (u .word + 1) x) x)
 
 unfoldable pub exportOn : (ℕ → ℕ → Bool) → List ℕ → ℕ → List ℕ → ℕ → List ℕ → Span → ℕ → World → Step World Exported
 exportOn same t n y l uses u k x =
@@ -136,7 +154,7 @@ going (Over best) flags = stop (exported best flags)
 unfoldable pub exportsFrom : (ℕ → ℕ → Bool) → List ℕ → ℕ → List ℕ → ℕ → List ℕ → World → Exported
 exportsFrom same t n y l uses x = walk (exportStep same t n y l uses) (exported none []) (suc (length t)) x
 
--- the exports of the tokens t of a source of n bytes with l label rows y; `uses` has the first token that means each label
+-- the exports and imports of the tokens t of a source of n bytes with l label rows y; `uses` has the first token that means each label
 unfoldable pub exportsOf : (ℕ → ℕ → Bool) → List ℕ → ℕ → List ℕ → ℕ → List ℕ → Exported
 exportsOf same t n y l uses = exportsFrom same t n y l uses (world (exports 0 none) (zeros limits.labels))
 

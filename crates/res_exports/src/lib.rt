@@ -1,14 +1,16 @@
-// Exports: which label each one exports, and the refusals 10, 11 and 17 at its name.
+// Exports: which label each one exports, and the refusals 10, 11 and 17 at its name; those at an import's name.
 use lang_kinds::Kind;
 use parse_lines::Span;
 ghost use mathlib.Core.Path.{_≡_};
 ghost use Rattle.base_limits.specs.Limits as limits;
 ghost use Prim.Native.Nat.{_+_, _-_, _≤_, _<_, min};
+ghost use lib.Dec.{eqb};
 ghost use lib.ListN.{length, getD};
+ghost use Rattle.res_scope.specs.Lines.{labelToken};
 ghost use Rattle.base_prelude.specs.Fault.{none};
 ghost use Rattle.res_scope.specs.Names.{sameNumber};
 ghost use Rattle.res_exports.specs.Fits.{UnitFits};
-ghost use Rattle.res_exports.specs.Exports.{isDefinition, endsSearch, seekOn, seekStep, sought, definitionFrom, carriesLabel, carriedBy, useFault, missingFault, exportFault, exported, world, flagged, judgedBy, exportPart, exportStep, going, exportsFrom, exportsOf};
+ghost use Rattle.res_exports.specs.Exports.{isDefinition, endsSearch, seekOn, seekStep, sought, definitionFrom, carriesLabel, carriedBy, useFault, missingFault, exportFault, labelAtToken, importUse, importFault, exported, world, flagged, judgedBy, exportPart, exportStep, going, exportsFrom, exportsOf};
 
 // No fault: above every key.
 const NONE: u64 = 1099511627776;
@@ -153,6 +155,45 @@ fn export_fault(t: &[u32], n: u32, y: &[u32], l: u32, uses: &[u32], i: u32, j: u
     missing_fault(t, n, y, l, i)
 }
 
+fn is_label_at(y: &[u32], i: u32, j: u32) -> bool
+    ensures { λ r. ⌜ r ≡ eqb (labelToken (now (y .entry)) j) i ⌝ }
+{
+    res_scope::label_token(y, j) == i
+}
+
+// The label that stands at token i, l for none.
+fn label_at(y: &[u32], l: u32, i: u32) -> u32
+    ensures { λ r. ⌜ r ≡ labelAtToken (now (y .entry)) l i ⌝ }
+{
+    let mut j: u32 = 0;
+    while j < l {
+        if is_label_at(y, i, j) {
+            return j;
+        }
+        j += 1;
+    }
+    j
+}
+
+fn import_use(t: &[u32], n: u32, l: u32, uses: &[u32], i: u32, j: u32) -> u64
+    ensures { λ r. ⌜ r ≡ importUse (now (t .entry)) n l (now (uses .entry)) i j ⌝ }
+{
+    let q = prog_tables::word_at(uses, j as usize);
+    if j < l {
+        return use_fault(t, n, i, q);
+    }
+    NONE
+}
+
+fn import_fault(t: &[u32], n: u32, y: &[u32], l: u32, uses: &[u32], i: u32) -> u64
+    ensures { λ r. ⌜ r ≡ importFault (now (t .entry)) n (now (y .entry)) l (now (uses .entry)) i ⌝ }
+{
+    if parse_lines::host_at(t, i) == 0 {
+        return parse_lines::key_at(t, n, i, 10);
+    }
+    import_use(t, n, l, uses, i, label_at(y, l, i))
+}
+
 fn flag(flags: &mut [u32], l: u32, j: u32)
     ensures { λ _. ⌜ now (flags .exit) ≡ flagged l j (now (flags .entry)) ⌝ }
 {
@@ -200,6 +241,9 @@ fn export_part(
         let d = find_definition(t, u.next);
         let j = carried_by(t, y, l, d.first, d.word, u.word + 1);
         return judge_export(t, n, y, l, uses, flags, u.word + 1, j, best);
+    }
+    if k == Kind::IMPORT_LINE {
+        return base_prelude::least(best, import_fault(t, n, y, l, uses, u.word + 1));
     }
     best
 }
@@ -253,7 +297,7 @@ fn exports_from(
     }
 }
 
-// The exports of the tokens t of a source of n bytes: the least fault, and in `flags` 1 for each label that is exported.
+// The exports and imports of the tokens t of a source of n bytes: the least fault, and in `flags` 1 for each label that is exported.
 pub fn judge_exports(t: &[u32], n: u32, y: &[u32], l: u32, uses: &[u32], flags: &mut [u32]) -> u64
     requires { ⌜ (length (now t) ≡ limits.tokenWords) × (length (now flags) ≡ limits.labels) ⌝ }
     ensures { λ r. ⌜ exported r (now (flags .exit)) ≡ exportsOf (sameNumber (now (t .entry))) (now (t .entry)) n (now (y .entry)) l (now (uses .entry)) ⌝ }

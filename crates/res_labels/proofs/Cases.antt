@@ -3,7 +3,7 @@
 use mathlib.Core.Path.{_≡_, refl, sym, _∙_, ap, ap₂, subst}
 use mathlib.Core.Bool.{false}
 use mathlib.Core.List.{List, [], _∷_, _++_}
-use Prim.Native.Nat.{ℕ, zero, suc, _+_, _*_, _-_, _≤_, _<_}
+use Prim.Native.Nat.{ℕ, zero, suc, _+_, _*_, _-_, _/_, _%_, _≤_, _<_}
 use native.Mathlib.Numerals.{add-one, add-two, add-three}
 use native.Mathlib.Omega.{arith}
 use lib.ListN.{length, getD, take, drop, set, length-append, length-take, length-drop, List·getD-eq-default}
@@ -16,7 +16,7 @@ use Rattle.lex_spelling.specs.Text.{spelledAt, nameAt}
 use Rattle.parse_lines.specs.Tokens.{tokenWord}
 use Rattle.res_data.specs.Sizes.{addressOf}
 use Rattle.res_data.proofs.Cases.{overlay-long}
-use Rattle.res_labels.specs.Labelling.{outlineWord, flagAt, finalNumber, labelWords, putWords, labelsFrom, labelTable, labelName, putName, namesFrom, nameTable}
+use Rattle.res_labels.specs.Labelling.{outlineWord, flagAt, finalNumber, finalArguments, labelWords, putWords, labelsFrom, labelTable, labelName, putName, namesFrom, nameTable}
 
 pub word-here : (y : List ℕ) (j f : ℕ) → getD y (j * 4 + f) 0 ≡ outlineWord y j f
 unfolding outlineWord
@@ -41,21 +41,32 @@ module _ (w : Width) (t : List ℕ) (kind number : ℕ) where
   unfolding finalNumber
   number-data a e p = search tests
 
-  pub number-none : (kind ≡ 1 → ⊥) → number < 1 → 0 ≡ finalNumber w t kind number
+  pub number-import : (a : ℕ) → (kind ≡ 1 → ⊥) → kind ≡ 6 → a ≡ number - 1 → a / 16 ≡ finalNumber w t kind number
   unfolding finalNumber
-  number-none e h = let z : 0 ≡ number - 1 = omega arith in search tests
+  number-import a e h p = rw (← p) (search tests)
 
-  pub number-less : (kind ≡ 1 → ⊥) → 1 ≤ number → number - 1 ≡ finalNumber w t kind number
+  pub number-less : (a : ℕ) → (kind ≡ 1 → ⊥) → (kind ≡ 6 → ⊥) → a ≡ number - 1 → a ≡ finalNumber w t kind number
   unfolding finalNumber
-  number-less e h = search tests
+  number-less a e h p = search tests
 
-pub ruleset numbering = (number-data, number-none, number-less)
+pub ruleset numbering = (number-data, number-import, number-less)
 
-pub words-put : (out : List ℕ) (j kind number size : ℕ) → j * 4 + 4 ≤ length out
-    → set (set (set (set out (j * 4) kind) (j * 4 + 1) number) (j * 4 + 2) 0) (j * 4 + 3) size ≡ putWords out j (kind ∷ number ∷ 0 ∷ size ∷ [])
+module _ (kind number : ℕ) where
+  pub arguments-import : (a : ℕ) → kind ≡ 6 → a ≡ number - 1 → a % 16 ≡ finalArguments kind number
+  unfolding finalArguments
+  arguments-import a h p = rw (← p) (search tests)
+
+  pub arguments-none : (kind ≡ 6 → ⊥) → 0 ≡ finalArguments kind number
+  unfolding finalArguments
+  arguments-none h = search tests
+
+pub ruleset arguing = (arguments-import, arguments-none)
+
+pub words-put : (out : List ℕ) (j kind number arguments size : ℕ) → j * 4 + 4 ≤ length out
+    → set (set (set (set out (j * 4) kind) (j * 4 + 1) number) (j * 4 + 2) arguments) (j * 4 + 3) size ≡ putWords out j (kind ∷ number ∷ arguments ∷ size ∷ [])
 unfolding putWords
-words-put out j kind number size h =
-    rw (add-one, add-two, add-three) (sets-eq (kind ∷ number ∷ 0 ∷ size ∷ []) out (j * 4) (omega arith))
+words-put out j kind number arguments size h =
+    rw (add-one, add-two, add-three) (sets-eq (kind ∷ number ∷ arguments ∷ size ∷ []) out (j * 4) (omega arith))
 
 pub words-long : (w : Width) (t y flags : List ℕ) (j : ℕ) (out : List ℕ) → j * 4 + 4 ≤ length out → length (putWords out j (labelWords w t y flags j)) ≡ length out
 unfolding putWords labelWords

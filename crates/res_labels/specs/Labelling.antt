@@ -9,7 +9,8 @@ use Rattle.base_limits.specs.Limits as limits
 use Rattle.base_limits.specs.declared.Width.{Width}
 use Rattle.lang_kinds.specs.TokenRow as field
 use Rattle.prog_tables.specs.OutlineLabel as outline
-use Rattle.prog_tables.specs.Layout.{labelRow, dataLabel, exportedData, functionLabel, exportedFunction}
+use Rattle.prog_tables.specs.Layout.{labelRow, dataLabel, exportedData, functionLabel, exportedFunction, importLabel}
+use Rattle.prog_tables.specs.Hosts.{markNumber, markArguments}
 use Rattle.lex_spelling.specs.Text.{nameAt}
 use Rattle.parse_lines.specs.Tokens.{tokenWord, valueAt}
 use Rattle.res_data.specs.Sizes.{addressOf}
@@ -22,23 +23,30 @@ outlineWord y j f = getD y (j * labelRow + f) 0
 unfoldable pub flagAt : List ℕ → ℕ → ℕ
 flagAt flags j = getD flags j 0
 
--- 1 data, 3 function, 5 place; exported data is 2, an exported function 4
+-- 1 data, 3 function, 5 place, 6 import; exported data is 2, an exported function 4
 unfoldable pub exportedKind : ℕ → ℕ
 exportedKind kind = ifEq kind dataLabel exportedData (ifEq kind functionLabel exportedFunction kind)
 
 unfoldable pub finalKind : ℕ → ℕ → ℕ
 finalKind kind flag = ifEq flag 1 (exportedKind kind) kind
 
--- "address or statement number from 0": row n + 1 of the outline is statement n
+-- "address or statement number from 0": row n + 1 of the outline is statement n; of an import "the name's number" (02, 3)
 unfoldable pub finalNumber : Width → List ℕ → ℕ → ℕ → ℕ
-finalNumber w t kind number = ifEq kind dataLabel (addressOf w t number) (number - 1)
+finalNumber w t kind number =
+    ifEq kind dataLabel (addressOf w t number)
+    (ifEq kind importLabel (markNumber number)
+    (number - 1))
 
--- the row of label j: kind, number, 0, bytes of the name
+-- of an import "the argument count"
+unfoldable pub finalArguments : ℕ → ℕ → ℕ
+finalArguments kind number = ifEq kind importLabel (markArguments number) 0
+
+-- the row of label j: kind, number, argument count, bytes of the name
 unfoldable pub labelWords : Width → List ℕ → List ℕ → List ℕ → ℕ → List ℕ
 labelWords w t y flags j =
     finalKind (outlineWord y j outline.kind) (flagAt flags j)
     ∷ finalNumber w t (outlineWord y j outline.kind) (outlineWord y j outline.names)
-    ∷ 0
+    ∷ finalArguments (outlineWord y j outline.kind) (outlineWord y j outline.names)
     ∷ valueAt t (outlineWord y j outline.token)
     ∷ []
 

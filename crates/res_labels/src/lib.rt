@@ -10,9 +10,9 @@ ghost use mathlib.Core.Path.{_≡_};
 ghost use Rattle.prog_tables.specs.Layout.{labelRow};
 ghost use Rattle.base_limits.specs.Limits as limits;
 ghost use mathlib.Core.List.{[], _∷_};
-ghost use Prim.Native.Nat.{_+_, _*_, _≤_, _<_};
+ghost use Prim.Native.Nat.{_+_, _-_, _*_, _≤_, _<_};
 ghost use lib.ListN.{length};
-ghost use Rattle.res_labels.specs.Labelling.{outlineWord, flagAt, exportedKind, finalKind, finalNumber, labelWords, putWords, labelTable, labelName, putName, nameTable};
+ghost use Rattle.res_labels.specs.Labelling.{outlineWord, flagAt, exportedKind, finalKind, finalNumber, finalArguments, labelWords, putWords, labelTable, labelName, putName, nameTable};
 
 // Word f of label row j of the outline, 0 behind the table.
 fn outline_word(y: &[u32], j: u32, f: usize) -> u32
@@ -51,6 +51,15 @@ fn final_kind(kind: u32, flag: u32) -> u32
     kind
 }
 
+fn less_one(n: u32) -> u32
+    ensures { λ r. ⌜ r ≡ n - 1 ⌝ }
+{
+    if n < 1 {
+        return 0;
+    }
+    n - 1
+}
+
 fn final_number(w: Width, t: &[u32], kind: u32, number: u32) -> u32
     requires { ⌜ length (now t) ≡ limits.tokenWords ⌝ }
     ensures { λ r. ⌜ r ≡ finalNumber w (now (t .entry)) kind number ⌝ }
@@ -58,20 +67,29 @@ fn final_number(w: Width, t: &[u32], kind: u32, number: u32) -> u32
     if kind == LabelKind::DATA {
         return res_data::address_of(w, t, number);
     }
-    if number < 1 {
-        return 0;
+    if kind == LabelKind::IMPORT {
+        return less_one(number) / 16;
     }
-    number - 1
+    less_one(number)
 }
 
-fn put_words(out: &mut [u32], j: u32, kind: u32, number: u32, size: u32)
+fn final_arguments(kind: u32, number: u32) -> u32
+    ensures { λ r. ⌜ r ≡ finalArguments kind number ⌝ }
+{
+    if kind == LabelKind::IMPORT {
+        return less_one(number) % 16;
+    }
+    0
+}
+
+fn put_words(out: &mut [u32], j: u32, kind: u32, number: u32, arguments: u32, size: u32)
     requires { ⌜ j * labelRow + labelRow ≤ length (now out) ⌝ }
-    ensures { λ _. ⌜ now (out .exit) ≡ putWords (now (out .entry)) j (kind ∷ number ∷ 0 ∷ size ∷ []) ⌝ }
+    ensures { λ _. ⌜ now (out .exit) ≡ putWords (now (out .entry)) j (kind ∷ number ∷ arguments ∷ size ∷ []) ⌝ }
 {
     let at = j as usize * Table::LABEL_ROW;
     out[at] = kind;
     out[at + LabelRow::NUMBER] = number;
-    out[at + LabelRow::UNUSED] = 0;
+    out[at + LabelRow::ARGUMENTS] = arguments;
     out[at + LabelRow::SIZE] = size;
 }
 
@@ -80,9 +98,18 @@ fn write_row(w: Width, t: &[u32], y: &[u32], flags: &[u32], j: u32, out: &mut [u
     ensures { λ _. ⌜ now (out .exit) ≡ putWords (now (out .entry)) j (labelWords w (now (t .entry)) (now (y .entry)) (now (flags .entry)) j) ⌝ }
 {
     let kind = outline_word(y, j, OutlineLabel::KIND);
-    let number = final_number(w, t, kind, outline_word(y, j, OutlineLabel::NAMES));
+    let names = outline_word(y, j, OutlineLabel::NAMES);
+    let number = final_number(w, t, kind, names);
+    let arguments = final_arguments(kind, names);
     let size = parse_lines::value_at(t, outline_word(y, j, OutlineLabel::TOKEN));
-    put_words(out, j, final_kind(kind, flag_at(flags, j)), number, size);
+    put_words(
+        out,
+        j,
+        final_kind(kind, flag_at(flags, j)),
+        number,
+        arguments,
+        size,
+    );
 }
 
 fn write_rows(w: Width, t: &[u32], y: &[u32], flags: &[u32], l: u32, out: &mut [u32])

@@ -14,13 +14,13 @@ use Rattle.base_prelude.proofs.Choice.{ifLt-yes, ifLt-no, ifEq-yes, ifEq-no}
 use Rattle.parse_lines.specs.Tokens.{tokenWord, keyAt}
 use Rattle.prog_tables.specs.Tests.{firstFrom}
 use Rattle.prog_tables.specs.Statement.{Row, rowAt}
-use Rattle.res_scope.specs.Lines.{firstToken, endToken, labelToken, labelKind, labelStatement}
+use Rattle.res_scope.specs.Lines.{firstToken, endToken, labelToken, labelKind, labelStatement, labelArguments}
 use Rattle.res_scope.specs.Names.{letHere, parameterOf, labelOf, meaningOf}
 use Rattle.res_scope.specs.Parts.{partsOf}
 use Rattle.res_scope.specs.declared.Meaning.{Meaning}
 use Rattle.res_scope.specs.declared.Meaning.the-variants.{Let, Parameter, Label, Unknown}
 use Rattle.res_scope.specs.declared.Parts.{Parts}
-use Rattle.res_names.specs.Naming.{dataFault, valueFault, setFault, functionFault, calleeFault, placeFault, gotoFault, parameterTaken, localTaken, letFault, parameterFault, labelFault, Naming, naming, judged, markUse, useOf, valuePart, operandsPart, calleePart, setPart, gotoPart, parametersFault, declaredFault, headPart, bodyPart, statementPart}
+use Rattle.res_names.specs.Naming.{dataFault, valueFault, setFault, importFault, functionFault, calleeFault, placeFault, gotoFault, parameterTaken, localTaken, letFault, parameterFault, labelFault, Naming, naming, judged, markUse, useOf, valuePart, operandsPart, calleePart, setPart, gotoPart, parametersFault, declaredFault, headPart, bodyPart, statementPart}
 
 -- ---- faults
 
@@ -71,9 +71,25 @@ pub ruleset values = (data-yes, data-no, value-let, value-parameter, value-label
 
 pub ruleset sets = (set-let, set-parameter, set-label, set-unknown)
 
+module _ (t : List ℕ) (n : ℕ) (y : List ℕ) (i count j x : ℕ) (e : x ≡ labelKind y j) where
+  pub import-not : (q : ℕ) → (x ≡ 6 → ⊥) → q ≡ keyAt t n i 11 → q ≡ importFault t n y i count j
+  unfolding importFault
+  import-not q h p = p ∙ rw (← e) (sym (ifEq-no _ _ h))
+
+  module _ (a : ℕ) (h : x ≡ 6) (g : a ≡ labelArguments y j) where
+    pub import-fits : a ≡ count → none ≡ importFault t n y i count j
+    unfolding importFault
+    import-fits f = rw (← e, ← g) (sym (ifEq-yes _ _ h ∙ ifEq-yes _ _ f))
+
+    pub import-count : (q : ℕ) → (a ≡ count → ⊥) → q ≡ keyAt t n i 13 → q ≡ importFault t n y i count j
+    unfolding importFault
+    import-count q f p = p ∙ rw (← e, ← g) (sym (ifEq-yes _ _ h ∙ ifEq-no _ _ f))
+
+pub ruleset imports = (import-not, import-fits, import-count)
+
 module _ (t : List ℕ) (n : ℕ) (k y : List ℕ) (i : ℕ) where
   module _ (count j x : ℕ) (e : x ≡ labelKind y j) where
-    pub function-not : (q : ℕ) → (x ≡ 3 → ⊥) → q ≡ keyAt t n i 11 → q ≡ functionFault t n k y i count j
+    pub function-not : (q : ℕ) → (x ≡ 3 → ⊥) → q ≡ importFault t n y i count j → q ≡ functionFault t n k y i count j
     unfolding functionFault
     function-not q h p = p ∙ rw (← e) (sym (ifEq-no _ _ h))
 

@@ -12,10 +12,10 @@ use Rattle.base_limits.specs.Limits as limits
 use Rattle.lang_kinds.specs.Kinds as kind
 use Rattle.lang_kinds.specs.Tokens as token
 use Rattle.parse_lines.specs.Tokens.{kindAt, keyAt}
-use Rattle.prog_tables.specs.Layout.{dataLabel, functionLabel, placeLabel}
+use Rattle.prog_tables.specs.Layout.{dataLabel, functionLabel, placeLabel, importLabel}
 use Rattle.prog_tables.specs.Tests.{firstFrom}
 use Rattle.prog_tables.specs.Statement.{Row, rowAt}
-use Rattle.res_scope.specs.Lines.{firstToken, endToken, labelToken, labelKind, labelStatement}
+use Rattle.res_scope.specs.Lines.{firstToken, endToken, labelToken, labelKind, labelStatement, labelArguments}
 use Rattle.res_scope.specs.Names.{letHere, parameterOf, labelOf, meaningOf}
 use Rattle.res_scope.specs.Parts.{noCallee, partsOf}
 use Rattle.res_scope.specs.declared.Meaning.{Meaning}
@@ -41,12 +41,20 @@ setFault t n i (Parameter j) = none
 setFault t n i (Label j) = keyAt t n i 11
 setFault t n i Unknown = keyAt t n i 10
 
--- "`call` and `tail-call` take a function label with its parameter count": label j, with so many arguments
+-- an imported name is called with its argument count: "names in a list that the host lends the check, [..] each with an argument count of 0 to 8.
+-- [..] A call to such a name" (02, 3); label j, with so many arguments
+unfoldable pub importFault : List ℕ → ℕ → List ℕ → ℕ → ℕ → ℕ → ℕ
+importFault t n y i count j =
+    ifEq (labelKind y j) importLabel
+    (ifEq (labelArguments y j) count none (keyAt t n i 13))
+    (keyAt t n i 11)
+
+-- "`call` and `tail-call` take a function label with its parameter count", or an imported name
 unfoldable pub functionFault : List ℕ → ℕ → List ℕ → List ℕ → ℕ → ℕ → ℕ → ℕ
 functionFault t n k y i count j =
     ifEq (labelKind y j) functionLabel
     (ifEq (rowAt k (labelStatement y j) .b) count none (keyAt t n i 13))
-    (keyAt t n i 11)
+    (importFault t n y i count j)
 
 unfoldable pub calleeFault : List ℕ → ℕ → List ℕ → List ℕ → ℕ → ℕ → Meaning → ℕ
 calleeFault t n k y i count (Let m) = keyAt t n i 11

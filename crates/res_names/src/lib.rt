@@ -10,7 +10,7 @@ ghost use Prim.Native.Nat.{_+_, _-_, _≤_, _<_};
 ghost use lib.ListN.{length};
 ghost use Rattle.base_prelude.specs.Fault.{none};
 ghost use Rattle.res_scope.specs.Names.{sameNumber, meaningOf};
-ghost use Rattle.res_names.specs.Naming.{dataFault, valueFault, setFault, functionFault, calleeFault, placeFault, gotoFault, parameterTaken, localTaken, letFault, parameterFault, labelFault, naming, judged, markUse, useOf, valuePart, operandsPart, calleePart, setPart, gotoPart, parametersFault, declaredFault, headPart, bodyPart, statementPart, statementsPart, labelsFault, namesOf};
+ghost use Rattle.res_names.specs.Naming.{dataFault, valueFault, setFault, importFault, functionFault, calleeFault, placeFault, gotoFault, parameterTaken, localTaken, letFault, parameterFault, labelFault, naming, judged, markUse, useOf, valuePart, operandsPart, calleePart, setPart, gotoPart, parametersFault, declaredFault, headPart, bodyPart, statementPart, statementsPart, labelsFault, namesOf};
 
 // No fault: above every key.
 const NONE: u64 = 1099511627776;
@@ -46,6 +46,18 @@ fn set_fault(t: &[u32], n: u32, i: u32, m: Meaning) -> u64
     }
 }
 
+fn import_fault(t: &[u32], n: u32, y: &[u32], i: u32, count: u32, j: u32) -> u64
+    ensures { λ r. ⌜ r ≡ importFault (now (t .entry)) n (now (y .entry)) i count j ⌝ }
+{
+    if res_scope::label_kind(y, j) == LabelKind::IMPORT {
+        if res_scope::label_arguments(y, j) == count {
+            return NONE;
+        }
+        return parse_lines::key_at(t, n, i, 13);
+    }
+    parse_lines::key_at(t, n, i, 11)
+}
+
 fn function_fault(t: &[u32], n: u32, k: &[u32], y: &[u32], i: u32, count: u32, j: u32) -> u64
     ensures { λ r. ⌜ r ≡ functionFault (now (t .entry)) n (now (k .entry)) (now (y .entry)) i count j ⌝ }
 {
@@ -55,7 +67,7 @@ fn function_fault(t: &[u32], n: u32, k: &[u32], y: &[u32], i: u32, count: u32, j
         }
         return parse_lines::key_at(t, n, i, 13);
     }
-    parse_lines::key_at(t, n, i, 11)
+    import_fault(t, n, y, i, count, j)
 }
 
 fn callee_fault(t: &[u32], n: u32, k: &[u32], y: &[u32], i: u32, count: u32, m: Meaning) -> u64

@@ -1,19 +1,20 @@
 -- One law for each way through a function of this crate.
 -- Assumes nothing.
 use mathlib.Core.Path.{_≡_, sym, _∙_}
-use mathlib.Core.Bool.{Bool}
+use mathlib.Core.Bool.{Bool, true, false}
 use mathlib.Core.List.{List}
 use Prim.Native.Nat.{ℕ, _+_, _%_, _<_, _≤_}
 use lib.ListN.{getD}
-use Rattle.base_prelude.proofs.Choice.{ifLt-yes, ifLt-no, ifEq-yes, ifEq-no}
+use Rattle.base_prelude.proofs.Choice.{ifLt-yes, ifLt-no, ifEq-yes, ifEq-no, ifTrue-yes, ifTrue-no}
 use Rattle.parse_lines.specs.Tokens.{tokenWord}
 use Rattle.prog_tables.specs.Statement.{rowAt}
 use Rattle.prog_tables.specs.Frames.{letsBefore, localsAt}
 use Rattle.prog_tables.specs.declared.Operand.{Operand}
 use Rattle.prog_tables.specs.declared.Operand.the-variants.{Unlisted}
+use Rattle.res_scope.specs.Lines.{labelKind}
 use Rattle.res_scope.specs.Names.{meaningOf}
 use Rattle.res_scope.specs.declared.Meaning.{Meaning}
-use Rattle.res_rows.specs.Rows.{localWord, labelTarget, plainOperand, atOperand, constantOperand, tokenOperand, addressConstant, addressOperand, slotOperand, aOf, bOf, calleeOf, addressOf}
+use Rattle.res_rows.specs.Rows.{labelNumber, localWord, labelTarget, calledLabel, calleeTarget, isImported, plainOperand, atOperand, constantOperand, tokenOperand, addressConstant, addressOperand, slotOperand, aOf, bOf, exprOf, calleeOf, addressOf}
 
 module _ (same : ℕ → ℕ → Bool) (t k y : List ℕ) (l : ℕ) (w z : List ℕ) (r : ℕ) where
   module _ (i kind : ℕ) (o : Operand) (e : kind ≡ tokenWord t i 0) where
@@ -67,7 +68,7 @@ module _ (same : ℕ → ℕ → Bool) (t k y : List ℕ) (l : ℕ) (w z : List 
     unfolding calleeOf
     callee-none g h = sym (ifEq-no _ _ g ∙ ifEq-yes _ _ h)
 
-    pub callee-name : (m : Meaning) (x : ℕ) → (kind ≡ 3 → ⊥) → (i ≡ 0 → ⊥) → m ≡ meaningOf same k y l r i → x ≡ labelTarget z m → x ≡ calleeOf same k y l z r kind i
+    pub callee-name : (m : Meaning) (x : ℕ) → (kind ≡ 3 → ⊥) → (i ≡ 0 → ⊥) → m ≡ meaningOf same k y l r i → x ≡ calleeTarget y z m → x ≡ calleeOf same k y l z r kind i
     unfolding calleeOf
     callee-name m x g h d q = q ∙ rw (← d) (sym (ifEq-no _ _ g ∙ ifEq-no _ _ h))
 
@@ -103,3 +104,32 @@ module _ (k : List ℕ) (c r kind : ℕ) where
   b-none g h = sym (ifEq-no _ _ g ∙ ifEq-no _ _ h)
 
 pub ruleset counts = (b-function, b-block, b-none)
+
+-- ---- calls of imported functions
+
+module _ (y z : List ℕ) (j x : ℕ) (e : x ≡ labelKind y j) where
+  pub called-import : x ≡ 6 → j ≡ calledLabel y z j
+  unfolding calledLabel
+  called-import h = rw (← e) (sym (ifEq-yes _ _ h))
+
+  pub called-other : (v : ℕ) → (x ≡ 6 → ⊥) → v ≡ labelNumber z j → v ≡ calledLabel y z j
+  unfolding calledLabel
+  called-other v h q = q ∙ rw (← e) (sym (ifEq-no _ _ h))
+
+pub ruleset calling = (called-import, called-other)
+
+module _ (same : ℕ → ℕ → Bool) (k y : List ℕ) (l r expr i : ℕ) where
+  pub expr-none : i ≡ 0 → expr ≡ exprOf same k y l r expr i
+  unfolding exprOf
+  expr-none h = sym (ifEq-yes _ _ h)
+
+  module _ (m : Meaning) (b : Bool) (h : i ≡ 0 → ⊥) (e : m ≡ meaningOf same k y l r i) (q : b ≡ isImported y m) where
+    pub expr-import : b ≡ true → 3 ≡ exprOf same k y l r expr i
+    unfolding exprOf
+    expr-import d = rw (← e, ← q) (sym (ifEq-no _ _ h ∙ ifTrue-yes _ _ d))
+
+    pub expr-other : b ≡ false → expr ≡ exprOf same k y l r expr i
+    unfolding exprOf
+    expr-other d = rw (← e, ← q) (sym (ifEq-no _ _ h ∙ ifTrue-no _ _ d))
+
+pub ruleset expressing = (expr-none, expr-import, expr-other)

@@ -16,7 +16,7 @@ use Rattle.prog_tables.specs.declared.Operand.{Operand}
 use Rattle.res_scope.specs.Lines.{firstToken, endToken}
 use Rattle.res_scope.specs.Parts.{partsOf}
 use Rattle.res_scope.specs.declared.Parts.{Parts}
-use Rattle.res_rows.specs.Rows.{operandsFrom, slotOperand, operandWords, aOf, bOf, calleeOf, addressOf, rowWith, rowOf, headOf, headWords, putWords, putRow, rowsBelow, statementTable}
+use Rattle.res_rows.specs.Rows.{operandsFrom, slotOperand, operandWords, aOf, bOf, exprOf, calleeOf, addressOf, rowWith, rowOf, headOf, headWords, putWords, putRow, rowsBelow, statementTable}
 use Rattle.res_rows.specs.declared.Head.{Head}
 
 -- ---- words one behind the other
@@ -183,13 +183,13 @@ length-row out r x h =
     ap length (sym (encode-put out r x)) ∙ length-words out (r * 27) (encode x) e
 
 module _ (same : ℕ → ℕ → Bool) (t k y : List ℕ) (l : ℕ) (w z : List ℕ) (c : ℕ) where
-  pub head-is : (r kind first next func scope up a b callee count form number : ℕ) (p : Parts) (o : Operand) → o ≡ addressOf same t k y l w z r kind (first + 1)
+  pub head-is : (r kind first next func scope up a b expr callee count form number : ℕ) (p : Parts) (o : Operand) → o ≡ addressOf same t k y l w z r kind (first + 1)
       → func ≡ rowAt k r .func → scope ≡ rowAt k r .scope → up ≡ rowAt k r .up → a ≡ aOf same k y l w z r kind (first + 1) → b ≡ bOf k c r kind
-      → callee ≡ calleeOf same k y l z r kind (p .callee) → count ≡ next - p .first → form ≡ operandKind o → number ≡ operandNumber o
-      → head kind func scope up a b (p .expr) callee count form number ≡ headOf (rowWith same t k y l w z c r kind first next p)
+      → expr ≡ exprOf same k y l r (p .expr) (p .callee) → callee ≡ calleeOf same k y l z r kind (p .callee) → count ≡ next - p .first → form ≡ operandKind o → number ≡ operandNumber o
+      → head kind func scope up a b expr callee count form number ≡ headOf (rowWith same t k y l w z c r kind first next p)
   unfolding rowWith headOf
-  head-is r kind first next func scope up a b callee count form number p o q h1 h2 h3 h4 h5 h6 h7 h8 h9 =
-      rw (h8, h9, q, h1, h2, h3, h4, h5, h6, h7) refl
+  head-is r kind first next func scope up a b expr callee count form number p o q h1 h2 h3 h4 h5 h10 h6 h7 h8 h9 =
+      rw (h8, h9, q, h1, h2, h3, h4, h5, h10, h6, h7) refl
 
   row-shown : (out : List ℕ) (r kind first next : ℕ) (p : Parts) → r * 27 + 27 ≤ length out
       → putWords (putWords out (r * 27) (headWords (headOf (rowWith same t k y l w z c r kind first next p)))) (r * 27 + 11) (slotWords 8 (operandsFrom (min (next - p .first) 8) same t k y l w z r (p .first)))

@@ -1,21 +1,22 @@
 -- The rows of the statement table: what each word of a statement holds, once its names are known to be good.
 -- Assumes nothing.
 use Prim.Native.Nat.{ℕ, zero, suc, _+_, _-_, _*_, _%_, min}
-use mathlib.Core.Bool.{Bool}
+use mathlib.Core.Bool.{Bool, false}
 use mathlib.Core.List.{List, [], _∷_, _++_}
+use lib.Dec.{eqb}
 use lib.ListN.{length, getD, take, drop}
 use Rattle.base_limits.specs.Limits.{wordValues}
-use Rattle.base_prelude.specs.Choice.{ifLt, ifEq}
+use Rattle.base_prelude.specs.Choice.{ifLt, ifEq, ifTrue}
 use Rattle.lang_kinds.specs.Kinds as kind
 use Rattle.lang_kinds.specs.Tokens as token
 use Rattle.parse_lines.specs.Tokens.{kindAt, valueAt}
 use Rattle.prog_tables.specs.LabelRow as label
-use Rattle.prog_tables.specs.Layout.{statementRow, operandSlots, labelRow, frameHead}
+use Rattle.prog_tables.specs.Layout.{statementRow, operandSlots, labelRow, frameHead, importExpression, importLabel}
 use Rattle.prog_tables.specs.Statement.{Row, operandKind, operandNumber, rowAt, encode}
 use Rattle.prog_tables.specs.Frames.{letsBefore, localsAt}
 use Rattle.prog_tables.specs.declared.Operand.{Operand}
 use Rattle.prog_tables.specs.declared.Operand.the-variants.{Constant, Local, Address, AtConstant, AtLocal, AtAddress, Unlisted}
-use Rattle.res_scope.specs.Lines.{firstToken, endToken}
+use Rattle.res_scope.specs.Lines.{firstToken, endToken, labelKind}
 use Rattle.res_scope.specs.Names.{meaningOf}
 use Rattle.res_scope.specs.Parts.{noCallee, partsOf}
 use Rattle.res_scope.specs.declared.Meaning.{Meaning}
@@ -52,6 +53,23 @@ labelTarget z (Let m) = 0
 labelTarget z (Parameter j) = 0
 labelTarget z (Label j) = labelNumber z j
 labelTarget z Unknown = 0
+
+-- label j as the callee of a call: an imported function is called by its label row, any other by its statement
+unfoldable pub calledLabel : List ℕ → List ℕ → ℕ → ℕ
+calledLabel y z j = ifEq (labelKind y j) importLabel j (labelNumber z j)
+
+unfoldable pub calleeTarget : List ℕ → List ℕ → Meaning → ℕ
+calleeTarget y z (Let m) = 0
+calleeTarget y z (Parameter j) = 0
+calleeTarget y z (Label j) = calledLabel y z j
+calleeTarget y z Unknown = 0
+
+-- the name is that of an imported function
+unfoldable pub isImported : List ℕ → Meaning → Bool
+isImported y (Let m) = false
+isImported y (Parameter j) = false
+isImported y (Label j) = eqb (labelKind y j) importLabel
+isImported y Unknown = false
 
 -- "A value is a local or a data label (its address)."
 unfoldable pub plainOperand : List ℕ → List ℕ → Meaning → Operand
@@ -118,11 +136,15 @@ aOf same k y l w z r sort i =
 unfoldable pub bOf : List ℕ → ℕ → ℕ → ℕ → ℕ
 bOf k c r sort = ifEq sort kind.function (rowAt k r .b) (ifEq sort kind.block (letsBefore (rowAt k) r c) 0)
 
+-- the expression's kind, token i naming the function that it calls, 0 for none: "a call to such a name" (02, 3) has a kind of its own
+unfoldable pub exprOf : (ℕ → ℕ → Bool) → List ℕ → List ℕ → ℕ → ℕ → ℕ → ℕ → ℕ
+exprOf same k y l r expr i = ifEq i noCallee expr (ifTrue (isImported y (meaningOf same k y l r i)) importExpression expr)
+
 -- of a block the locals in scope before it; else the function that token i names, 0 for no token
 unfoldable pub calleeOf : (ℕ → ℕ → Bool) → List ℕ → List ℕ → ℕ → List ℕ → ℕ → ℕ → ℕ → ℕ
 calleeOf same k y l z r sort i =
     ifEq sort kind.block (localsAt (rowAt k) r % wordValues)
-    (ifEq i noCallee 0 (labelTarget z (meaningOf same k y l r i)))
+    (ifEq i noCallee 0 (calleeTarget y z (meaningOf same k y l r i)))
 
 -- the operand behind the `@` of `set @`
 unfoldable pub addressOf : (ℕ → ℕ → Bool) → List ℕ → List ℕ → List ℕ → ℕ → List ℕ → List ℕ → ℕ → ℕ → ℕ → Operand
@@ -140,7 +162,7 @@ rowWith same t k y l w z c r kind first next p =
       up = rowAt k r .up;
       a = aOf same k y l w z r kind (first + 1);
       b = bOf k c r kind;
-      expr = p .expr;
+      expr = exprOf same k y l r (p .expr) (p .callee);
       callee = calleeOf same k y l z r kind (p .callee);
       count = next - p .first;
       address = addressOf same t k y l w z r kind (first + 1);

@@ -2,6 +2,8 @@
 use base_limits::Machine;
 use lang_kinds::Kind;
 use lang_kinds::Token;
+use prog_tables::ExpressionKind;
+use prog_tables::LabelKind;
 use prog_tables::LabelRow;
 use prog_tables::Operand;
 use prog_tables::OperandKind;
@@ -12,11 +14,13 @@ use res_scope::Parts;
 ghost use mathlib.Core.Path.{_≡_};
 ghost use Rattle.base_limits.specs.Limits as limits;
 ghost use Prim.Native.Nat.{_+_, _-_, _*_, _≤_, _<_, min};
+ghost use lib.Dec.{eqb};
 ghost use lib.ListN.{length};
+ghost use Rattle.res_scope.specs.Lines.{labelKind};
 ghost use Rattle.prog_tables.specs.Statement.{operandKind, operandNumber, slotWords};
 ghost use Rattle.res_scope.specs.Names.{sameNumber};
-ghost use Rattle.prog_tables.specs.Layout.{statementRow};
-ghost use Rattle.res_rows.specs.Rows.{labelNumber, wordOfLet, wordOfParameter, localWord, labelTarget, plainOperand, atOperand, constantOperand, tokenOperand, addressConstant, addressOperand, operandsFrom, slotOperand, operandWords, aOf, bOf, calleeOf, addressOf, rowWith, rowOf, headOf, headWords, putWords, putRow, statementTable};
+ghost use Rattle.prog_tables.specs.Layout.{statementRow, importLabel};
+ghost use Rattle.res_rows.specs.Rows.{labelNumber, wordOfLet, wordOfParameter, localWord, labelTarget, calledLabel, calleeTarget, isImported, plainOperand, atOperand, constantOperand, tokenOperand, addressConstant, addressOperand, operandsFrom, slotOperand, operandWords, aOf, bOf, exprOf, calleeOf, addressOf, rowWith, rowOf, headOf, headWords, putWords, putRow, statementTable};
 
 // Words 0 to 10 of a row.
 struct Head {
@@ -70,6 +74,43 @@ fn label_target(z: &[u32], m: Meaning) -> u32
         Meaning::Parameter(_) => 0,
         Meaning::Label(j) => label_number(z, j),
         Meaning::Unknown => 0,
+    }
+}
+
+fn called_label(y: &[u32], z: &[u32], j: u32) -> u32
+    ensures { λ x. ⌜ x ≡ calledLabel (now (y .entry)) (now (z .entry)) j ⌝ }
+{
+    if res_scope::label_kind(y, j) == LabelKind::IMPORT {
+        return j;
+    }
+    label_number(z, j)
+}
+
+fn callee_target(y: &[u32], z: &[u32], m: Meaning) -> u32
+    ensures { λ x. ⌜ x ≡ calleeTarget (now (y .entry)) (now (z .entry)) m ⌝ }
+{
+    match m {
+        Meaning::Let(_) => 0,
+        Meaning::Parameter(_) => 0,
+        Meaning::Label(j) => called_label(y, z, j),
+        Meaning::Unknown => 0,
+    }
+}
+
+fn is_import_label(y: &[u32], j: u32) -> bool
+    ensures { λ x. ⌜ x ≡ eqb (labelKind (now (y .entry)) j) importLabel ⌝ }
+{
+    res_scope::label_kind(y, j) == LabelKind::IMPORT
+}
+
+fn is_imported(y: &[u32], m: Meaning) -> bool
+    ensures { λ x. ⌜ x ≡ isImported (now (y .entry)) m ⌝ }
+{
+    match m {
+        Meaning::Let(_) => false,
+        Meaning::Parameter(_) => false,
+        Meaning::Label(j) => is_import_label(y, j),
+        Meaning::Unknown => false,
     }
 }
 
@@ -200,6 +241,18 @@ fn b_of(k: &[u32], c: u32, r: u32, kind: u32) -> u32
     0
 }
 
+fn expr_of(t: &[u32], k: &[u32], y: &[u32], l: u32, r: u32, expr: u32, i: u32) -> u32
+    ensures { λ x. ⌜ x ≡ exprOf (sameNumber (now (t .entry))) (now (k .entry)) (now (y .entry)) l r expr i ⌝ }
+{
+    if i == 0 {
+        return expr;
+    }
+    if is_imported(y, res_scope::meaning_of(t, k, y, l, r, i)) {
+        return ExpressionKind::IMPORT;
+    }
+    expr
+}
+
 fn callee_of(t: &[u32], k: &[u32], y: &[u32], l: u32, z: &[u32], r: u32, kind: u32, i: u32) -> u32
     ensures { λ x. ⌜ x ≡ calleeOf (sameNumber (now (t .entry))) (now (k .entry)) (now (y .entry)) l (now (z .entry)) r kind i ⌝ }
 {
@@ -209,7 +262,7 @@ fn callee_of(t: &[u32], k: &[u32], y: &[u32], l: u32, z: &[u32], r: u32, kind: u
     if i == 0 {
         return 0;
     }
-    label_target(z, res_scope::meaning_of(t, k, y, l, r, i))
+    callee_target(y, z, res_scope::meaning_of(t, k, y, l, r, i))
 }
 
 fn address_of(
@@ -294,7 +347,7 @@ fn head_of(
         up: prog_tables::up_at(k, r),
         a: a_of(t, k, y, l, w, z, r, kind, i),
         b: b_of(k, c, r, kind),
-        expr: p.expr,
+        expr: expr_of(t, k, y, l, r, p.expr, p.callee),
         callee: callee_of(t, k, y, l, z, r, kind, p.callee),
         count: count_from(next, p.first),
         form: operand_kind(o),

@@ -3,7 +3,7 @@
 use mathlib.Core.Path.{_≡_, refl, sym, _∙_, ap}
 use mathlib.Core.Bool.{Bool, true, false}
 use mathlib.Core.List.{List}
-use Prim.Native.Nat.{ℕ, zero, suc, _+_, _*_, _-_, _<_, _≤_, min}
+use Prim.Native.Nat.{ℕ, zero, suc, _+_, _*_, _-_, _<_, _≤_, min, _%_}
 use native.Mathlib.Omega.{arith}
 use lib.Dec.{eqb, ltb}
 use lib.ListN.{getD}
@@ -16,7 +16,7 @@ use Rattle.prog_tables.specs.Statement.{Row, rowAt}
 use Rattle.prog_tables.specs.Nesting.{encloses}
 use Rattle.prog_tables.specs.Frames.{isIn}
 use Rattle.parse_shapes.specs.Shapes.{isName, isOperator}
-use Rattle.res_scope.specs.Lines.{firstToken, endToken, labelToken, labelStatement}
+use Rattle.res_scope.specs.Lines.{firstToken, endToken, labelToken, labelStatement, labelArguments}
 use Rattle.res_scope.specs.Names.{hasName, sameNumber, letNamed, letHere, letOf, parameterOf, labelOf, lastFrom, labelNamed, parameterNamed, labelMeaning, outerMeaning, meaningOf}
 use Rattle.res_scope.specs.Parts.{parts, symbolParts, expressionParts, returnParts, listsOperands, plainParts, partsOf}
 use Rattle.res_scope.specs.declared.Meaning.{Meaning}
@@ -37,6 +37,10 @@ first-room k n r e = omega (arith, first-low k n r e)
 pub statement-is : (y : List ℕ) (j v r : ℕ) → v ≡ getD y (j * 4 + 2) 0 → r ≡ v - 1 → r ≡ labelStatement y j
 unfolding labelStatement
 statement-is y j v r e q = q ∙ ap (λ (x : ℕ). x - 1) e
+
+pub arguments-are : (y : List ℕ) (j v r : ℕ) → v ≡ getD y (j * 4 + 2) 0 → r ≡ v - 1 → r % 16 ≡ labelArguments y j
+unfolding labelArguments
+arguments-are y j v r e q = ap (λ (x : ℕ). x % 16) (q ∙ ap (λ (x : ℕ). x - 1) e)
 
 pub named-low : (t : List ℕ) (i k : ℕ) → k ≡ tokenWord t i 0 → k < 2 → false ≡ hasName t i
 unfolding hasName

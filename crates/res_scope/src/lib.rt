@@ -13,7 +13,7 @@ ghost use Prim.Native.Nat.{_+_, _-_, _≤_, _<_, min};
 ghost use Rattle.prog_tables.specs.Layout.{noExpression, callExpression};
 ghost use Rattle.prog_tables.specs.Statement.{rowAt};
 ghost use Rattle.prog_tables.specs.Tests.{firstFrom};
-ghost use Rattle.res_scope.specs.Lines.{firstToken, endToken, labelToken, labelKind, labelStatement};
+ghost use Rattle.res_scope.specs.Lines.{firstToken, endToken, labelToken, labelKind, labelStatement, labelArguments};
 ghost use Rattle.res_scope.specs.Names.{hasName, sameNumber, letNamed, letHere, letOf, parameterOf, labelOf, labelMeaning, outerMeaning, meaningOf};
 ghost use Rattle.res_scope.specs.Parts.{parts, symbolParts, expressionParts, returnParts, listsOperands, plainParts, partsOf};
 
@@ -86,6 +86,14 @@ pub fn label_statement(y: &[u32], j: u32) -> u32
     ensures { λ r. ⌜ r ≡ labelStatement (now (y .entry)) j ⌝ }
 {
     less_one(prog_tables::word_at(y, j as usize * Table::LABEL_ROW + OutlineLabel::NAMES))
+}
+
+// The argument count of an imported name.
+pub fn label_arguments(y: &[u32], j: u32) -> u32
+    ensures { λ r. ⌜ r ≡ labelArguments (now (y .entry)) j ⌝ }
+{
+    let mark = prog_tables::word_at(y, j as usize * Table::LABEL_ROW + OutlineLabel::NAMES);
+    less_one(mark) % 16
 }
 
 fn has_name(t: &[u32], i: u32) -> bool

@@ -2,7 +2,7 @@
 -- Assumes nothing.
 use mathlib.Core.Path.{_≡_, refl, sym, _∙_, ap}
 use mathlib.Core.List.{List, _++_}
-use Prim.Native.Nat.{ℕ, suc, _+_, _*_, _<_, _≤_}
+use Prim.Native.Nat.{ℕ, zero, suc, _+_, _*_, _<_, _≤_}
 use native.Mathlib.Nat.{zero-add}
 use native.Mathlib.Numerals.{add-one}
 use native.Mathlib.Omega.{arith}
@@ -10,7 +10,7 @@ use lib.ListN.{length, getD, take, drop, set, length-set}
 use lib.Seq.{paste, paste-suc}
 use Rattle.base_prelude.proofs.Choice.{either, ifLt-yes, ifLt-no}
 use Rattle.res_scope.specs.Lines.{firstToken}
-use Rattle.res_tokens.specs.TokenTable.{copied, statementMarked, statementsMarked}
+use Rattle.res_tokens.specs.TokenTable.{copied, statementMarked, statementsMarked, unmarked}
 
 -- ---- the loop of `copy_words`
 
@@ -53,6 +53,44 @@ module _ (t : List ℕ) (m : ℕ) (out₀ : List ℕ) where
     copying-done g = let e : i ≡ m = omega (arith, h .below) in h .so-far ∙ ap (λ (j : ℕ). copied t j out₀) e
 
 pub ruleset copying = (copying-start, copying-more, copying-done)
+
+-- ---- the loop of `clear_marks`
+
+length-unmarked : (i : ℕ) (out : List ℕ) → length (unmarked i out) ≡ length out
+unfolding unmarked
+length-unmarked zero out = refl
+length-unmarked (suc i) out = length-set (unmarked i out) (i * 8 + 7) 0 ∙ length-unmarked i out
+
+pub record Clearing (n : ℕ) (out₀ out : List ℕ) (i : ℕ) : Type 0 where
+  pub long : length out ≡ length out₀
+  pub below : i ≤ n
+  pub so-far : out ≡ unmarked i out₀
+
+module _ (n : ℕ) (out₀ : List ℕ) where
+  pub clearing-start : Clearing n out₀ out₀ 0
+  unfolding unmarked
+  clearing-start = record { long = refl; below = omega arith; so-far = refl }
+
+  module _ (out : List ℕ) (i : ℕ) (h : Clearing n out₀ out i) where
+    pub clearing-room : i < n → n * 8 ≤ length out₀ → i * 8 + 7 < length out
+    clearing-room g f = omega (arith, h .long)
+
+    pub clearing-more : i < n → Clearing n out₀ (set out (i * 8 + 7) 0) (i + 1)
+    unfolding unmarked
+    clearing-more g =
+        record {
+          long = length-set out (i * 8 + 7) 0 ∙ h .long;
+          below = omega arith;
+          so-far = rw (add-one i) (ap (λ (x : List ℕ). set x (i * 8 + 7) 0) (h .so-far));
+        }
+
+    pub clearing-same : length out ≡ length out₀
+    clearing-same = h .long
+
+    pub clearing-done : n ≤ i → out ≡ unmarked n out₀
+    clearing-done g = let e : i ≡ n = omega (arith, h .below) in h .so-far ∙ ap (λ (j : ℕ). unmarked j out₀) e
+
+pub ruleset clearing = (clearing-start, clearing-more, clearing-done)
 
 -- ---- where a statement begins
 

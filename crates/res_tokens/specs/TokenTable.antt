@@ -22,6 +22,11 @@ unfoldable pub statementsMarked : ℕ → List ℕ → ℕ → List ℕ → List
 statementsMarked zero k n out = out
 statementsMarked (suc r) k n out = statementMarked k n r (statementsMarked r k n out)
 
+-- n rows in which no token begins a statement: the host's marks, which the check keeps in word 7 of its scratch, are gone
+unfoldable pub unmarked : ℕ → List ℕ → List ℕ
+unmarked zero out = out
+unmarked (suc i) out = set (unmarked i out) (i * tokenRow + field.statement) 0
+
 -- n rows of t, and the c statements that they begin; what is behind them in the buffer is as it was
 unfoldable pub tokenTable : List ℕ → List ℕ → ℕ → ℕ → List ℕ → List ℕ
-tokenTable t k c n out = statementsMarked c k n (copied t (n * tokenRow) out)
+tokenTable t k c n out = statementsMarked c k n (unmarked n (copied t (n * tokenRow) out))

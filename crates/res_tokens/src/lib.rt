@@ -6,7 +6,7 @@ ghost use Rattle.base_limits.specs.Limits as limits;
 ghost use Prim.Native.Nat.{_*_, _≤_, _<_};
 ghost use lib.ListN.{length};
 ghost use Rattle.base_limits.specs.Limits.{tokenRow};
-ghost use Rattle.res_tokens.specs.TokenTable.{copied, statementMarked, statementsMarked, tokenTable};
+ghost use Rattle.res_tokens.specs.TokenTable.{copied, statementMarked, statementsMarked, unmarked, tokenTable};
 
 fn copy_words(t: &[u32], m: usize, out: &mut [u32])
     requires { ⌜ (m ≤ length (now t)) × (m ≤ length (now out)) ⌝ }
@@ -40,11 +40,23 @@ fn mark_statements(k: &[u32], c: u32, n: u32, out: &mut [u32])
     }
 }
 
+fn clear_marks(n: u32, out: &mut [u32])
+    requires { ⌜ n * tokenRow ≤ length (now out) ⌝ }
+    ensures { λ _. ⌜ now (out .exit) ≡ unmarked n (now (out .entry)) ⌝ }
+{
+    let mut i: u32 = 0;
+    while i < n {
+        out[i as usize * Machine::TOKEN_ROW + TokenRow::STATEMENT] = 0;
+        i += 1;
+    }
+}
+
 // The rows of n tokens, and the c statements that they begin.
 pub fn write_tokens(t: &[u32], k: &[u32], c: u32, n: u32, out: &mut [u32])
     requires { ⌜ (n * tokenRow ≤ length (now out)) × (n ≤ limits.tokens) × (length (now t) ≡ limits.tokenWords) ⌝ }
     ensures { λ _. ⌜ now (out .exit) ≡ tokenTable (now (t .entry)) (now (k .entry)) c n (now (out .entry)) ⌝ }
 {
     copy_words(t, n as usize * Machine::TOKEN_ROW, out);
+    clear_marks(n, out);
     mark_statements(k, c, n, out);
 }

@@ -10,9 +10,10 @@ use Rattle.base_prelude.specs.Lists.{sameList}
 use Rattle.base_limits.specs.declared.Width.the-variants.{Bits32}
 use Rattle.prog_tables.specs.Program.{programFrom}
 use Rattle.vm_definitions.specs.Access.{storeFrom}
-use Rattle.vm_definitions.specs.Step.{World, After, stepOf, runOf}
-use Rattle.vm_definitions.specs.Lent.{tablesOf, world, left}
+use Rattle.vm_definitions.specs.Step.{World, After, Continued, stepOf, runOf, resumeOf}
+use Rattle.vm_definitions.specs.Lent.{tablesOf, world, left, resumed}
 use Rattle.vm_definitions.specs.declared.Outcome.{Outcome}
+use Rattle.vm_definitions.specs.declared.Resumed.{Resumed}
 use Rattle.vm_definitions.specs.declared.Opening.{Opening}
 use Rattle.prog_tables.specs.Label.{Tables}
 use Rattle.vm_start.specs.Opening.{Opened, opened, openingOf}
@@ -20,16 +21,16 @@ use Rattle.test_lines.specs.Lines.{startsWith}
 use Rattle.test_lines.specs.Fields.{fieldStart}
 use Rattle.test_lines.specs.Sources.{Source, source, addText}
 use Rattle.test_text.specs.Fields.{wordEnd, rawAt}
-use Rattle.test_text.specs.Numbers.{isDigits, longNumber, listed, argumentsOf}
-use Rattle.test_text.specs.Answers.{addAll, startedBytes, outcomeBytes}
+use Rattle.test_text.specs.Numbers.{fieldWord, hasValues, isDigits, longNumber, listed, argumentsOf}
+use Rattle.test_text.specs.Answers.{addAll, startedBytes, outcomeBytes, resumedBytes}
 use Rattle.test_text.specs.Buffers.{lesserOf, behindOf}
 use Rattle.test_state.specs.declared.Progress.{Progress}
 use Rattle.test_state.specs.Progress.{On, on, failedOf, answeredOf, machineOf}
 use Rattle.test_state.specs.Views.{blank}
 use Rattle.base_prelude.proofs.Choice.{tests}
-use Rattle.test_calls.specs.Calls.{ran, withOutcome, withOpening, tablesIn, dataIn, over, stackIn, memoryIn, worldIn, ranBy, openedBy, doStep, doRun, doStart, readName, noWords, start-blank-word, start-word, run-word, startNamed, readStart, readRun, isStart, doCall, readCall}
+use Rattle.test_calls.specs.Calls.{ran, withOutcome, withOpening, withResumed, tablesIn, dataIn, over, stackIn, memoryIn, worldIn, ranBy, resumedBy, openedBy, doStep, doRun, doResume, doStart, readName, noWords, start-blank-word, start-word, run-word, resume-word, startNamed, readStart, readRun, readResume, isStart, doCall, readCall}
 
--- `call_step`, `call_run`, `call_start`
+-- `call_step`, `call_run`, `call_resume`, `call_start`
 module _ (q : Progress) (t b w1 w2 w3 n1 : List ℕ) (e1 : w1 ≡ take (q .lent .statements) t) (e2 : w2 ≡ behindOf 27648 t) (e3 : w3 ≡ take (q .lent .labels) w2) (e4 : n1 ≡ take (q .lent .names) b) where
   tables-are : tablesOf w1 (q .counts .statements) w3 (q .counts .labels) n1 (q .counts .bytes) ≡ tablesIn q t b
   unfolding tablesIn
@@ -41,6 +42,10 @@ module _ (q : Progress) (t b w1 w2 w3 n1 : List ℕ) (e1 : w1 ≡ take (q .lent 
   pub call-run-is : (budget : ℕ) (x : World) (z : After) → z ≡ runOf (programFrom Bits32 (tablesOf w1 (q .counts .statements) w3 (q .counts .labels) n1 (q .counts .bytes))) budget x
       → z ≡ runOf (programFrom Bits32 (tablesIn q t b)) budget x
   call-run-is budget x z e = e ∙ ap (λ (y : Tables). runOf (programFrom Bits32 y) budget x) tables-are
+
+  pub call-resume-is : (word : ℕ) (x : World) (z : Continued) → z ≡ resumeOf (programFrom Bits32 (tablesOf w1 (q .counts .statements) w3 (q .counts .labels) n1 (q .counts .bytes))) word x
+      → z ≡ resumeOf (programFrom Bits32 (tablesIn q t b)) word x
+  call-resume-is word x z e = e ∙ ap (λ (y : Tables). resumeOf (programFrom Bits32 y) word x) tables-are
 
   pub call-start-is : (n2 n3 name arguments : List ℕ) (x : World) (z : Opened) → n2 ≡ behindOf 16384 b → n3 ≡ take (q .lent .bytes) n2
       → z ≡ openingOf (programFrom Bits32 (tablesOf w1 (q .counts .statements) w3 (q .counts .labels) n1 (q .counts .bytes))) n3 name arguments x
@@ -57,7 +62,7 @@ read-name-is l name from end z p e f =
     f ∙ ap (λ (i : ℕ). addText (take (i - from) (drop from l)) 0 (source 0 name)) e
     ∙ ap (λ (i : ℕ). addText (take (wordEnd l i - i) (drop i l)) 0 (source 0 name)) p
 
--- `do_step`, `do_run`, `do_start`
+-- `do_step`, `do_run`, `do_resume`, `do_start`
 module _ (q : Progress) (got t b k m : List ℕ) (n h : ℕ) (st mem : List ℕ) (z : Progress) (u : List ℕ) (e1 : n ≡ lesserOf (q .lent .stack) (length k)) (e2 : h ≡ lesserOf (q .lent .memory) (length m)) where
   lent-stack : n - 0 ≡ stackIn q k
   lent-stack = let e : n - 0 ≡ n = omega arith in e ∙ e1
@@ -91,6 +96,13 @@ module _ (q : Progress) (got t b k m : List ℕ) (n h : ℕ) (st mem : List ℕ)
       ran-over (withOutcome q o got) f
       ∙ ap (λ (x : After). ranBy x q got k m) (e ∙ ap (λ (y : World). runOf (programFrom Bits32 (tablesIn q t b)) budget y) world-is)
 
+  pub do-resume-is : (word : ℕ) (o : Resumed) → resumed o st mem ≡ resumeOf (programFrom Bits32 (tablesIn q t b)) word (world (q .machine) (take (n - 0) k) (take (h - 0) m)) → on z u ≡ withResumed q o got
+      → ran z u (st ++ drop (n - 0) k) (mem ++ drop (h - 0) m) ≡ doResume word q got t b k m
+  unfolding doResume
+  do-resume-is word o e f =
+      ran-over (withResumed q o got) f
+      ∙ ap (λ (x : Continued). resumedBy x q got k m) (e ∙ ap (λ (y : World). resumeOf (programFrom Bits32 (tablesIn q t b)) word y) world-is)
+
   pub do-start-is : (name arguments : List ℕ) (o : Opening) → opened o st mem ≡ openingOf (programFrom Bits32 (tablesIn q t b)) (dataIn q b) name arguments (world (q .machine) (take (n - 0) k) (take (h - 0) m))
       → on z u ≡ withOpening q o got → ran z u (st ++ drop (n - 0) k) (mem ++ drop (h - 0) m) ≡ doStart name arguments q got t b k m
   unfolding doStart
@@ -103,6 +115,12 @@ module _ (q : Progress) (o : Outcome) (got : List ℕ) where
   pub with-outcome-is : (a : Progress) → a ≡ machineOf q (o .machine) → (n : ℕ) → (u : List ℕ) → source n u ≡ addAll (outcomeBytes o) (source 0 got) → (z : Progress) → z ≡ answeredOf a n → on z u ≡ withOutcome q o got
   unfolding withOutcome
   with-outcome-is a p0 n u p1 z p2 = rw (← p0, ← p1, ← p2)
+
+-- `with_resumed`
+module _ (q : Progress) (o : Resumed) (got : List ℕ) where
+  pub with-resumed-is : (a : Progress) → a ≡ machineOf q (o .outcome .machine) → (n : ℕ) → (u : List ℕ) → source n u ≡ addAll (resumedBytes o) (source 0 got) → (z : Progress) → z ≡ answeredOf a n → on z u ≡ withResumed q o got
+  unfolding withResumed
+  with-resumed-is a p0 n u p1 z p2 = rw (← p0, ← p1, ← p2)
 
 -- `with_opening`
 module _ (q : Progress) (o : Opening) (got : List ℕ) where
@@ -144,6 +162,18 @@ module _ (l : List ℕ) (q : Progress) (got : List ℕ) (t : List ℕ) (b : List
 
 pub ruleset read-run-ways = (read-run-1, read-run-2)
 
+-- `read_resume`
+module _ (l : List ℕ) (q : Progress) (got : List ℕ) (t : List ℕ) (b : List ℕ) (k : List ℕ) (m : List ℕ) where
+  pub read-resume-1 : (d : Bool) → d ≡ hasValues l 1 2 → d ≡ true → (n : ℕ) → n ≡ fieldWord l 1 → (z : Progress) → (g : List ℕ) → (u : List ℕ) → (v : List ℕ) → ran z g u v ≡ doResume n q got t b k m → ran z g u v ≡ readResume l q got t b k m
+  unfolding readResume
+  read-resume-1 d p0 h0 n p1 z g u v p2 = rw (← p0, ← p1, ← p2) (search tests)
+
+  pub read-resume-2 : (d : Bool) → d ≡ hasValues l 1 2 → d ≡ false → (z : Progress) → z ≡ failedOf q 1 → ran z got k m ≡ readResume l q got t b k m
+  unfolding readResume
+  read-resume-2 d p0 h0 z p1 = rw (← p0, ← p1) (search tests)
+
+pub ruleset read-resume-ways = (read-resume-1, read-resume-2)
+
 -- `is_start`
 module _ (l : List ℕ) where
   pub is-start-1 : (a : Bool) → a ≡ startsWith l start-blank-word → a ≡ true → true ≡ isStart l
@@ -166,11 +196,15 @@ module _ (l : List ℕ) (q : Progress) (got : List ℕ) (t : List ℕ) (b : List
   unfolding doCall
   do-call-2 a p0 h0 c p1 h1 z g u v p2 = rw (← p0, ← p1, ← p2) (search tests)
 
-  pub do-call-3 : (a : Bool) → a ≡ isStart l → a ≡ false → (c : Bool) → c ≡ startsWith l run-word → c ≡ false → (z : Progress) → (g : List ℕ) → (u : List ℕ) → (v : List ℕ) → ran z g u v ≡ doStep q got t b k m → ran z g u v ≡ doCall l q got t b k m
+  pub do-call-3 : (a : Bool) → a ≡ isStart l → a ≡ false → (c : Bool) → c ≡ startsWith l run-word → c ≡ false → (d : Bool) → d ≡ startsWith l resume-word → d ≡ true → (z : Progress) → (g : List ℕ) → (u : List ℕ) → (v : List ℕ) → ran z g u v ≡ readResume l q got t b k m → ran z g u v ≡ doCall l q got t b k m
   unfolding doCall
-  do-call-3 a p0 h0 c p1 h1 z g u v p2 = rw (← p0, ← p1, ← p2) (search tests)
+  do-call-3 a p0 h0 c p1 h1 d p2 h2 z g u v p3 = rw (← p0, ← p1, ← p2, ← p3) (search tests)
 
-pub ruleset do-call-ways = (do-call-1, do-call-2, do-call-3)
+  pub do-call-4 : (a : Bool) → a ≡ isStart l → a ≡ false → (c : Bool) → c ≡ startsWith l run-word → c ≡ false → (d : Bool) → d ≡ startsWith l resume-word → d ≡ false → (z : Progress) → (g : List ℕ) → (u : List ℕ) → (v : List ℕ) → ran z g u v ≡ doStep q got t b k m → ran z g u v ≡ doCall l q got t b k m
+  unfolding doCall
+  do-call-4 a p0 h0 c p1 h1 d p2 h2 z g u v p3 = rw (← p0, ← p1, ← p2, ← p3) (search tests)
+
+pub ruleset do-call-ways = (do-call-1, do-call-2, do-call-3, do-call-4)
 
 -- `read_call`
 module _ (l : List ℕ) (q : Progress) (got : List ℕ) (t : List ℕ) (b : List ℕ) (k : List ℕ) (m : List ℕ) where

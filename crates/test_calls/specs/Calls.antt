@@ -9,9 +9,10 @@ use Rattle.base_prelude.specs.Lists.{sameList, zeros}
 use Rattle.base_limits.specs.declared.Width.the-variants.{Bits32}
 use Rattle.prog_tables.specs.Program.{programFrom}
 use Rattle.vm_definitions.specs.Access.{storeFrom}
-use Rattle.vm_definitions.specs.Step.{World, After, stepOf, runOf}
+use Rattle.vm_definitions.specs.Step.{World, After, Continued, stepOf, runOf, resumeOf}
 use Rattle.vm_definitions.specs.Lent.{tablesOf, world}
 use Rattle.vm_definitions.specs.declared.Outcome.{Outcome}
+use Rattle.vm_definitions.specs.declared.Resumed.{Resumed}
 use Rattle.vm_definitions.specs.declared.Opening.{Opening}
 use Rattle.prog_tables.specs.Label.{Tables}
 use Rattle.vm_start.specs.Opening.{Opened, openingOf}
@@ -19,8 +20,8 @@ use Rattle.test_lines.specs.Lines.{startsWith}
 use Rattle.test_lines.specs.Fields.{fieldStart}
 use Rattle.test_lines.specs.Sources.{Source, source, addText}
 use Rattle.test_text.specs.Fields.{rawAt}
-use Rattle.test_text.specs.Numbers.{isDigits, longNumber, argumentsOf}
-use Rattle.test_text.specs.Answers.{addAll, startedBytes, outcomeBytes}
+use Rattle.test_text.specs.Numbers.{fieldWord, hasValues, isDigits, longNumber, argumentsOf}
+use Rattle.test_text.specs.Answers.{addAll, startedBytes, outcomeBytes, resumedBytes}
 use Rattle.test_text.specs.Buffers.{lesserOf, behindOf}
 use Rattle.test_state.specs.declared.Progress.{Progress}
 use Rattle.test_state.specs.Progress.{On, failedOf, machineOf, answeredBy}
@@ -36,6 +37,10 @@ ran progress got stack memory = record { progress = progress; got = got; stack =
 -- what a step or a run gives back
 unfoldable pub withOutcome : Progress → Outcome → List ℕ → On
 withOutcome q o got = answeredBy (machineOf q (o .machine)) (addAll (outcomeBytes o) (source 0 got))
+
+-- what going on gives back
+unfoldable pub withResumed : Progress → Resumed → List ℕ → On
+withResumed q o got = answeredBy (machineOf q (o .outcome .machine)) (addAll (resumedBytes o) (source 0 got))
 
 -- what a start gives back
 unfoldable pub withOpening : Progress → Opening → List ℕ → On
@@ -58,6 +63,9 @@ over front n k = front ++ drop n k
 abbrev pub outcome : After → Outcome
 outcome x = record { machine = x .world .machine; count = x .count; broken = x .broken }
 
+abbrev pub resumption : Continued → Resumed
+resumption x = record { outcome = outcome (x .after); unpaused = x .unpaused }
+
 abbrev pub opening : Opened → Opening
 opening x = record { machine = x .world .machine; answer = x .answer }
 
@@ -77,6 +85,11 @@ ranBy x q got k m =
     ran (withOutcome q (outcome x) got .progress) (withOutcome q (outcome x) got .buffer) (over (x .world .stack) (stackIn q k) k)
     (over (x .world .memory) (memoryIn q m) m)
 
+abbrev pub resumedBy : Continued → Progress → List ℕ → List ℕ → List ℕ → Ran
+resumedBy x q got k m =
+    ran (withResumed q (resumption x) got .progress) (withResumed q (resumption x) got .buffer)
+    (over (x .after .world .stack) (stackIn q k) k) (over (x .after .world .memory) (memoryIn q m) m)
+
 abbrev pub openedBy : Opened → Progress → List ℕ → List ℕ → List ℕ → Ran
 openedBy x q got k m =
     ran (withOpening q (opening x) got .progress) (withOpening q (opening x) got .buffer) (over (x .world .stack) (stackIn q k) k)
@@ -89,6 +102,10 @@ doStep q got t b k m = ranBy (stepOf (programFrom Bits32 (tablesIn q t b)) (worl
 -- `run BUDGET`
 unfoldable pub doRun : ℕ → Progress → List ℕ → List ℕ → List ℕ → List ℕ → List ℕ → Ran
 doRun budget q got t b k m = ranBy (runOf (programFrom Bits32 (tablesIn q t b)) budget (worldIn q k m)) q got k m
+
+-- `resume WORD`
+unfoldable pub doResume : ℕ → Progress → List ℕ → List ℕ → List ℕ → List ℕ → List ℕ → Ran
+doResume word q got t b k m = resumedBy (resumeOf (programFrom Bits32 (tablesIn q t b)) word (worldIn q k m)) q got k m
 
 -- `start NAME ARGUMENT ..`
 unfoldable pub doStart : List ℕ → List ℕ → Progress → List ℕ → List ℕ → List ℕ → List ℕ → List ℕ → Ran
@@ -115,6 +132,10 @@ start-word = 115 ∷ 116 ∷ 97 ∷ 114 ∷ 116 ∷ []
 abbrev pub run-word : List ℕ
 run-word = 114 ∷ 117 ∷ 110 ∷ 32 ∷ []
 
+-- `resume `
+abbrev pub resume-word : List ℕ
+resume-word = 114 ∷ 101 ∷ 115 ∷ 117 ∷ 109 ∷ 101 ∷ 32 ∷ []
+
 -- `step`
 abbrev pub step-word : List ℕ
 step-word = 115 ∷ 116 ∷ 101 ∷ 112 ∷ []
@@ -135,6 +156,11 @@ readRun l q got t b k m =
     ifTrue (isDigits l 4) (doRun (longNumber l 4) q got t b k m)
     (ran (failedOf q 1) got k m)
 
+unfoldable pub readResume : List ℕ → Progress → List ℕ → List ℕ → List ℕ → List ℕ → List ℕ → Ran
+readResume l q got t b k m =
+    ifTrue (hasValues l 1 2) (doResume (fieldWord l 1) q got t b k m)
+    (ran (failedOf q 1) got k m)
+
 -- a start; one of the empty name may end behind its word
 unfoldable pub isStart : List ℕ → Bool
 isStart l =
@@ -146,7 +172,8 @@ unfoldable pub doCall : List ℕ → Progress → List ℕ → List ℕ → List
 doCall l q got t b k m =
     ifTrue (isStart l) (readStart l q got t b k m)
     (ifTrue (startsWith l run-word) (readRun l q got t b k m)
-    (doStep q got t b k m))
+    (ifTrue (startsWith l resume-word) (readResume l q got t b k m)
+    (doStep q got t b k m)))
 
 -- a call; what is lent is kept before it
 unfoldable pub readCall : List ℕ → Progress → List ℕ → List ℕ → List ℕ → List ℕ → List ℕ → Ran

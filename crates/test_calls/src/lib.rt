@@ -1,4 +1,4 @@
-// Start, step and run as the lines of a case call them.
+// Start, step, run and going on as the lines of a case call them.
 use test_lines::Case;
 use test_lines::add_text;
 use test_lines::field_start;
@@ -18,15 +18,16 @@ use test_text::keep_memory;
 use test_text::keep_stack;
 use vm_definitions::Opening;
 use vm_definitions::Outcome;
+use vm_definitions::Resumed;
 ghost use mathlib.Core.Path.{_≡_};
 ghost use Rattle.base_limits.specs.declared.Width.the-variants.{Bits32};
 ghost use Rattle.prog_tables.specs.Program.{programFrom};
-ghost use Rattle.vm_definitions.specs.Step.{stepOf, runOf};
-ghost use Rattle.vm_definitions.specs.Lent.{world, left};
+ghost use Rattle.vm_definitions.specs.Step.{stepOf, runOf, resumeOf};
+ghost use Rattle.vm_definitions.specs.Lent.{world, left, resumed};
 ghost use Rattle.vm_start.specs.Opening.{opened, openingOf};
 ghost use Rattle.test_lines.specs.Sources.{source};
 ghost use Rattle.test_state.specs.Progress.{on};
-ghost use Rattle.test_calls.specs.Calls.{ran, withOutcome, withOpening, tablesIn, dataIn, doStep, doRun, readName, doStart, startNamed, readStart, readRun, isStart, doCall, readCall};
+ghost use Rattle.test_calls.specs.Calls.{ran, withOutcome, withOpening, withResumed, tablesIn, dataIn, doStep, doRun, doResume, readName, doStart, startNamed, readStart, readRun, readResume, isStart, doCall, readCall};
 
 // A source, or an answer.
 type Text = [u8; Case::SOURCE];
@@ -56,6 +57,14 @@ fn with_opening(q: Progress, o: Opening, got: &mut Text) -> Progress
     let r = o.machine;
     let a = o.answer;
     with_answer(with_machine(q, r), test_text::add_started(a, got))
+}
+
+fn with_resumed(q: Progress, o: Resumed, got: &mut Text) -> Progress
+    ensures { λ z. ⌜ on z (now (got .exit)) ≡ withResumed q o (now (got .entry)) ⌝ }
+{
+    let a = o.outcome;
+    let r = a.machine;
+    with_answer(with_machine(q, r), test_text::add_resumed(o, got))
 }
 
 fn call_step(q: Progress, t: &[u32], b: &[u8], stack: &mut [u32], memory: &mut [u8]) -> Outcome
@@ -98,6 +107,33 @@ fn call_run(
         front(b, a.names),
         c.bytes,
         budget,
+        r,
+        stack,
+        memory,
+    )
+}
+
+fn call_resume(
+    q: Progress,
+    word: u32,
+    t: &[u32],
+    b: &[u8],
+    stack: &mut [u32],
+    memory: &mut [u8],
+) -> Resumed
+    ensures { λ o. ⌜ resumed o (now (stack .exit)) (now (memory .exit)) ≡ resumeOf (programFrom Bits32 (tablesIn q (now (t .entry)) (now (b .entry)))) word (world (q .machine) (now (stack .entry)) (now (memory .entry))) ⌝ }
+{
+    let a = q.lent;
+    let c = q.counts;
+    let r = q.machine;
+    vm_resume::resume(
+        front_words(t, a.statements),
+        c.statements,
+        front_words(behind(t), a.labels),
+        c.labels,
+        front(b, a.names),
+        c.bytes,
+        word,
         r,
         stack,
         memory,
@@ -169,6 +205,25 @@ fn do_run(
     let h = at_most(a.memory, m.len());
     let o = call_run(q, budget, t, b, &mut k[0..n], &mut m[0..h]);
     with_outcome(q, o, got)
+}
+
+// `resume WORD`
+fn do_resume(
+    q: Progress,
+    word: u32,
+    got: &mut Text,
+    t: &[u32],
+    b: &[u8],
+    k: &mut [u32],
+    m: &mut [u8],
+) -> Progress
+    ensures { λ r. ⌜ ran r (now (got .exit)) (now (k .exit)) (now (m .exit)) ≡ doResume word q (now (got .entry)) (now (t .entry)) (now (b .entry)) (now (k .entry)) (now (m .entry)) ⌝ }
+{
+    let a = q.lent;
+    let n = at_most(a.stack, k.len());
+    let h = at_most(a.memory, m.len());
+    let o = call_resume(q, word, t, b, &mut k[0..n], &mut m[0..h]);
+    with_resumed(q, o, got)
 }
 
 // The bytes of the name of a start.
@@ -269,6 +324,24 @@ fn read_run(
     failed(q, Fault::BAD_LINE)
 }
 
+fn read_resume(
+    l: &[u8],
+    q: Progress,
+    got: &mut Text,
+    t: &Rows,
+    b: &Bytes,
+    k: &mut Stack,
+    m: &mut Memory,
+) -> Progress
+    ensures { λ r. ⌜ ran r (now (got .exit)) (now (k .exit)) (now (m .exit)) ≡ readResume (now (l .entry)) q (now (got .entry)) (now (t .entry)) (now (b .entry)) (now (k .entry)) (now (m .entry)) ⌝ }
+{
+    if test_text::has_values(l, 1, 2) {
+        let word = test_text::word_in(l, 1);
+        return do_resume(q, word, got, t, b, k, m);
+    }
+    failed(q, Fault::BAD_LINE)
+}
+
 // A start; one of the empty name may end behind its word.
 pub fn is_start(l: &[u8]) -> bool
     ensures { λ r. ⌜ r ≡ isStart (now (l .entry)) ⌝ }
@@ -296,6 +369,9 @@ fn do_call(
     }
     if starts_with(l, b"run ") {
         return read_run(l, q, got, t, b, k, m);
+    }
+    if starts_with(l, b"resume ") {
+        return read_resume(l, q, got, t, b, k, m);
     }
     do_step(q, got, t, b, k, m)
 }

@@ -8,6 +8,9 @@ use lib.ListN.{take}
 use Rattle.base_prelude.specs.Lists.{sameList}
 use Rattle.base_limits.specs.declared.Width.the-variants.{Bits32}
 use Rattle.vm_definitions.specs.Access.{storeFrom}
+use Rattle.prog_tables.specs.Hosts.{Hosts}
+use Rattle.res_hosts.specs.Marks.{hostList}
+use Rattle.res_hosts.specs.Lister.{listerHosts}
 use Rattle.check_source.specs.Check.{Filled, filled, lent, checkOf}
 use Rattle.check_source.specs.declared.Checked.{Checked}
 use Rattle.check_source.specs.declared.Checked.the-variants.{Accepted, Refused}
@@ -21,8 +24,8 @@ use Rattle.test_state.specs.Views.{readMemory, readStack, readAnswer, readView}
 use Rattle.test_state.specs.Changes.{changed, readChange}
 use Rattle.base_prelude.proofs.Choice.{tests}
 use Rattle.test_cases.specs.Checks.{withChecked, fullTables, kept, keptIn, checkSource, once, checkOnce}
-use Rattle.test_calls.specs.Calls.{ran, run-word, step-word, isStart, readCall}
-use Rattle.test_cases.specs.Lines.{begun-word, refused-word, broken-word, going-word, finished-word, stopped-word, rejected-word, record-word, words-word, holds-word, same-word, memory-word, stack-word, isCall, isAnswer, isView, isText, done, readChecked, lined, readBehind, readLine}
+use Rattle.test_calls.specs.Calls.{ran, run-word, resume-word, step-word, isStart, readCall}
+use Rattle.test_cases.specs.Lines.{begun-word, refused-word, broken-word, going-word, finished-word, stopped-word, paused-word, rejected-word, record-word, words-word, holds-word, same-word, memory-word, stack-word, isCall, isAnswer, isView, isText, done, readChecked, lined, readBehind, readLine}
 
 -- `with_checked`
 module _ (x : Checked) (q z : Progress) (got : List ℕ) where
@@ -42,13 +45,18 @@ lent-is : (l m n o p : ℕ) → l ≡ 32768 → m ≡ 27648 → n ≡ 1024 → o
 unfolding fullTables
 lent-is l m n o p hl hm hn ho hp = rw (hl, hm, hn, ho, hp)
 
-pub check-source-is : (s t b : List ℕ) (x : Checked) (tokens rows labels names bytes t1 t2 b1 b2 : List ℕ) (l m n o p : ℕ) → l ≡ 32768 → m ≡ 27648 → n ≡ 1024 → o ≡ 16384 → p ≡ 32768
-    → filled x tokens rows labels names bytes ≡ checkOf Bits32 s (lent l m n o p) → t1 ≡ storeFrom t 0 rows → t2 ≡ storeFrom t1 27648 labels → b1 ≡ storeFrom b 0 names → b2 ≡ storeFrom b1 16384 bytes
-    → kept x t2 b2 ≡ checkSource s t b
+lister-check : (s hs hn : List ℕ) (y : Filled) (l m n o p : ℕ) → l ≡ 32768 → m ≡ 27648 → n ≡ 1024 → o ≡ 16384 → p ≡ 32768 → hs ≡ listerHosts .words → hn ≡ listerHosts .names
+    → y ≡ checkOf Bits32 (hostList hs hn) s (lent l m n o p) → y ≡ checkOf Bits32 listerHosts s fullTables
+lister-check s hs hn y l m n o p hl hm hn′ ho hp w v e =
+    let h : hostList hs hn ≡ listerHosts = rw (w, v) in
+    e ∙ ap (λ (z : Hosts). checkOf Bits32 z s (lent l m n o p)) h ∙ ap (checkOf Bits32 listerHosts s) (lent-is l m n o p hl hm hn′ ho hp)
+
+pub check-source-is : (s t b : List ℕ) (x : Checked) (hs hn tokens rows labels names bytes t1 t2 b1 b2 : List ℕ) (l m n o p : ℕ) → l ≡ 32768 → m ≡ 27648 → n ≡ 1024 → o ≡ 16384 → p ≡ 32768
+    → hs ≡ listerHosts .words → hn ≡ listerHosts .names → filled x tokens rows labels names bytes ≡ checkOf Bits32 (hostList hs hn) s (lent l m n o p) → t1 ≡ storeFrom t 0 rows
+    → t2 ≡ storeFrom t1 27648 labels → b1 ≡ storeFrom b 0 names → b2 ≡ storeFrom b1 16384 bytes → kept x t2 b2 ≡ checkSource s t b
 unfolding checkSource
-check-source-is s t b x tokens rows labels names bytes t1 t2 b1 b2 l m n o p hl hm hn ho hp e f1 f2 g1 g2 =
-    let k : filled x tokens rows labels names bytes ≡ checkOf Bits32 s fullTables = e ∙ ap (checkOf Bits32 s) (lent-is l m n o p hl hm hn ho hp) in
-    rw (f2, f1, g2, g1) (ap (λ (y : Filled). keptIn y t b) k)
+check-source-is s t b x hs hn tokens rows labels names bytes t1 t2 b1 b2 l m n o p hl hm hn′ ho hp w v e f1 f2 g1 g2 =
+    rw (f2, f1, g2, g1) (ap (λ (y : Filled). keptIn y t b) (lister-check s hs hn (filled x tokens rows labels names bytes) l m n o p hl hm hn′ ho hp w v e))
 
 -- `check_once`
 module _ (q : Progress) (text : List ℕ) (got : List ℕ) (t : List ℕ) (b : List ℕ) where
@@ -72,11 +80,15 @@ module _ (l : List ℕ) where
   unfolding isCall
   is-call-2 a p0 h0 b p1 h1 = rw (← p0, ← p1) (search tests)
 
-  pub is-call-3 : (a : Bool) → a ≡ isStart l → a ≡ false → (b : Bool) → b ≡ startsWith l run-word → b ≡ false → (r : Bool) → r ≡ sameList l step-word → r ≡ isCall l
+  pub is-call-3 : (a : Bool) → a ≡ isStart l → a ≡ false → (b : Bool) → b ≡ startsWith l run-word → b ≡ false → (c : Bool) → c ≡ startsWith l resume-word → c ≡ true → true ≡ isCall l
   unfolding isCall
-  is-call-3 a p0 h0 b p1 h1 r p2 = rw (← p0, ← p1, ← p2) (search tests)
+  is-call-3 a p0 h0 b p1 h1 c p2 h2 = rw (← p0, ← p1, ← p2) (search tests)
 
-pub ruleset is-call-ways = (is-call-1, is-call-2, is-call-3)
+  pub is-call-4 : (a : Bool) → a ≡ isStart l → a ≡ false → (b : Bool) → b ≡ startsWith l run-word → b ≡ false → (c : Bool) → c ≡ startsWith l resume-word → c ≡ false → (r : Bool) → r ≡ sameList l step-word → r ≡ isCall l
+  unfolding isCall
+  is-call-4 a p0 h0 b p1 h1 c p2 h2 r p3 = rw (← p0, ← p1, ← p2, ← p3) (search tests)
+
+pub ruleset is-call-ways = (is-call-1, is-call-2, is-call-3, is-call-4)
 
 -- `is_answer`
 module _ (l : List ℕ) where
@@ -104,11 +116,15 @@ module _ (l : List ℕ) where
   unfolding isAnswer
   is-answer-6 a p0 h0 b p1 h1 c p2 h2 d p3 h3 e p4 h4 f p5 h5 = rw (← p0, ← p1, ← p2, ← p3, ← p4, ← p5) (search tests depth 16)
 
-  pub is-answer-7 : (a : Bool) → a ≡ startsWith l begun-word → a ≡ false → (b : Bool) → b ≡ startsWith l refused-word → b ≡ false → (c : Bool) → c ≡ startsWith l broken-word → c ≡ false → (d : Bool) → d ≡ startsWith l going-word → d ≡ false → (e : Bool) → e ≡ startsWith l finished-word → e ≡ false → (f : Bool) → f ≡ startsWith l stopped-word → f ≡ false → (r : Bool) → r ≡ startsWith l rejected-word → r ≡ isAnswer l
+  pub is-answer-7 : (a : Bool) → a ≡ startsWith l begun-word → a ≡ false → (b : Bool) → b ≡ startsWith l refused-word → b ≡ false → (c : Bool) → c ≡ startsWith l broken-word → c ≡ false → (d : Bool) → d ≡ startsWith l going-word → d ≡ false → (e : Bool) → e ≡ startsWith l finished-word → e ≡ false → (f : Bool) → f ≡ startsWith l stopped-word → f ≡ false → (g : Bool) → g ≡ startsWith l paused-word → g ≡ true → true ≡ isAnswer l
   unfolding isAnswer
-  is-answer-7 a p0 h0 b p1 h1 c p2 h2 d p3 h3 e p4 h4 f p5 h5 r p6 = rw (← p0, ← p1, ← p2, ← p3, ← p4, ← p5, ← p6) (search tests depth 16)
+  is-answer-7 a p0 h0 b p1 h1 c p2 h2 d p3 h3 e p4 h4 f p5 h5 g p6 h6 = rw (← p0, ← p1, ← p2, ← p3, ← p4, ← p5, ← p6) (search tests depth 16)
 
-pub ruleset is-answer-ways = (is-answer-1, is-answer-2, is-answer-3, is-answer-4, is-answer-5, is-answer-6, is-answer-7)
+  pub is-answer-8 : (a : Bool) → a ≡ startsWith l begun-word → a ≡ false → (b : Bool) → b ≡ startsWith l refused-word → b ≡ false → (c : Bool) → c ≡ startsWith l broken-word → c ≡ false → (d : Bool) → d ≡ startsWith l going-word → d ≡ false → (e : Bool) → e ≡ startsWith l finished-word → e ≡ false → (f : Bool) → f ≡ startsWith l stopped-word → f ≡ false → (g : Bool) → g ≡ startsWith l paused-word → g ≡ false → (r : Bool) → r ≡ startsWith l rejected-word → r ≡ isAnswer l
+  unfolding isAnswer
+  is-answer-8 a p0 h0 b p1 h1 c p2 h2 d p3 h3 e p4 h4 f p5 h5 g p6 h6 r p7 = rw (← p0, ← p1, ← p2, ← p3, ← p4, ← p5, ← p6, ← p7) (search tests depth 20)
+
+pub ruleset is-answer-ways = (is-answer-1, is-answer-2, is-answer-3, is-answer-4, is-answer-5, is-answer-6, is-answer-7, is-answer-8)
 
 -- `is_view`
 module _ (l : List ℕ) where

@@ -6,6 +6,7 @@ use lib.ListN.{take}
 use Rattle.base_prelude.specs.Choice.{ifTrue}
 use Rattle.base_limits.specs.declared.Width.the-variants.{Bits32}
 use Rattle.vm_definitions.specs.Access.{storeFrom}
+use Rattle.res_hosts.specs.Lister.{listerHosts}
 use Rattle.check_source.specs.Check.{Filled, Lent, lent, checkOf}
 use Rattle.check_source.specs.declared.Checked.{Checked}
 use Rattle.check_source.specs.declared.Checked.the-variants.{Accepted, Refused}
@@ -36,8 +37,9 @@ abbrev pub keptIn : Filled → List ℕ → List ℕ → Kept
 keptIn x t b =
     kept (x .answer) (storeFrom (storeFrom t 0 (x .statements)) 27648 (x .labels)) (storeFrom (storeFrom b 0 (x .names)) 16384 (x .bytes))
 
+-- "lister and case runner lend `bath` with 1 argument and `order` with 2" (02, 3)
 unfoldable pub checkSource : List ℕ → List ℕ → List ℕ → Kept
-checkSource s t b = keptIn (checkOf Bits32 s fullTables) t b
+checkSource s t b = keptIn (checkOf Bits32 listerHosts s fullTables) t b
 
 -- a progress, and the buffers that a check changes
 abbrev pub Once : Type 0

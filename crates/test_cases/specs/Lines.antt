@@ -13,7 +13,7 @@ use Rattle.test_state.specs.Source.{body-word, readSource}
 use Rattle.test_state.specs.Views.{readMemory, readStack, readAnswer, readView}
 use Rattle.test_state.specs.Changes.{Changed, readChange}
 use Rattle.test_cases.specs.Checks.{Once, checkOnce}
-use Rattle.test_calls.specs.Calls.{Ran, run-word, step-word, isStart, readCall}
+use Rattle.test_calls.specs.Calls.{Ran, run-word, resume-word, step-word, isStart, readCall}
 
 -- `begun`
 abbrev pub begun-word : List ℕ
@@ -38,6 +38,10 @@ finished-word = 102 ∷ 105 ∷ 110 ∷ 105 ∷ 115 ∷ 104 ∷ 101 ∷ 100 ∷ 
 -- `stopped `
 abbrev pub stopped-word : List ℕ
 stopped-word = 115 ∷ 116 ∷ 111 ∷ 112 ∷ 112 ∷ 101 ∷ 100 ∷ 32 ∷ []
+
+-- `paused `
+abbrev pub paused-word : List ℕ
+paused-word = 112 ∷ 97 ∷ 117 ∷ 115 ∷ 101 ∷ 100 ∷ 32 ∷ []
 
 -- `rejected `
 abbrev pub rejected-word : List ℕ
@@ -71,7 +75,8 @@ unfoldable pub isCall : List ℕ → Bool
 isCall l =
     ifTrue (isStart l) true
     (ifTrue (startsWith l run-word) true
-    (sameList l step-word))
+    (ifTrue (startsWith l resume-word) true
+    (sameList l step-word)))
 
 unfoldable pub isAnswer : List ℕ → Bool
 isAnswer l =
@@ -81,7 +86,8 @@ isAnswer l =
     (ifTrue (startsWith l going-word) true
     (ifTrue (startsWith l finished-word) true
     (ifTrue (startsWith l stopped-word) true
-    (startsWith l rejected-word))))))
+    (ifTrue (startsWith l paused-word) true
+    (startsWith l rejected-word)))))))
 
 unfoldable pub isView : List ℕ → Bool
 isView l =

@@ -61,7 +61,7 @@ fn with_checked(x: Checked, q: Progress, got: &mut Text) -> Progress
     }
 }
 
-// Checks a source and keeps its tables.
+// Checks a source against the list that the case runner lends, and keeps its tables.
 fn check_source(s: &[u8], t: &mut Rows, b: &mut Bytes) -> Checked
     ensures { λ r. ⌜ kept r (now (t .exit)) (now (b .exit)) ≡ checkSource (now (s .entry)) (now (t .entry)) (now (b .entry)) ⌝ }
 {
@@ -70,9 +70,13 @@ fn check_source(s: &[u8], t: &mut Rows, b: &mut Bytes) -> Checked
     let mut labels = [0u32; Table::LABEL_WORDS];
     let mut names = [0u8; Table::NAME_TABLE];
     let mut bytes = [0u8; Machine::DATA_BYTES];
+    let hosts = res_hosts::lister_words();
+    let host_names = res_hosts::lister_names();
     let x = check_source::check(
         Width::Bits32,
         s,
+        &hosts,
+        &host_names,
         &mut tokens,
         &mut rows,
         &mut labels,
@@ -107,6 +111,9 @@ fn is_call(l: &[u8]) -> bool
     if starts_with(l, b"run ") {
         return true;
     }
+    if starts_with(l, b"resume ") {
+        return true;
+    }
     base_prelude::same(l, b"step")
 }
 
@@ -129,6 +136,9 @@ fn is_answer(l: &[u8]) -> bool
         return true;
     }
     if starts_with(l, b"stopped ") {
+        return true;
+    }
+    if starts_with(l, b"paused ") {
         return true;
     }
     starts_with(l, b"rejected ")

@@ -1,4 +1,4 @@
-// Runs check, start, step and run on the cases of standard input and prints each answer and what differs.
+// Runs check, start, step, run and resume on the cases of standard input and prints each answer and what differs.
 use test_lines::Case;
 use test_lines::front;
 use test_lines::is_comment;

@@ -11,23 +11,25 @@ use Rattle.base_prelude.specs.Bytes.{byteAt}
 use Rattle.base_prelude.proofs.Bytes.{byte-within}
 use Rattle.base_prelude.proofs.Choice.{tests, ifLt-yes, ifLt-no, ifTrue-yes, ifTrue-no}
 use Rattle.base_limits.specs.declared.State.{State}
-use Rattle.base_limits.specs.declared.State.the-variants.{Running, Finished, Stopped}
+use Rattle.base_limits.specs.declared.State.the-variants.{Running, Finished, Stopped, Paused}
+use Rattle.base_limits.specs.declared.Pause.{Pause}
 use Rattle.base_limits.specs.declared.Machine.{Machine}
-use Rattle.base_limits.specs.Record.{movedTo, withState}
+use Rattle.base_limits.specs.Record.{movedTo, withState, eightWords, pausedWords}
 use Rattle.vm_definitions.specs.declared.Broken.{Broken}
 use Rattle.vm_definitions.specs.declared.Broken.the-variants.{No, At, Somewhere}
 use Rattle.vm_definitions.specs.declared.Started.{Started}
 use Rattle.vm_definitions.specs.declared.Started.the-variants.{Begun, Refused, Unsound}
 use Rattle.vm_definitions.specs.declared.Outcome.{Outcome}
+use Rattle.vm_definitions.specs.declared.Resumed.{Resumed}
 use Rattle.app_page.specs.Bytes.{digitsWithin, decimal, field}
 use Rattle.test_lines.specs.Lines.{startsWith}
 use Rattle.test_lines.specs.Fields.{noNumber, fieldStart, fieldOf}
 use Rattle.test_lines.specs.Sources.{Source, source, addByte}
 use Rattle.test_text.specs.Fields.{countFields, hasWord, wordEnd, rawAt}
-use Rattle.test_text.specs.Numbers.{negatedOf, fieldValue, areValues, hasValues, longDigit}
-use Rattle.test_text.specs.Answers.{addAll, fieldBytes, none-word, begun-word, refused-word, broken-word, rejected-word, going-word, finished-word, stopped-word, record-word, brokenBytes, startedBytes, rejectedBytes, countedBytes, stoppedBytes, finishedBytes, stateBytes, unsoundBytes, outcomeBytes, recordBytes}
+use Rattle.test_text.specs.Numbers.{negatedOf, fieldValue, fieldWord, areValues, hasValues, longDigit}
+use Rattle.test_text.specs.Answers.{addAll, fieldBytes, none-word, begun-word, refused-word, broken-word, rejected-word, going-word, finished-word, stopped-word, paused-word, record-word, brokenBytes, startedBytes, rejectedBytes, countedBytes, stoppedBytes, finishedBytes, listBytes, pausedBytes, stateBytes, unsoundBytes, outcomeBytes, resumedBytes, recordBytes}
 use Rattle.test_text.specs.Records as poke
-use Rattle.test_text.specs.Records.{pokeNumber, pokeState, isNumberPoke, isStatePoke, isRecordPoke, pokeRecord}
+use Rattle.test_text.specs.Records.{pokeNumber, pausePoked, isPausePoke, pokeState, isNumberPoke, isStatePoke, isRecordPoke, pokeRecord}
 use Rattle.test_text.specs.Buffers.{lesserOf, behindOf}
 
 -- a word at the start of a field
@@ -66,6 +68,10 @@ module _ (l : List ℕ) (k at c : ℕ) (p : at ≡ fieldStart l k) (q : c ≡ by
   value-plain r e f = rw (← p, ← q, ← f) (search tests)
 
 pub ruleset values = (value-signed, value-plain)
+
+pub word-in : (l : List ℕ) (k n r : ℕ) → n ≡ fieldValue l k → r ≡ n % noNumber → r ≡ fieldWord l k
+unfolding fieldWord
+word-in l k n r p e = e ∙ ap (λ (x : ℕ). x % noNumber) p
 
 module _ (l : List ℕ) (from end n : ℕ) (p : n ≡ countFields l) where
   pub has-others : (n ≡ end → ⊥) → false ≡ hasValues l from end
@@ -224,6 +230,17 @@ pub finished-added : (count word : ℕ) (q y z : Source) → y ≡ addAll (count
 unfolding finishedBytes
 finished-added count word q y z e f = add-two (countedBytes finished-word count) (field word) q y z e f
 
+pub eight-held : (p : Pause) → p .first ∷ p .second ∷ p .third ∷ p .fourth ∷ p .fifth ∷ p .sixth ∷ p .seventh ∷ p .eighth ∷ [] ≡ eightWords p
+unfolding eightWords
+eight-held p = refl
+
+pub paused-added : (count : ℕ) (p : Pause) (ws vs : List ℕ) (q x y z : Source) → ws ≡ eightWords p → vs ≡ take (p .count) ws → x ≡ addAll (countedBytes paused-word count) q
+    → y ≡ addAll (field (p .number)) x → z ≡ addAll (listBytes vs) y → z ≡ addAll (pausedBytes count p) q
+unfolding pausedBytes pausedWords
+paused-added count p ws vs q x y z w h e f g =
+    add-three (countedBytes paused-word count) (field (p .number)) (listBytes (take (p .count) (eightWords p))) q x y z e f
+    (g ∙ ap (λ (v : List ℕ). addAll (listBytes v) y) (h ∙ ap (λ (v : List ℕ). take (p .count) v) w))
+
 module _ (s : State) (count : ℕ) (q z : Source) where
   pub state-running : s ≡ Running → z ≡ addAll (countedBytes going-word count) q → z ≡ addAll (stateBytes s count) q
   unfolding stateBytes
@@ -237,7 +254,11 @@ module _ (s : State) (count : ℕ) (q z : Source) where
   unfolding stateBytes
   state-stopped number statement e f = rw e f
 
-pub ruleset states = (state-running, state-finished, state-stopped)
+  pub state-paused : (p : Pause) → s ≡ Paused p → z ≡ addAll (pausedBytes count p) q → z ≡ addAll (stateBytes s count) q
+  unfolding stateBytes
+  state-paused p e f = rw e f
+
+pub ruleset states = (state-running, state-finished, state-stopped, state-paused)
 
 pub unsound-added : (b : Broken) (count : ℕ) (q y z : Source) → y ≡ addAll (countedBytes broken-word count) q → z ≡ addAll (brokenBytes b) y → z ≡ addAll (unsoundBytes b count) q
 unfolding unsoundBytes
@@ -257,6 +278,17 @@ module _ (o : Outcome) (q z : Source) where
   outcome-nowhere e f = rw e f
 
 pub ruleset outcomes = (outcome-state, outcome-at, outcome-nowhere)
+
+module _ (o : Resumed) (q z : Source) where
+  pub resumed-not : o .unpaused ≡ true → z ≡ addAll (startedBytes (Refused 37)) q → z ≡ addAll (resumedBytes o) q
+  unfolding resumedBytes
+  resumed-not e f = f ∙ ap (λ (x : List ℕ). addAll x q) (sym (ifTrue-yes _ _ e))
+
+  pub resumed-so : o .unpaused ≡ false → z ≡ addAll (outcomeBytes (o .outcome)) q → z ≡ addAll (resumedBytes o) q
+  unfolding resumedBytes
+  resumed-so e f = f ∙ ap (λ (x : List ℕ). addAll x q) (sym (ifTrue-no _ _ e))
+
+pub ruleset resumptions = (resumed-not, resumed-so)
 
 pub record-added : (r : Machine) (q w x y z : Source) → w ≡ addAll (countedBytes record-word (r .next)) q → x ≡ addAll (field (r .frame)) w → y ≡ addAll (field (r .used)) x → z ≡ addAll (field (r .top)) y
     → z ≡ addAll (recordBytes r) q
@@ -333,11 +365,34 @@ module _ (l : List ℕ) (a : Bool) (p : a ≡ hasWord l 2 poke.finished-word) (r
         let k′ : i ≡ fieldValue l 4 % noNumber = k ∙ ap (λ (x : ℕ). x % noNumber) f in
         rw (← p, ← p′, ← w-is, ← k′, ← q) (search tests)
 
-    pub poke-running : b ≡ false → z ≡ withState Running r → z ≡ pokeState l r
-    unfolding pokeState
-    poke-running e f = rw (← p, ← p′, ← f) (search tests)
+    module _ (b0 : b ≡ false) (c : Bool) (p″ : c ≡ hasWord l 2 poke.paused-word) where
+      pub poke-paused : (w : Pause) → c ≡ true → w ≡ pausePoked l → z ≡ withState (Paused w) r → z ≡ pokeState l r
+      unfolding pokeState
+      poke-paused w e f q = rw (← p, ← p′, ← p″, ← f, ← q) (search tests)
 
-pub ruleset state-pokes = (poke-finished, poke-stopped, poke-running)
+      pub poke-running : c ≡ false → z ≡ withState Running r → z ≡ pokeState l r
+      unfolding pokeState
+      poke-running e f = rw (← p, ← p′, ← p″, ← f) (search tests)
+
+pub ruleset state-pokes = (poke-finished, poke-stopped, poke-paused, poke-running)
+
+module _ (l : List ℕ) (n : ℕ) (p : n ≡ countFields l) where
+  pub pause-long : 13 < n → false ≡ isPausePoke l
+  unfolding isPausePoke
+  pause-long h = rw (← p) (search tests)
+
+  pub pause-values : (r : Bool) → n ≤ 13 → r ≡ areValues l 3 n → r ≡ isPausePoke l
+  unfolding isPausePoke
+  pause-values r h e = rw (← p, ← e) (search tests)
+
+pub ruleset pauses = (pause-long, pause-values)
+
+module _ (l : List ℕ) (n : ℕ) (p0 : n ≡ fieldWord l 3) (k : ℕ) (p1 : k ≡ fieldWord l 4) where
+  pub pause-read : (a b c d e f g h : ℕ) → a ≡ fieldWord l 5 → b ≡ fieldWord l 6 → c ≡ fieldWord l 7 → d ≡ fieldWord l 8 → e ≡ fieldWord l 9 → f ≡ fieldWord l 10 → g ≡ fieldWord l 11
+      → h ≡ fieldWord l 12
+      → record { number = n; count = k; first = a; second = b; third = c; fourth = d; fifth = e; sixth = f; seventh = g; eighth = h } ≡ pausePoked l
+  unfolding pausePoked
+  pause-read a b c d e f g h p2 p3 p4 p5 p6 p7 p8 p9 = rw (← p0, ← p1, ← p2, ← p3, ← p4, ← p5, ← p6, ← p7, ← p8, ← p9)
 
 module _ (l : List ℕ) (r a : Bool) (p : a ≡ hasWord l 2 poke.running-word) where
   pub names-running : a ≡ true → r ≡ hasValues l 3 4 → r ≡ isStatePoke l
@@ -354,11 +409,16 @@ module _ (l : List ℕ) (r a : Bool) (p : a ≡ hasWord l 2 poke.running-word) w
       unfolding isStatePoke
       names-stopped e f = rw (← p, ← p′, ← p″, ← f) (search tests)
 
-      pub names-none : c ≡ false → false ≡ isStatePoke l
-      unfolding isStatePoke
-      names-none e = rw (← p, ← p′, ← p″) (search tests)
+      module _ (c0 : c ≡ false) (d : Bool) (p‴ : d ≡ hasWord l 2 poke.paused-word) where
+        pub names-paused : d ≡ true → r ≡ isPausePoke l → r ≡ isStatePoke l
+        unfolding isStatePoke
+        names-paused e f = rw (← p, ← p′, ← p″, ← p‴, ← f) (search tests)
 
-pub ruleset state-names = (names-running, names-finished, names-stopped, names-none)
+        pub names-none : d ≡ false → false ≡ isStatePoke l
+        unfolding isStatePoke
+        names-none e = rw (← p, ← p′, ← p″, ← p‴) (search tests)
+
+pub ruleset state-names = (names-running, names-finished, names-stopped, names-paused, names-none)
 
 module _ (l : List ℕ) (a : Bool) (p : a ≡ isStatePoke l) where
   pub changes-state : a ≡ true → true ≡ isRecordPoke l

@@ -22,7 +22,7 @@ use Rattle.test_lines.specs.Fields.{noNumber}
 use Rattle.test_lines.specs.Sources.{Source, source, addByte}
 use Rattle.test_text.specs.Fields.{countFields, countStep, wordStep, wordEnd}
 use Rattle.test_text.specs.Numbers.{fieldValue, valuesStep, areValues, digitsStep, isDigits, longDigit, longStep, longNumber, listed, argumentStep, argumentsOf}
-use Rattle.test_text.specs.Answers.{addAll, fieldBytes, fieldsFrom, plainBytes, none-word, words-word, holds-word, countedBytes, numbersFrom, wordsBytes, holdsBytes}
+use Rattle.test_text.specs.Answers.{addAll, fieldBytes, fieldsFrom, plainBytes, none-word, words-word, holds-word, countedBytes, listBytes, numbersFrom, wordsBytes, holdsBytes}
 use Rattle.test_text.specs.Buffers.{lesserOf, changedStep, changedIn, stored, storing, storeStep, bytesStored}
 use Rattle.test_text.proofs.Cases.{add-two, add-one-byte}
 
@@ -222,6 +222,36 @@ module _ (l : List ℕ) (q : Source) (t : List ℕ) (n i : ℕ) where
   adding-done h g = ap (λ (x : List ℕ). addAll x (source n t)) (sym (drop-of-length-le l g)) ∙ h .rest
 
 pub ruleset adding = (adding-start, adding-more, adding-done)
+
+-- `add_list`
+pub record Listed (ws : List ℕ) (q : Source) (t : List ℕ) (n i : ℕ) : Type 0 where
+  pub rest : addAll (listBytes (drop i ws)) (source n t) ≡ addAll (listBytes ws) q
+
+pub listed-start : (ws : List ℕ) (n : ℕ) (t : List ℕ) → Listed ws (source n t) t n 0
+listed-start ws n t = record { rest = refl }
+
+list-next : (v : ℕ) (vs : List ℕ) (s₀ s₁ : Source) → s₁ ≡ addAll (field v) s₀ → addAll (listBytes vs) s₁ ≡ addAll (listBytes (v ∷ vs)) s₀
+unfolding listBytes
+list-next v vs s₀ s₁ e = add-two (field v) (listBytes vs) s₀ s₁ (addAll (listBytes vs) s₁) e refl
+
+list-none : (q : Source) → q ≡ addAll (listBytes []) q
+unfolding listBytes addAll
+list-none q = refl
+
+module _ (ws : List ℕ) (q : Source) (t : List ℕ) (n i : ℕ) where
+  pub listed-more : (v m : ℕ) (u : List ℕ) → Listed ws q t n i → i < length ws → v ≡ getD ws i 0 → source m u ≡ addAll (field v) (source n t) → Listed ws q u m (i + 1)
+  listed-more v m u h g p e =
+      record {
+        rest =
+            list-next (getD ws i 0) (drop (i + 1) ws) (source n t) (source m u) (e ∙ ap (λ (x : ℕ). addAll (field x) (source n t)) p)
+            ∙ ap (λ (x : List ℕ). addAll (listBytes x) (source n t)) (sym (next-drop ws i g))
+            ∙ h .rest;
+      }
+
+  pub listed-done : Listed ws q t n i → length ws ≤ i → source n t ≡ addAll (listBytes ws) q
+  listed-done h g = list-none (source n t) ∙ ap (λ (x : List ℕ). addAll (listBytes x) (source n t)) (sym (drop-of-length-le ws g)) ∙ h .rest
+
+pub ruleset listed-words = (listed-start, listed-more, listed-done)
 
 -- `plain_line`
 pub record Lining (l : List ℕ) (fields : ℕ) (q : Source) (t : List ℕ) (n k : ℕ) : Type 0 where

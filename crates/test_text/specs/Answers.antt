@@ -3,15 +3,18 @@
 use Prim.Native.Nat.{ℕ, zero, suc, _-_}
 use mathlib.Core.List.{List, [], _∷_, _++_}
 use lib.ListN.{length, getD}
-use Rattle.base_prelude.specs.Choice.{ifLt}
+use Rattle.base_prelude.specs.Choice.{ifLt, ifTrue}
 use Rattle.base_limits.specs.declared.State.{State}
-use Rattle.base_limits.specs.declared.State.the-variants.{Running, Finished, Stopped}
+use Rattle.base_limits.specs.declared.State.the-variants.{Running, Finished, Stopped, Paused}
+use Rattle.base_limits.specs.declared.Pause.{Pause}
 use Rattle.base_limits.specs.declared.Machine.{Machine}
+use Rattle.base_limits.specs.Record.{pausedWords}
 use Rattle.vm_definitions.specs.declared.Broken.{Broken}
 use Rattle.vm_definitions.specs.declared.Broken.the-variants.{No, At, Somewhere}
 use Rattle.vm_definitions.specs.declared.Started.{Started}
 use Rattle.vm_definitions.specs.declared.Started.the-variants.{Begun, Refused, Unsound}
 use Rattle.vm_definitions.specs.declared.Outcome.{Outcome}
+use Rattle.vm_definitions.specs.declared.Resumed.{Resumed}
 use Rattle.app_page.specs.Bytes.{decimal, field}
 use Rattle.test_lines.specs.Fields.{noNumber, fieldStart}
 use Rattle.test_lines.specs.Sources.{Source, addByte}
@@ -68,6 +71,10 @@ finished-word = 102 ∷ 105 ∷ 110 ∷ 105 ∷ 115 ∷ 104 ∷ 101 ∷ 100 ∷ 
 abbrev pub stopped-word : List ℕ
 stopped-word = 115 ∷ 116 ∷ 111 ∷ 112 ∷ 112 ∷ 101 ∷ 100 ∷ []
 
+-- `paused`
+abbrev pub paused-word : List ℕ
+paused-word = 112 ∷ 97 ∷ 117 ∷ 115 ∷ 101 ∷ 100 ∷ []
+
 -- `record`
 abbrev pub record-word : List ℕ
 record-word = 114 ∷ 101 ∷ 99 ∷ 111 ∷ 114 ∷ 100 ∷ []
@@ -106,10 +113,20 @@ stoppedBytes count number statement = countedBytes stopped-word count ++ (field 
 unfoldable pub finishedBytes : ℕ → ℕ → List ℕ
 finishedBytes count word = countedBytes finished-word count ++ field word
 
+-- a blank and a number for each word
+unfoldable pub listBytes : List ℕ → List ℕ
+listBytes [] = []
+listBytes (w ∷ ws) = field w ++ listBytes ws
+
+-- a pause: the imported name's number and its arguments
+unfoldable pub pausedBytes : ℕ → Pause → List ℕ
+pausedBytes count q = countedBytes paused-word count ++ (field (q .number) ++ listBytes (pausedWords q))
+
 unfoldable pub stateBytes : State → ℕ → List ℕ
 stateBytes Running count = countedBytes going-word count
 stateBytes (Finished word) count = finishedBytes count word
 stateBytes (Stopped number statement) count = stoppedBytes count number statement
+stateBytes (Paused q) count = pausedBytes count q
 
 unfoldable pub unsoundBytes : Broken → ℕ → List ℕ
 unsoundBytes b count = countedBytes broken-word count ++ brokenBytes b
@@ -122,6 +139,10 @@ answerBytes Somewhere q count = unsoundBytes Somewhere count
 -- what a step or a run answers
 unfoldable pub outcomeBytes : Outcome → List ℕ
 outcomeBytes o = answerBytes (o .broken) (o .machine .state) (o .count)
+
+-- what going on answers: 37 where the record is not paused
+unfoldable pub resumedBytes : Resumed → List ℕ
+resumedBytes o = ifTrue (o .unpaused) (startedBytes (Refused 37)) (outcomeBytes (o .outcome))
 
 -- the numbers of a record
 unfoldable pub recordBytes : Machine → List ℕ

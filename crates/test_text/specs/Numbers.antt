@@ -21,6 +21,10 @@ unfoldable pub fieldValue : List ℕ → ℕ → ℕ
 fieldValue l k =
     ifEq (byteAt l (fieldStart l k)) 45 (negatedOf (fieldOf (drop (fieldStart l k + 1) l) 0)) (fieldOf l k)
 
+-- the word in a field; 0 where there is no number
+unfoldable pub fieldWord : List ℕ → ℕ → ℕ
+fieldWord l k = fieldValue l k % noNumber
+
 unfoldable pub valuesStep : List ℕ → ℕ → ℕ → Step ℕ Bool
 valuesStep l end k = ifLt k end (ifLt (fieldValue l k) noNumber (go (k + 1)) (stop false)) (stop true)
 

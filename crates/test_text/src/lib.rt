@@ -1,5 +1,6 @@
 // The words of machine cases: numbers with a sign, answers as text, and the buffers that a case lends.
 use base_limits::Machine;
+use base_limits::Pause;
 use base_limits::State;
 use base_prelude::byte_at;
 use base_prelude::wide;
@@ -11,19 +12,21 @@ use test_lines::narrow;
 use test_lines::starts_with;
 use vm_definitions::Broken;
 use vm_definitions::Outcome;
+use vm_definitions::Resumed;
 use vm_definitions::Started;
 ghost use mathlib.Core.Path.{_≡_};
 ghost use mathlib.Core.List.{[], _∷_, _++_};
 ghost use Prim.Native.Nat.{_+_, _-_, _%_, _≤_, _<_};
 ghost use lib.ListN.{length, take, set, replicate};
 ghost use Rattle.base_limits.specs.Limits.{wordValues};
+ghost use Rattle.base_limits.specs.Record.{eightWords};
 ghost use Rattle.test_lines.specs.Sources.{source};
 ghost use Rattle.app_page.specs.Bytes.{digitsWithin, decimal, field};
 ghost use Rattle.vm_definitions.specs.Access.{storeFrom};
 ghost use Rattle.test_text.specs.Fields.{countFields, hasWord, wordEnd, rawAt};
-ghost use Rattle.test_text.specs.Numbers.{negatedOf, fieldValue, areValues, hasValues, isDigits, longDigit, longNumber, listed, argumentsOf};
-ghost use Rattle.test_text.specs.Answers.{addAll, fieldBytes, plainBytes, brokenBytes, startedBytes, rejectedBytes, countedBytes, stoppedBytes, finishedBytes, stateBytes, unsoundBytes, outcomeBytes, recordBytes, numbersFrom, wordsBytes, holdsBytes};
-ghost use Rattle.test_text.specs.Records.{pokeNumber, pokeState, isNumberPoke, isStatePoke, isRecordPoke, pokeRecord};
+ghost use Rattle.test_text.specs.Numbers.{negatedOf, fieldValue, fieldWord, areValues, hasValues, isDigits, longDigit, longNumber, listed, argumentsOf};
+ghost use Rattle.test_text.specs.Answers.{addAll, fieldBytes, plainBytes, brokenBytes, startedBytes, rejectedBytes, countedBytes, stoppedBytes, finishedBytes, listBytes, pausedBytes, stateBytes, unsoundBytes, outcomeBytes, resumedBytes, recordBytes, numbersFrom, wordsBytes, holdsBytes};
+ghost use Rattle.test_text.specs.Records.{pokeNumber, pausePoked, isPausePoke, pokeState, isNumberPoke, isStatePoke, isRecordPoke, pokeRecord};
 ghost use Rattle.test_text.specs.Buffers.{lesserOf, behindOf, changedIn, stored, bytesStored};
 
 // Sizes of the buffers of a case.
@@ -116,6 +119,13 @@ pub fn value(l: &[u8], k: u64) -> u64
         return negated(field(&l[i..], 0));
     }
     field(l, k)
+}
+
+// The word in a field; 0 where there is no number.
+pub fn word_in(l: &[u8], k: u64) -> u32
+    ensures { λ r. ⌜ r ≡ fieldWord (now (l .entry)) k ⌝ }
+{
+    narrow(value(l, k))
 }
 
 // Whether the fields from one to before another are numbers.
@@ -335,6 +345,45 @@ fn add_finished(count: u64, word: u32, text: &mut Text) -> usize
     add_next(word as u64, text, size)
 }
 
+// A blank and a number for each word.
+fn add_list(ws: &[u32], text: &mut Text, size: usize) -> usize
+    ensures { λ r. ⌜ source r (now (text .exit)) ≡ addAll (listBytes (now (ws .entry))) (source size (now (text .entry))) ⌝ }
+{
+    let mut end = size;
+    let mut i: usize = 0;
+    while i < ws.len() {
+        end = add_next(long(ws[i]), text, end);
+        i += 1;
+    }
+    end
+}
+
+// The eight words that a pause holds.
+fn eight_words(p: Pause) -> [u32; 8]
+    ensures { λ r. ⌜ r ≡ eightWords p ⌝ }
+{
+    [
+        p.first,
+        p.second,
+        p.third,
+        p.fourth,
+        p.fifth,
+        p.sixth,
+        p.seventh,
+        p.eighth,
+    ]
+}
+
+// A pause: the imported name's number and its arguments.
+fn add_paused(count: u64, p: Pause, text: &mut Text) -> usize
+    ensures { λ r. ⌜ source r (now (text .exit)) ≡ addAll (pausedBytes count p) (source 0 (now (text .entry))) ⌝ }
+{
+    let size = add_counted(b"paused", count, text);
+    let at = add_next(p.number as u64, text, size);
+    let words = eight_words(p);
+    add_list(front_words(&words, p.count as usize), text, at)
+}
+
 // What a step or a run answers without a 35.
 fn add_state(q: State, count: u64, text: &mut Text) -> usize
     ensures { λ r. ⌜ source r (now (text .exit)) ≡ addAll (stateBytes q count) (source 0 (now (text .entry))) ⌝ }
@@ -343,6 +392,7 @@ fn add_state(q: State, count: u64, text: &mut Text) -> usize
         State::Running => add_counted(b"going", count, text),
         State::Finished(word) => add_finished(count, word, text),
         State::Stopped { number, statement } => add_stopped(count, number, statement, text),
+        State::Paused(p) => add_paused(count, p, text),
     }
 }
 
@@ -366,6 +416,17 @@ pub fn add_outcome(o: Outcome, text: &mut Text) -> usize
         Broken::At(i) => add_unsound(Broken::At(i), o.count, text),
         Broken::Somewhere => add_unsound(Broken::Somewhere, o.count, text),
     }
+}
+
+// What going on answers.
+pub fn add_resumed(o: Resumed, text: &mut Text) -> usize
+    ensures { λ r. ⌜ source r (now (text .exit)) ≡ addAll (resumedBytes o) (source 0 (now (text .entry))) ⌝ }
+{
+    let a = o.outcome;
+    if o.unpaused {
+        return add_started(Started::Refused(37), text);
+    }
+    add_outcome(a, text)
 }
 
 // The numbers of a record.
@@ -467,6 +528,35 @@ fn poke_number(l: &[u8], r: Machine) -> Machine
     r
 }
 
+// The pause of a line: its number, its argument count, and up to eight words, 0 beyond them.
+fn pause_in(l: &[u8]) -> Pause
+    ensures { λ z. ⌜ z ≡ pausePoked (now (l .entry)) ⌝ }
+{
+    Pause {
+        number: word_in(l, 3),
+        count: word_in(l, 4),
+        first: word_in(l, 5),
+        second: word_in(l, 6),
+        third: word_in(l, 7),
+        fourth: word_in(l, 8),
+        fifth: word_in(l, 9),
+        sixth: word_in(l, 10),
+        seventh: word_in(l, 11),
+        eighth: word_in(l, 12),
+    }
+}
+
+// Whether a line has a pause: numbers, at most eight words.
+fn is_pause_poke(l: &[u8]) -> bool
+    ensures { λ r. ⌜ r ≡ isPausePoke (now (l .entry)) ⌝ }
+{
+    let n = count_fields(l);
+    if 13 < n {
+        return false;
+    }
+    are_values(l, 3, n)
+}
+
 // A record with its state changed.
 fn poke_state(l: &[u8], r: Machine) -> Machine
     ensures { λ z. ⌜ z ≡ pokeState (now (l .entry)) r ⌝ }
@@ -484,6 +574,9 @@ fn poke_state(l: &[u8], r: Machine) -> Machine
             },
             r,
         );
+    }
+    if has_word(l, 2, b"paused ") {
+        return Machine::with_state(State::Paused(pause_in(l)), r);
     }
     Machine::with_state(State::Running, r)
 }
@@ -516,6 +609,9 @@ fn is_state_poke(l: &[u8]) -> bool
     }
     if has_word(l, 2, b"stopped ") {
         return has_values(l, 3, 5);
+    }
+    if has_word(l, 2, b"paused ") {
+        return is_pause_poke(l);
     }
     false
 }

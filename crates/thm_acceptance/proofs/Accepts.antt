@@ -14,6 +14,7 @@ use Rattle.base_prelude.specs.Fault.{none, key, keyNumber, keyPlace, leastOf}
 use Rattle.base_prelude.proofs.Choice.{either, either-true, ifLt-yes, ifLt-no, ifTrue-yes, ifTrue-no, true-false}
 use Rattle.base_prelude.proofs.Keys.{key-is, key-fault, key-place, key-number}
 use Rattle.base_limits.specs.declared.Width.{Width}
+use Rattle.prog_tables.specs.Hosts.{Hosts}
 use Rattle.parse_lines.specs.Tokens.{placeAt, keyAt}
 use Rattle.lex_source.specs.Token.{Token}
 use Rattle.lex_source.specs.Lex.{Outcome, accepted, refused, lexOf}
@@ -38,17 +39,21 @@ use Rattle.parse_verdict.specs.Verdict.{Clean, allFaults, verdictOf, keyOf, Ris
 use Rattle.parse_verdict.specs.Lexing.{lexFaults, lexKey}
 use Rattle.parse_verdict.proofs.Decided.{least-none, all-none, none-all, decided, RealV, parse-real}
 use Rattle.parse_verdict.proofs.Counts as counts
-use Rattle.parse_verdict.proofs.Lexed.{lexed-rising, lexed-long}
+use Rattle.parse_verdict.proofs.Lexed.{lexed-long}
 use Rattle.parse_verdict.proofs.Lexing.{lexed-fine, fine-lexed, long-refused, lex-least, lex-real}
-use Rattle.check_judge.specs.Judge.{Known, known, Judged, refusal, fine, sizeGroup, namesWith, namesJudged, faultGroup, nameGroup, outlineGroup, lineGroup, tokenGroup, judgeOf}
+use Rattle.check_judge.specs.Judge.{Known, known, Judged, refusal, fine, sizeGroup, namesWith, namesJudged, faultGroup, nameGroup, outlineGroup, lineGroup, hostedTable, tokenGroup, judgeOf}
+use Rattle.check_judge.proofs.Hosted.{table-long, hosted-rising}
+use Rattle.res_hosts.proofs.Laws.{hosted-long}
 use Rattle.check_source.specs.Check.{Lent, Filled, refuse, hasRoom, accept, answerTo, checkOf}
 use Rattle.check_source.specs.declared.Checked.{Checked}
 use Rattle.check_source.specs.declared.Checked.the-variants.{Accepted, Refused}
 use Rattle.thm_acceptance.specs.Faults.{allNameFaults, exportFaults}
 use Rattle.thm_acceptance.specs.Accepts.{tokensIn, tokensOf, tableOf, outlined, statementsIn, labelsIn, longRule, namesIn, nameFaults, roomRule, laterGroups, groupsOf, judge, countsIn, countsOf, Holds, AllClean, isAccepted}
-use Rattle.thm_acceptance.specs.Unbroken.{NamesUnbroken, Unbroken}
+use Rattle.thm_acceptance.specs.Unbroken.{NamesUnbroken, Listed, Unbroken}
+use Rattle.thm_acceptance.specs.Lines.{EachLine}
 use Rattle.thm_acceptance.proofs.Least.{append-least, names-least, exports-least}
-use Rattle.thm_acceptance.proofs.Paged.{lines-fine}
+use Rattle.thm_acceptance.proofs.Paged.{LineFine, lines-fine}
+use Rattle.thm_acceptance.proofs.Listed.{marks-lists, lists-marks}
 use Rattle.thm_acceptance.proofs.Rising.{InOrder, outline-order}
 use Rattle.thm_acceptance.proofs.Page.{ReadsUnbroken, clean-reads, reads-clean, LinesUnbroken, fine-lines, lines-join}
 use Rattle.thm_acceptance.proofs.PageNames.{clean-names, names-clean}
@@ -159,43 +164,43 @@ module _ (w : Width) (s : List ℕ) (b : Lent) (n : ℕ) (t : List ℕ) (long : 
   line-is = outline-is (parseOf w t (length s) .verdict) (parseOf w t (length s) .outline) (labelRows t) (decided t (length s) r w) (parse-real w t (length s) long)
 
 -- 1; 2 to 6 with 14 for tokens
-module _ (w : Width) (s : List ℕ) (b : Lent) where
+module _ (w : Width) (h : Hosts) (s : List ℕ) (b : Lent) where
   abbrev laterOf : List Token → List (List ℕ)
-  laterOf ts = laterGroups w s b (length ts) (tokenTable ts) (outlineOf w (tokenTable ts) (length s))
+  laterOf ts = laterGroups w s b (length ts) (hostedTable h s ts) (outlineOf w (hostedTable h s ts) (length s))
 
   abbrev countsFor : List Token → Checked
-  countsFor ts = countsIn w (length ts) (tokenTable ts) (outlineOf w (tokenTable ts) (length s) .answer)
+  countsFor ts = countsIn w (length ts) (hostedTable h s ts) (outlineOf w (hostedTable h s ts) (length s) .answer)
 
   long-clean : length s ≤ 16384 → (gs : List (List ℕ)) (a : Checked) → judge ((longRule s ∷ []) ∷ gs) a ≡ judge gs a
   unfolding longRule
-  long-clean h gs a = one-clean _ gs a (ifLt-no (key 16384 1) none h)
+  long-clean l gs a = one-clean _ gs a (ifLt-no (key 16384 1) none l)
 
   long-is : 16384 < length s
-      → said w s b (tokenGroup w s (lexOf w s)) ≡ judge ((longRule s ∷ []) ∷ lexFaults w s ∷ laterOf (tokensIn (lexOf w s))) (countsFor (tokensIn (lexOf w s)))
+      → said w s b (tokenGroup w h s (lexOf w s)) ≡ judge ((longRule s ∷ []) ∷ lexFaults w s ∷ laterOf (tokensIn (lexOf w s))) (countsFor (tokensIn (lexOf w s)))
   unfolding tokenGroup longRule
-  long-is h =
-      ap (λ (o : Outcome). said w s b (tokenGroup w s o)) (long-refused w s h)
+  long-is l =
+      ap (λ (o : Outcome). said w s b (tokenGroup w h s o)) (long-refused w s l)
       ∙ refusal-is w s b _ _
       ∙ ap (λ (v : ℕ). Refused v (keyPlace (key 16384 1))) (key-number 16384 1 (omega arith))
       ∙ ap (λ (v : ℕ). Refused 1 v) (key-place 16384 1 (omega arith) (omega arith))
-      ∙ sym (one-fault _ 16384 1 _ (countsFor (tokensIn (lexOf w s))) (ifLt-yes (key 16384 1) none h) (omega arith) (omega arith))
+      ∙ sym (one-fault _ 16384 1 _ (countsFor (tokensIn (lexOf w s))) (ifLt-yes (key 16384 1) none l) (omega arith) (omega arith))
 
-  lex-is : length s ≤ 16384 → (o : Outcome) → lexOf w s ≡ o → said w s b (tokenGroup w s o) ≡ judge (lexFaults w s ∷ laterOf (tokensIn o)) (countsFor (tokensIn o))
+  lex-is : length s ≤ 16384 → (o : Outcome) → lexOf w s ≡ o → said w s b (tokenGroup w h s o) ≡ judge (lexFaults w s ∷ laterOf (tokensIn o)) (countsFor (tokensIn o))
   unfolding tokenGroup tokensIn
-  lex-is h (accepted ts) e =
-      line-is w s b (length ts) (tokenTable ts) (lexed-long w s ts e) (lexed-rising w s ts e)
+  lex-is l (accepted ts) e =
+      line-is w s b (length ts) (hostedTable h s ts) (table-long h s ts w e) (hosted-rising h s ts w e)
       ∙ sym (judge-clean (lexFaults w s) (laterOf ts) (countsFor ts) (all-none (lexFaults w s) (lexed-fine w s ts e .1)))
-  lex-is h (refused k) e =
+  lex-is l (refused k) e =
       refusal-is w s b _ _
-      ∙ sym (judge-fault (lexFaults w s) (laterOf []) (countsFor []) k (sym (lex-least w s h) ∙ ap lexKey e) (lex-real w s h k e))
+      ∙ sym (judge-fault (lexFaults w s) (laterOf []) (countsFor []) k (sym (lex-least w s l) ∙ ap lexKey e) (lex-real w s l k e))
 
   -- the check's answer: the least fault of the first group that has one, or the counts
-  pub check-is : checkOf w s b .answer ≡ judge (groupsOf w s b) (countsOf w s)
+  pub check-is : checkOf w h s b .answer ≡ judge (groupsOf w h s b) (countsOf w h s)
   unfolding checkOf judgeOf groupsOf countsOf tokensOf
   check-is =
       elim (decLt 16384 (length s)) [
-        | yes h ↦ long-is h
-        | no h ↦ let l : length s ≤ 16384 = omega arith in lex-is l (lexOf w s) refl ∙ sym (long-clean l _ _)
+        | yes g ↦ long-is g
+        | no g ↦ let l : length s ≤ 16384 = omega arith in lex-is l (lexOf w s) refl ∙ sym (long-clean l _ _)
       ]
 
 -- ---- accepted exactly when no group has a fault
@@ -244,13 +249,16 @@ unfolding tokenTable rows.rowsOf
 table-empty = length-replicate {A = ℕ} 32768 0
 
 -- the token table has its length, whatever the source
-table-size : (w : Width) (s : List ℕ) → length (tokenTable (tokensOf w s)) ≡ 32768
+lexed-size : (w : Width) (s : List ℕ) → length (tokenTable (tokensOf w s)) ≡ 32768
 unfolding tokensOf tokensIn
-table-size w s = by (lexOf w s) refl
+lexed-size w s = by (lexOf w s) refl
   where
     by : (o : Outcome) → lexOf w s ≡ o → length (tokenTable (tokensIn o)) ≡ 32768
     by (accepted ts) e = lexed-long w s ts e
     by (refused k) e = table-empty
+
+table-size : (w : Width) (h : Hosts) (s : List ℕ) → length (tableOf w h s) ≡ 32768
+table-size w h s = hosted-long h s (length (tokensOf w s)) (tokenTable (tokensOf w s)) ∙ lexed-size w s
 
 few-labels : (w : Width) (t : List ℕ) (n : ℕ) → length t ≡ 32768 → labelsIn (outlineOf w t n .answer) ≤ 256
 unfolding labelsIn
@@ -275,32 +283,43 @@ rows-in-order w t n e = by (outlineOf w t n .answer) refl
           steps = λ r g. let z : ⊥ = omega arith in absurd z;
         }
 
-module _ (w : Width) (s : List ℕ) where
+module _ (w : Width) (h : Hosts) (s : List ℕ) where
   -- no fault in any group
   record Faultless : Type 0 where
     pub short : length s ≤ 16384
     pub tokens : Clean (lexFaults w s)
-    pub lines : Clean (allFaults w (tableOf w s) (length s))
-    pub names : Clean (nameFaults s (tableOf w s) (outlined w s))
-    pub size : Clean (bigRule w (tableOf w s) (length s) ∷ [])
+    pub lines : Clean (allFaults w (tableOf w h s) (length s))
+    pub names : Clean (nameFaults s (tableOf w h s) (outlined w h s))
+    pub size : Clean (bigRule w (tableOf w h s) (length s) ∷ [])
 
-  abbrev few : labelsIn (outlined w s .answer) ≤ 256
-  few = few-labels w (tableOf w s) (length s) (table-size w s)
+  abbrev few : labelsIn (outlined w h s .answer) ≤ 256
+  few = few-labels w (tableOf w h s) (length s) (table-size w h s)
 
-  page-names : Clean (nameFaults s (tableOf w s) (outlined w s))
-      → NamesUnbroken (sameText s (tableOf w s)) (tableOf w s) (length s) (skeletonOf (outlined w s .rows) (statementsIn (outlined w s .answer))) (outlined w s .labels) (labelsIn (outlined w s .answer)) (statementsIn (outlined w s .answer))
+  abbrev Named : Type 0
+  Named = NamesUnbroken (sameText s (tableOf w h s)) (tableOf w h s) (length s) (skeletonOf (outlined w h s .rows) (statementsIn (outlined w h s .answer))) (outlined w h s .labels) (labelsIn (outlined w h s .answer)) (statementsIn (outlined w h s .answer))
+
+  abbrev AllListed : Type 0
+  AllListed = EachLine (tableOf w h s) (λ before x. x .kind ≡ 36 → Listed h s (tableOf w h s) (x .unit .word + 1))
+
+  abbrev AllFine : Type 0
+  AllFine = EachLine (tableOf w h s) (LineFine w (tableOf w h s))
+
+  page-names : AllFine → Clean (nameFaults s (tableOf w h s) (outlined w h s)) → Named × AllListed
   unfolding nameFaults
-  page-names h = clean-names _ _ _ _ _ _ _ few (rows-in-order w (tableOf w s) (length s) (table-size w s)) h
+  page-names f c =
+      let g = clean-names _ _ _ _ _ _ _ few (rows-in-order w (tableOf w h s) (length s) (table-size w h s)) c in
+      (g .0, marks-lists h s (tokensOf w s) (lexed-size w s) w f (g .1))
 
-  names-page : NamesUnbroken (sameText s (tableOf w s)) (tableOf w s) (length s) (skeletonOf (outlined w s .rows) (statementsIn (outlined w s .answer))) (outlined w s .labels) (labelsIn (outlined w s .answer)) (statementsIn (outlined w s .answer))
-      → Clean (nameFaults s (tableOf w s) (outlined w s))
+  names-page : AllFine → Named → AllListed → Clean (nameFaults s (tableOf w h s) (outlined w h s))
   unfolding nameFaults
-  names-page h = names-clean _ _ _ _ _ _ _ few h
+  names-page f u m = names-clean _ _ _ _ _ _ _ few u (lists-marks h s (tokensOf w s) (lexed-size w s) w f m)
 
-  faultless-unbroken : Faultless → Unbroken w s
+  faultless-unbroken : Faultless → Unbroken w h s
   faultless-unbroken f =
       let r = clean-reads w s (f .tokens) in
-      let x = fine-lines w (tableOf w s) (lines-fine w (tableOf w s) (length s) .0 (f .lines)) in
+      let g : AllFine = lines-fine w (tableOf w h s) (length s) .0 (f .lines) in
+      let x = fine-lines w (tableOf w h s) g in
+      let n = page-names g (f .names) in
       record {
         short = f .short;
         readable = r .readable;
@@ -317,17 +336,40 @@ module _ (w : Width) (s : List ℕ) where
         labelled = x .labelled;
         labelsFree = x .labelsFree;
         notLeftOut = x .notLeftOut;
+        importsBetween = x .importsBetween;
         noFrameSize = x .noFrameSize;
         fewStatements = x .fewStatements;
         fewLabels = x .fewLabels;
+        fewImports = x .fewImports;
         fewLocals = x .fewLocals;
         fewBlocks = x .fewBlocks;
         fewArguments = x .fewArguments;
-        names = page-names (f .names);
+        listed = n .1;
+        names = n .0;
         size = f .size .0;
       }
 
-  unbroken-faultless : Unbroken w s → Faultless
+  unbroken-fine : Unbroken w h s → AllFine
+  unbroken-fine u =
+      lines-join w (tableOf w h s) (record {
+        shaped = u .shaped;
+        substitutesKnown = u .substitutesKnown;
+        namesFree = u .namesFree;
+        placed = u .placed;
+        labelled = u .labelled;
+        labelsFree = u .labelsFree;
+        notLeftOut = u .notLeftOut;
+        importsBetween = u .importsBetween;
+        noFrameSize = u .noFrameSize;
+        fewStatements = u .fewStatements;
+        fewLabels = u .fewLabels;
+        fewImports = u .fewImports;
+        fewLocals = u .fewLocals;
+        fewBlocks = u .fewBlocks;
+        fewArguments = u .fewArguments;
+      })
+
+  unbroken-faultless : Unbroken w h s → Faultless
   unbroken-faultless u =
       record {
         short = u .short;
@@ -340,64 +382,50 @@ module _ (w : Width) (s : List ℕ) where
           lengths = u .lengths;
           fewTokens = u .fewTokens;
         });
-        lines = lines-fine w (tableOf w s) (length s) .1 (lines-join w (tableOf w s) (record {
-          shaped = u .shaped;
-          substitutesKnown = u .substitutesKnown;
-          namesFree = u .namesFree;
-          placed = u .placed;
-          labelled = u .labelled;
-          labelsFree = u .labelsFree;
-          notLeftOut = u .notLeftOut;
-          noFrameSize = u .noFrameSize;
-          fewStatements = u .fewStatements;
-          fewLabels = u .fewLabels;
-          fewLocals = u .fewLocals;
-          fewBlocks = u .fewBlocks;
-          fewArguments = u .fewArguments;
-        }));
-        names = names-page (u .names);
+        lines = lines-fine w (tableOf w h s) (length s) .1 (unbroken-fine u);
+        names = names-page (unbroken-fine u) (u .names) (u .listed);
         size = (u .size, tt);
       }
 
-module _ (w : Width) (s : List ℕ) (b : Lent) where
-  groups-faultless : AllClean (groupsOf w s b) → Faultless w s × Holds w s b
+module _ (w : Width) (h : Hosts) (s : List ℕ) (b : Lent) where
+  groups-faultless : AllClean (groupsOf w h s b) → Faultless w h s × Holds w h s b
   unfolding groupsOf laterGroups
-  groups-faultless h = (
+  groups-faultless g = (
     record {
-      short = long-short s (h .0 .0);
-      tokens = h .1 .0;
-      lines = h .1 .1 .0;
-      names = h .1 .1 .1 .0;
-      size = h .1 .1 .1 .1 .0;
+      short = long-short s (g .0 .0);
+      tokens = g .1 .0;
+      lines = g .1 .1 .0;
+      names = g .1 .1 .1 .0;
+      size = g .1 .1 .1 .1 .0;
     },
-    room-clean b _ _ _ _ (h .1 .1 .1 .1 .1 .0 .0),
+    room-clean b _ _ _ _ (g .1 .1 .1 .1 .1 .0 .0),
   )
 
-  faultless-groups : Faultless w s → Holds w s b → AllClean (groupsOf w s b)
+  faultless-groups : Faultless w h s → Holds w h s b → AllClean (groupsOf w h s b)
   unfolding groupsOf laterGroups
-  faultless-groups u h =
-      ((short-long s (u .short), tt), (u .tokens, (u .lines, (u .names, (u .size, ((clean-room b _ _ _ _ h, tt), tt))))))
+  faultless-groups u g =
+      ((short-long s (u .short), tt), (u .tokens, (u .lines, (u .names, (u .size, ((clean-room b _ _ _ _ g, tt), tt))))))
 
-  groups-unbroken : AllClean (groupsOf w s b) → Unbroken w s × Holds w s b
-  groups-unbroken h = let g = groups-faultless h in (faultless-unbroken w s (g .0), g .1)
+  groups-unbroken : AllClean (groupsOf w h s b) → Unbroken w h s × Holds w h s b
+  groups-unbroken c = let g = groups-faultless c in (faultless-unbroken w h s (g .0), g .1)
 
-  unbroken-groups : Unbroken w s → Holds w s b → AllClean (groupsOf w s b)
-  unbroken-groups u h = faultless-groups (unbroken-faultless w s u) h
+  unbroken-groups : Unbroken w h s → Holds w h s b → AllClean (groupsOf w h s b)
+  unbroken-groups u g = faultless-groups (unbroken-faultless w h s u) g
 
   -- "You accept a source exactly when it breaks none of the listed rules and the tables lent can hold it."
-  pub accepts-exactly : (isAccepted (checkOf w s b .answer) ≡ true) ↔ (Unbroken w s × Holds w s b)
+  pub accepts-exactly : (isAccepted (checkOf w h s b .answer) ≡ true) ↔ (Unbroken w h s × Holds w h s b)
   unfolding countsOf countsIn
   accepts-exactly = (
-    λ h. groups-unbroken (judge-passed (groupsOf w s b) (countsOf w s) (ap isAccepted (sym (check-is w s b)) ∙ h)),
-    λ h. ap isAccepted (check-is w s b ∙ passed-judge (groupsOf w s b) (countsOf w s) (unbroken-groups (h .0) (h .1))),
+    λ g. groups-unbroken (judge-passed (groupsOf w h s b) (countsOf w h s) (ap isAccepted (sym (check-is w h s b)) ∙ g)),
+    λ g. ap isAccepted (check-is w h s b ∙ passed-judge (groupsOf w h s b) (countsOf w h s) (unbroken-groups (g .0) (g .1))),
   )
 
   -- and then the answer is its counts
-  pub accepted-counts : Unbroken w s → Holds w s b → checkOf w s b .answer ≡ countsOf w s
-  accepted-counts u h = check-is w s b ∙ passed-judge (groupsOf w s b) (countsOf w s) (unbroken-groups u h)
+  pub accepted-counts : Unbroken w h s → Holds w h s b → checkOf w h s b .answer ≡ countsOf w h s
+  accepted-counts u g = check-is w h s b ∙ passed-judge (groupsOf w h s b) (countsOf w h s) (unbroken-groups u g)
 
   -- a refusal is the least fault of the first group that has one
-  pub refuses-first : (before : List (List ℕ)) (ks : List ℕ) (behind : List (List ℕ)) → groupsOf w s b ≡ before ++ (ks ∷ behind) → AllClean before → leastOf ks < none
-      → checkOf w s b .answer ≡ Refused (keyNumber (leastOf ks)) (keyPlace (leastOf ks))
-  refuses-first before ks behind e h l =
-      check-is w s b ∙ ap (λ (gs : List (List ℕ)). judge gs (countsOf w s)) e ∙ judge-first before ks behind (countsOf w s) h l
+  pub refuses-first : (before : List (List ℕ)) (ks : List ℕ) (behind : List (List ℕ)) → groupsOf w h s b ≡ before ++ (ks ∷ behind) → AllClean before → leastOf ks < none
+      → checkOf w h s b .answer ≡ Refused (keyNumber (leastOf ks)) (keyPlace (leastOf ks))
+  refuses-first before ks behind e c l =
+      check-is w h s b ∙ ap (λ (gs : List (List ℕ)). judge gs (countsOf w h s)) e ∙ judge-first before ks behind (countsOf w h s) c l

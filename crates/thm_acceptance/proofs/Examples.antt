@@ -6,6 +6,7 @@ use Prim.Native.Nat.{ℕ}
 use Rattle.base_prelude.specs.Fault.{none, key, leastOf}
 use Rattle.base_limits.specs.declared.Width.the-variants.{Bits32}
 use Rattle.lex_source.specs.Rows.{rowsOf}
+use Rattle.prog_tables.specs.Hosts.{Hosts}
 use Rattle.check_source.specs.Check.{Lent, lent}
 use Rattle.check_source.specs.declared.Checked.{Checked}
 use Rattle.check_source.specs.declared.Checked.the-variants.{Accepted, Refused}
@@ -43,26 +44,66 @@ astray = section-line ++ function-line ++ (103 ∷ 111 ∷ 116 ∷ 111 ∷ 32 �
 abbrev unexported : List ℕ
 unexported = section-line ++ (101 ∷ 120 ∷ 112 ∷ 111 ∷ 114 ∷ 116 ∷ 32 ∷ 120 ∷ [])
 
-no-fault : leasts (groupsOf Bits32 plain (lent 64 54 4 64 0)) ≡ none ∷ none ∷ none ∷ none ∷ none ∷ none ∷ []
+-- the host lists `x` with one argument
+abbrev hosts : Hosts
+hosts = record { words = 1 ∷ 1 ∷ []; names = 120 ∷ [] }
+
+no-fault : leasts (groupsOf Bits32 hosts plain (lent 64 54 4 64 0)) ≡ none ∷ none ∷ none ∷ none ∷ none ∷ none ∷ []
 unfolding opened
 no-fault = refl
 
-counts : countsOf Bits32 plain ≡ Accepted 8 2 1 0
+counts : countsOf Bits32 hosts plain ≡ Accepted 8 2 1 0
 unfolding opened
 counts = refl
 
 -- one word less for the tokens
-short-table : leasts (groupsOf Bits32 plain (lent 63 54 4 64 0)) ≡ none ∷ none ∷ none ∷ none ∷ none ∷ key 0 16 ∷ []
+short-table : leasts (groupsOf Bits32 hosts plain (lent 63 54 4 64 0)) ≡ none ∷ none ∷ none ∷ none ∷ none ∷ key 0 16 ∷ []
 unfolding opened
 short-table = refl
 
-unknown-target : leasts (groupsOf Bits32 astray (lent 96 81 4 64 0)) ≡ none ∷ none ∷ none ∷ key 35 10 ∷ none ∷ none ∷ []
+unknown-target : leasts (groupsOf Bits32 hosts astray (lent 96 81 4 64 0)) ≡ none ∷ none ∷ none ∷ key 35 10 ∷ none ∷ none ∷ []
 unfolding opened
 unknown-target = refl
 
-unknown-export : leasts (groupsOf Bits32 unexported (lent 40 0 0 0 0)) ≡ none ∷ none ∷ none ∷ key 25 10 ∷ none ∷ none ∷ []
+unknown-export : leasts (groupsOf Bits32 hosts unexported (lent 40 0 0 0 0)) ≡ none ∷ none ∷ none ∷ key 25 10 ∷ none ∷ none ∷ []
 unfolding opened
 unknown-export = refl
+
+-- `import x` between functions: a label; `import y`: 10 at the name, no label
+abbrev import-line : ℕ → List ℕ
+import-line c = 105 ∷ 109 ∷ 112 ∷ 111 ∷ 114 ∷ 116 ∷ 32 ∷ c ∷ 10 ∷ []
+
+listed-import : (leasts (groupsOf Bits32 hosts (section-line ++ import-line 120) (lent 48 0 4 64 0)) ≡ none ∷ none ∷ none ∷ none ∷ none ∷ none ∷ [])
+    × (countsOf Bits32 hosts (section-line ++ import-line 120) ≡ Accepted 6 0 1 0)
+unfolding opened
+listed-import = (refl, refl)
+
+unlisted-import : (leasts (groupsOf Bits32 hosts (section-line ++ import-line 121) (lent 48 0 4 64 0)) ≡ none ∷ none ∷ none ∷ key 25 10 ∷ none ∷ none ∷ [])
+    × (countsOf Bits32 hosts (section-line ++ import-line 121) ≡ Accepted 6 0 0 0)
+unfolding opened
+unlisted-import = (refl, refl)
+
+-- before the first section it is left out: 9
+import-elsewhere : leasts (groupsOf Bits32 hosts (import-line 120) (lent 24 0 0 0 0)) ≡ none ∷ none ∷ key 0 9 ∷ none ∷ none ∷ none ∷ []
+unfolding opened
+import-elsewhere = refl
+
+-- `call x` and more in a function, before or behind the import
+abbrev caller : List ℕ → List ℕ
+caller more = function-line ++ (99 ∷ 97 ∷ 108 ∷ 108 ∷ 32 ∷ 120 ∷ []) ++ more ++ (10 ∷ []) ++ end-line ++ (10 ∷ [])
+
+-- one argument: no fault; none: 13 at the name; a call before the import: 17 at the import's name
+import-called : leasts (groupsOf Bits32 hosts (section-line ++ import-line 120 ++ caller (32 ∷ 49 ∷ [])) (lent 128 81 8 128 0)) ≡ none ∷ none ∷ none ∷ none ∷ none ∷ none ∷ []
+unfolding opened
+import-called = refl
+
+import-arguments : leasts (groupsOf Bits32 hosts (section-line ++ import-line 120 ++ caller []) (lent 120 81 8 128 0)) ≡ none ∷ none ∷ none ∷ key 44 13 ∷ none ∷ none ∷ []
+unfolding opened
+import-arguments = refl
+
+import-used : leasts (groupsOf Bits32 hosts (section-line ++ caller (32 ∷ 49 ∷ []) ++ import-line 120) (lent 128 81 8 128 0)) ≡ none ∷ none ∷ none ∷ key 59 17 ∷ none ∷ none ∷ []
+unfolding opened
+import-used = refl
 
 -- the first group with a fault decides, with its least
 first-group : judge ((none ∷ []) ∷ (key 9 7 ∷ key 3 8 ∷ []) ∷ (key 1 10 ∷ []) ∷ []) (Accepted 8 2 1 0) ≡ Refused 8 3

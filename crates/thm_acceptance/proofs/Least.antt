@@ -28,7 +28,7 @@ use Rattle.res_scope.specs.Parts.{partsOf}
 use Rattle.res_scope.specs.declared.Parts.{Parts}
 use Rattle.res_names.specs.Naming.{Naming, naming, judged, valueFault, setFault, calleeFault, gotoFault, letFault, parameterFault, labelFault, valuePart, operandsPart, calleePart, setPart, gotoPart, parametersFault, declaredFault, headPart, bodyPart, statementPart, statementsPart, labelsFault, namesOf}
 use Rattle.res_exports.specs.Exports as exporting
-use Rattle.res_exports.specs.Exports.{Exported, exported, World, world, definitionFrom, carriedBy, exportFault, judgedBy, exportPart, exportOn, exportStep, exportsFrom, exportsOf}
+use Rattle.res_exports.specs.Exports.{Exported, exported, World, world, definitionFrom, carriedBy, exportFault, judgedBy, importFault, importJudged, exportPart, exportOn, exportStep, exportsFrom, exportsOf}
 use Rattle.parse_verdict.proofs.Decided.{least-none}
 use Rattle.thm_acceptance.specs.Faults.{labelFaults, operandFault, operandFaults, calleeFaults, parameterFaults, declaredFaults, headFaults, bodyFaults, statementFaults, statementsFaults, allNameFaults, lineFaults, exportFaultsFrom, exportFaults}
 
@@ -167,9 +167,11 @@ line-within t i h =
 
 module _ (same : ℕ → ℕ → Bool) (t : List ℕ) (n : ℕ) (y : List ℕ) (l : ℕ) (uses : List ℕ) where
   line-add : (u : Span) (k : ℕ) (x : Exported) → Adds (x .fault) (exportPart same t n y l uses u k x .fault) (lineFaults same t n y l uses u k)
-  unfolding exportPart lineFaults judgedBy
+  unfolding exportPart lineFaults judgedBy importJudged
   line-add u k x =
-      both-eq (λ (z : Exported) (ks : List ℕ). Adds (x .fault) (z .fault) ks) k 27 _ _ _ _ (λ _. adds-one (x .fault) _) (λ _. adds-none (x .fault))
+      both-eq (λ (z : Exported) (ks : List ℕ). Adds (x .fault) (z .fault) ks) k 27 _ _ _ _ (λ _. adds-one (x .fault) _) (λ _.
+      both-eq (λ (z : Exported) (ks : List ℕ). Adds (x .fault) (z .fault) ks) k 36 _ _ _ _ (λ _. adds-one (x .fault) (importFault t n y l uses (u .word + 1)))
+      (λ _. adds-none (x .fault)))
 
   export-edge : (x : World) → lineKind t (unitAt t (x .state .at) .word) ≡ 0 → exportStep same t n y l uses x ≡ stop (exported (x .state .best) (x .flags))
   unfolding exportStep exportOn
@@ -206,7 +208,7 @@ module _ (same : ℕ → ℕ → Bool) (t : List ℕ) (n : ℕ) (y : List ℕ) (
             (exports-add m z (omega (arith, o .0, o .1)) (omega (arith, o .0, o .1, o .2)))))
       ]
 
-  -- 10, 11 and 17 in exports
+  -- 10, 11 and 17 in exports and imports
   pub exports-least : exportsOf same t n y l uses .fault ≡ leastOf (exportFaults same t n y l uses)
   unfolding exportsOf exportsFrom exportFaults
   exports-least =

@@ -2,6 +2,7 @@ pub mod Opens
 pub mod LineRules
 pub mod Paged
 pub mod Page
+pub mod Listed
 pub mod Order
 pub mod Rising
 pub mod Shared

@@ -37,46 +37,46 @@ imply false b t e = true-false (sym e)
 leavesHigh : ℕ → Bool
 leavesHigh k = implies (leaves k) (leb 4 (standsIn k .lo))
 
-leaves-all : T (under leavesHigh 36)
+leaves-all : T (under leavesHigh 37)
 unfolding leavesHigh standsIn statementIn refusedIn leaves ifLt ifEq
 leaves-all = tt
 
-pub leaves-high : (k : ℕ) → k < 36 → leaves k ≡ true → 4 ≤ standsIn k .lo
+pub leaves-high : (k : ℕ) → k < 37 → leaves k ≡ true → 4 ≤ standsIn k .lo
 unfolding leavesHigh
-leaves-high k h e = leb-true 4 _ (imply (leaves k) (leb 4 (standsIn k .lo)) (under-at leavesHigh 36 k leaves-all h) e)
+leaves-high k h e = leb-true 4 _ (imply (leaves k) (leb 4 (standsIn k .lo)) (under-at leavesHigh 37 k leaves-all h) e)
 
 entersHigh : ℕ → Bool
 entersHigh k = implies (enters k) (leb 4 (groundOf k))
 
-enters-all : T (under entersHigh 36)
+enters-all : T (under entersHigh 37)
 unfolding entersHigh enters groundOf ifLt ifEq
 enters-all = tt
 
-enters-high : (k : ℕ) → k < 36 → enters k ≡ true → 4 ≤ groundOf k
+enters-high : (k : ℕ) → k < 37 → enters k ≡ true → 4 ≤ groundOf k
 unfolding entersHigh
-enters-high k h e = leb-true 4 _ (imply (enters k) (leb 4 (groundOf k)) (under-at entersHigh 36 k enters-all h) e)
+enters-high k h e = leb-true 4 _ (imply (enters k) (leb 4 (groundOf k)) (under-at entersHigh 37 k enters-all h) e)
 
 fiveBlock : ℕ → Bool
 fiveBlock k = implies (eqb (groundOf k) 5) (eqb k 3)
 
-five-all : T (under fiveBlock 36)
+five-all : T (under fiveBlock 37)
 unfolding fiveBlock groundOf ifLt ifEq
 five-all = tt
 
-five-block : (k : ℕ) → k < 36 → groundOf k ≡ 5 → k ≡ 3
+five-block : (k : ℕ) → k < 37 → groundOf k ≡ 5 → k ≡ 3
 unfolding fiveBlock
-five-block k h e = eqb-true k 3 (imply (eqb (groundOf k) 5) (eqb k 3) (under-at fiveBlock 36 k five-all h) (eq-eqb _ _ e))
+five-block k h e = eqb-true k 3 (imply (eqb (groundOf k) 5) (eqb k 3) (under-at fiveBlock 37 k five-all h) (eq-eqb _ _ e))
 
 fourFunction : ℕ → Bool
 fourFunction k = implies (eqb (groundOf k) 4) (eqb k 1)
 
-four-all : T (under fourFunction 36)
+four-all : T (under fourFunction 37)
 unfolding fourFunction groundOf ifLt ifEq
 four-all = tt
 
-four-function : (k : ℕ) → k < 36 → groundOf k ≡ 4 → k ≡ 1
+four-function : (k : ℕ) → k < 37 → groundOf k ≡ 4 → k ≡ 1
 unfolding fourFunction
-four-function k h e = eqb-true k 1 (imply (eqb (groundOf k) 4) (eqb k 1) (under-at fourFunction 36 k four-all h) (eq-eqb _ _ e))
+four-function k h e = eqb-true k 1 (imply (eqb (groundOf k) 4) (eqb k 1) (under-at fourFunction 37 k four-all h) (eq-eqb _ _ e))
 
 -- one kind
 at-1 : (enters 1 ≡ true) × (leaves 1 ≡ false) × (groundOf 1 ≡ 4)
@@ -160,7 +160,7 @@ closed-stay k os e = ifTrue-no (outer os) os e
 
 -- what a statement of kind k needs of what is open
 pub record Needs (k : ℕ) (os : List Level) : Type 0 where
-  pub low : k < 36
+  pub low : k < 37
   -- what closes something has something to close
   pub leaving : leaves k ≡ true → os ≡ [] → ⊥
   pub alone : k ≡ 1 → os ≡ []

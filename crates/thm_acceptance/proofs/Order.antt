@@ -26,7 +26,7 @@ use Rattle.parse_units.specs.Fits.{UnitStepFits}
 use Rattle.parse_units.specs.declared.Row.{Row}
 use Rattle.parse_units.specs.declared.Verdict.{Verdict}
 use Rattle.parse_units.specs.declared.Verdict.the-variants as verdict
-use Rattle.parse_units.proofs.Bounds.{unit-order, line-some, clean-room}
+use Rattle.parse_units.proofs.Bounds.{unit-order, line-some, clean-room, unit-clean}
 use Rattle.parse_units.proofs.UnitSteps.{UnitStepGood, unit-step-good}
 use Rattle.parse_outline.specs.Outline.{answerOf, outlineOf, Outlined}
 use Rattle.parse_outline.specs.Outline as outline
@@ -105,10 +105,10 @@ Led (stop r) = Answer (r .outline) (r .verdict)
 module _ (w : Width) (t : List ℕ) (n : ℕ) (y : World) (h : Good t y) where
   advance-order : none ≤ faultIn w t n (unitAt t (y .state .at)) y
       → InOrder (unitAt t (y .state .at) .next) (advance t n (unitAt t (y .state .at)) (lineKind t (unitAt t (y .state .at) .word)) y)
-  unfolding faultIn advance joinState
+  unfolding advance joinState
   advance-order c =
       let o = unit-order t (y .state .at) in
-      let r : rowsOf (lineKind t (unitAt t (y .state .at) .word)) ≤ 1025 - y .state .count = clean-room w t n (unitAt t (y .state .at)) (lineKind t (unitAt t (y .state .at) .word)) (groundIn (y .state) (openRow y)) (y .state) c in
+      let r : rowsOf (lineKind t (unitAt t (y .state .at) .word)) ≤ 1025 - y .state .count = clean-room w t n (unitAt t (y .state .at)) (lineKind t (unitAt t (y .state .at) .word)) (groundIn (y .state) (openRow y)) (y .state) (unit-clean w t n (unitAt t (y .state .at)) y c) in
       grow-order t (rowsOf (lineKind t (unitAt t (y .state .at) .word))) (unitAt t (y .state .at)) (lineKind t (unitAt t (y .state .at) .word)) (y .state .at) y (omega (arith, h .0 .free)) (rows-few (lineKind t (unitAt t (y .state .at) .word))) (h .0 .long) (omega (arith, o .0, o .1)) (o .2) (h .2)
 
   at-is : advance t n (unitAt t (y .state .at)) (lineKind t (unitAt t (y .state .at) .word)) y .state .at ≡ unitAt t (y .state .at) .next

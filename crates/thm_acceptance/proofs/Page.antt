@@ -28,7 +28,7 @@ use Rattle.parse_verdict.proofs.Decided.{least-none, none-all}
 use Rattle.parse_verdict.proofs.Decided as decided
 use Rattle.thm_acceptance.specs.Reads.{Behind, EachReadFrom, EachRead}
 use Rattle.thm_acceptance.specs.Lines.{Line, EachFrom, EachLine, linesOf}
-use Rattle.thm_acceptance.specs.LineRules.{Silent, Shaped, SubstitutesKnown, NamesFree, Placed, MayBeLabelled, LabelsFree, NotLeftOut, NoFrameSize, FewStatements, FewLabels, FewLocals, FewBlocks, FewArguments}
+use Rattle.thm_acceptance.specs.LineRules.{Silent, Shaped, SubstitutesKnown, NamesFree, Placed, MayBeLabelled, LabelsFree, NotLeftOut, ImportBetween, NoFrameSize, FewStatements, FewLabels, FewImports, FewLocals, FewBlocks, FewArguments}
 use Rattle.thm_acceptance.proofs.Paged.{LineFine}
 
 -- ---- what is read
@@ -175,9 +175,11 @@ module _ (w : Width) (t : List ℕ) where
     pub labelled : EachLine t (MayBeLabelled w t)
     pub labelsFree : EachLine t (LabelsFree w t)
     pub notLeftOut : EachLine t (NotLeftOut w t)
+    pub importsBetween : EachLine t (ImportBetween w t)
     pub noFrameSize : EachLine t (NoFrameSize w t)
     pub fewStatements : EachLine t (FewStatements w t)
     pub fewLabels : EachLine t (FewLabels w t)
+    pub fewImports : EachLine t (FewImports w t)
     pub fewLocals : EachLine t (FewLocals w t)
     pub fewBlocks : EachLine t (FewBlocks w t)
     pub fewArguments : EachLine t (FewArguments w t)
@@ -195,9 +197,11 @@ module _ (w : Width) (t : List ℕ) where
         labelled = each-map Fine (MayBeLabelled w t) (λ b x z. z .labelled) [] (linesOf t) h;
         labelsFree = each-map Fine (LabelsFree w t) (λ b x z. z .named) [] (linesOf t) h;
         notLeftOut = each-map Fine (NotLeftOut w t) (λ b x z. z .kept) [] (linesOf t) h;
+        importsBetween = each-map Fine (ImportBetween w t) (λ b x z. z .between) [] (linesOf t) h;
         noFrameSize = each-map Fine (NoFrameSize w t) (λ b x z. z .sizes) [] (linesOf t) h;
         fewStatements = each-map Fine (FewStatements w t) (λ b x z. z .statements) [] (linesOf t) h;
         fewLabels = each-map Fine (FewLabels w t) (λ b x z. z .labels) [] (linesOf t) h;
+        fewImports = each-map Fine (FewImports w t) (λ b x z. z .imports) [] (linesOf t) h;
         fewLocals = each-map Fine (FewLocals w t) (λ b x z. z .locals) [] (linesOf t) h;
         fewBlocks = each-map Fine (FewBlocks w t) (λ b x z. z .blocks) [] (linesOf t) h;
         fewArguments = each-map Fine (FewArguments w t) (λ b x z. z .arguments) [] (linesOf t) h;
@@ -213,17 +217,25 @@ module _ (w : Width) (t : List ℕ) where
   abbrev Words : List Line → Line → Type 0
   Words = Two (Two (Shaped w t) (SubstitutesKnown w t)) (Two (NamesFree w t) (NoFrameSize w t))
 
+  abbrev Kept : List Line → Line → Type 0
+  Kept = Two (LabelsFree w t) (Two (NotLeftOut w t) (ImportBetween w t))
+
   abbrev Places : List Line → Line → Type 0
-  Places = Two (Two (Placed w t) (MayBeLabelled w t)) (Two (LabelsFree w t) (NotLeftOut w t))
+  Places = Two (Two (Placed w t) (MayBeLabelled w t)) Kept
+
+  abbrev Labels : List Line → Line → Type 0
+  Labels = Two (FewStatements w t) (Two (FewLabels w t) (FewImports w t))
 
   abbrev Counts : List Line → Line → Type 0
-  Counts = Two (Two (FewStatements w t) (FewLabels w t)) (Two (FewLocals w t) (Two (FewBlocks w t) (FewArguments w t)))
+  Counts = Two Labels (Two (FewLocals w t) (Two (FewBlocks w t) (FewArguments w t)))
 
   pub lines-join : LinesUnbroken → EachLine t Fine
   lines-join u =
       let a : EachLine t Words = joined (Two (Shaped w t) (SubstitutesKnown w t)) (Two (NamesFree w t) (NoFrameSize w t)) (joined (Shaped w t) (SubstitutesKnown w t) (u .shaped) (u .substitutesKnown)) (joined (NamesFree w t) (NoFrameSize w t) (u .namesFree) (u .noFrameSize)) in
-      let b : EachLine t Places = joined (Two (Placed w t) (MayBeLabelled w t)) (Two (LabelsFree w t) (NotLeftOut w t)) (joined (Placed w t) (MayBeLabelled w t) (u .placed) (u .labelled)) (joined (LabelsFree w t) (NotLeftOut w t) (u .labelsFree) (u .notLeftOut)) in
-      let c : EachLine t Counts = joined (Two (FewStatements w t) (FewLabels w t)) (Two (FewLocals w t) (Two (FewBlocks w t) (FewArguments w t))) (joined (FewStatements w t) (FewLabels w t) (u .fewStatements) (u .fewLabels)) (joined (FewLocals w t) (Two (FewBlocks w t) (FewArguments w t)) (u .fewLocals) (joined (FewBlocks w t) (FewArguments w t) (u .fewBlocks) (u .fewArguments))) in
+      let e : EachLine t Kept = joined (LabelsFree w t) (Two (NotLeftOut w t) (ImportBetween w t)) (u .labelsFree) (joined (NotLeftOut w t) (ImportBetween w t) (u .notLeftOut) (u .importsBetween)) in
+      let b : EachLine t Places = joined (Two (Placed w t) (MayBeLabelled w t)) Kept (joined (Placed w t) (MayBeLabelled w t) (u .placed) (u .labelled)) e in
+      let d : EachLine t Labels = joined (FewStatements w t) (Two (FewLabels w t) (FewImports w t)) (u .fewStatements) (joined (FewLabels w t) (FewImports w t) (u .fewLabels) (u .fewImports)) in
+      let c : EachLine t Counts = joined Labels (Two (FewLocals w t) (Two (FewBlocks w t) (FewArguments w t))) d (joined (FewLocals w t) (Two (FewBlocks w t) (FewArguments w t)) (u .fewLocals) (joined (FewBlocks w t) (FewArguments w t) (u .fewBlocks) (u .fewArguments))) in
       each-map (Two Words (Two Places Counts)) Fine (λ b x z.
       record {
         shaped = z .0 .0 .0;
@@ -233,9 +245,11 @@ module _ (w : Width) (t : List ℕ) where
         placed = z .1 .0 .0 .0;
         labelled = z .1 .0 .0 .1;
         named = z .1 .0 .1 .0;
-        kept = z .1 .0 .1 .1;
+        kept = z .1 .0 .1 .1 .0;
+        between = z .1 .0 .1 .1 .1;
         statements = z .1 .1 .0 .0;
-        labels = z .1 .1 .0 .1;
+        labels = z .1 .1 .0 .1 .0;
+        imports = z .1 .1 .0 .1 .1;
         locals = z .1 .1 .1 .0;
         blocks = z .1 .1 .1 .1 .0;
         arguments = z .1 .1 .1 .1 .1;

@@ -10,7 +10,7 @@ use lib.ListN.{length, getD}
 use Rattle.base_prelude.specs.Choice.{ifLt, ifEq}
 use Rattle.base_prelude.specs.Fault.{none}
 use Rattle.base_prelude.proofs.Choice.{either, either-eq, ifLt-yes, ifLt-no, ifEq-yes, ifEq-no}
-use Rattle.parse_lines.specs.Tokens.{keyAt}
+use Rattle.parse_lines.specs.Tokens.{hostAt, keyAt}
 use Rattle.parse_lines.specs.Units.{unitAt}
 use Rattle.parse_lines.specs.Lines.{lineKind}
 use Rattle.parse_lines.specs.declared.Span.{Span}
@@ -22,7 +22,7 @@ use Rattle.res_scope.specs.declared.Parts.{Parts}
 use Rattle.res_names.specs.Naming.{Naming, labelFault, namesOf}
 use Rattle.res_names.specs.Uses.{firstUse}
 use Rattle.res_names.proofs.Uses.{uses-first}
-use Rattle.res_exports.specs.Exports.{useFault, missingFault, exportFault, carriedIn}
+use Rattle.res_exports.specs.Exports.{useFault, missingFault, exportFault, labelAtToken, importUse, importFault, carriedIn}
 use Rattle.parse_verdict.specs.Verdict.{All, Clean}
 use Rattle.thm_acceptance.specs.Lines.{Line, linesFrom, linesOf, EachFrom, EachLine}
 use Rattle.thm_acceptance.specs.Faults.{labelFaults, declaredFaults, headFaults, calleeFaults, operandFaults, bodyFaults, statementFaults, statementsFaults, allNameFaults, lineFaults, exportFaultsFrom, exportFaults}
@@ -127,8 +127,17 @@ module _ (same : ℕ → ℕ → Bool) (t : List ℕ) (n : ℕ) (y : List ℕ) (
     abbrev First : Line → Type 0
     First x = x .kind ≡ 27 → (getD uses (carriedIn same t y l (x .unit)) 0 ≡ 0 → ⊥) → x .unit .word + 1 ≤ getD uses (carriedIn same t y l (x .unit)) 0
 
+    -- ---- imports
+
+    abbrev Marked : Line → Type 0
+    Marked x = x .kind ≡ 36 → 1 ≤ hostAt t (x .unit .word + 1)
+
+    abbrev Imported : Line → Type 0
+    Imported x = x .kind ≡ 36 → labelAtToken y l (x .unit .word + 1) < l
+        → (getD uses (labelAtToken y l (x .unit .word + 1)) 0 ≡ 0 → ⊥) → x .unit .word + 1 ≤ getD uses (labelAtToken y l (x .unit .word + 1)) 0
+
     abbrev Both : List Line → Line → Type 0
-    Both before x = Exported x × First x
+    Both before x = (Exported x × First x) × (Marked x × Imported x)
 
     missing-fault : {P : Type 0} (i : ℕ) → none ≤ missingFault same t n y l i → P
     unfolding missingFault
@@ -155,16 +164,42 @@ module _ (same : ℕ → ℕ → Bool) (t : List ℕ) (n : ℕ) (y : List ℕ) (
     unfolding exportFault
     by-export i j a f = subst (λ (x : ℕ). none ≤ x) (sym (ifLt-yes _ _ a)) (by-use i (getD uses j 0) f)
 
+    import-by : (i : ℕ) → none ≤ importFault t n y l uses i
+        → (1 ≤ hostAt t i) × (labelAtToken y l i < l → (getD uses (labelAtToken y l i) 0 ≡ 0 → ⊥) → i ≤ getD uses (labelAtToken y l i) 0)
+    unfolding importFault importUse
+    import-by i h =
+        elim (ℕ-discrete (hostAt t i) 0) [
+          | yes e ↦ no-key t n i 10 (omega arith) (subst (λ (x : ℕ). none ≤ x) (ifEq-yes _ _ e) h)
+          | no d ↦ (
+            omega (arith, d),
+            λ a. use-by i (getD uses (labelAtToken y l i) 0) (subst (λ (x : ℕ). none ≤ x) (ifEq-no _ _ d ∙ ifLt-yes _ _ a) h),
+          )
+        ]
+
+    by-import : (i : ℕ) → 1 ≤ hostAt t i → (labelAtToken y l i < l → (getD uses (labelAtToken y l i) 0 ≡ 0 → ⊥) → i ≤ getD uses (labelAtToken y l i) 0)
+        → none ≤ importFault t n y l uses i
+    unfolding importFault importUse
+    by-import i a f =
+        subst (λ (x : ℕ). none ≤ x) (sym (ifEq-no _ _ (λ e. let z : ⊥ = omega (arith, e) in z)))
+        (either (λ (x : ℕ). none ≤ x) (labelAtToken y l i) l _ _ (λ b. by-use i (getD uses (labelAtToken y l i) 0) (f b)) (λ _. omega arith))
+
     line-by : (before : List Line) (u : Span) (k : ℕ) → Clean (lineFaults same t n y l uses u k) → Both before (record { unit = u; kind = k })
     unfolding lineFaults carriedIn
-    line-by before u k h = (λ e. two e .0, λ e. two e .1)
+    line-by before u k h = ((λ e. two e .0, λ e. two e .1), (λ e. import e .0, λ e. import e .1))
       where
+        import : k ≡ 36 → (1 ≤ hostAt t (u .word + 1))
+            × (labelAtToken y l (u .word + 1) < l → (getD uses (labelAtToken y l (u .word + 1)) 0 ≡ 0 → ⊥) → u .word + 1 ≤ getD uses (labelAtToken y l (u .word + 1)) 0)
+        import e =
+            import-by (u .word + 1) (subst Clean (ifEq-no _ _ (λ z. let q : ⊥ = omega arith in q) ∙ ifEq-yes _ _ e) h .0)
+
         two : k ≡ 27 → (carriedIn same t y l u < l) × ((getD uses (carriedIn same t y l u) 0 ≡ 0 → ⊥) → u .word + 1 ≤ getD uses (carriedIn same t y l u) 0)
         two e = export-by (u .word + 1) (carriedIn same t y l u) (subst Clean (ifEq-yes _ _ e) h .0)
 
     by-line : (before : List Line) (u : Span) (k : ℕ) → Both before (record { unit = u; kind = k }) → Clean (lineFaults same t n y l uses u k)
     unfolding lineFaults carriedIn
-    by-line before u k b = either-eq Clean k 27 _ _ (λ e. (by-export (u .word + 1) (carriedIn same t y l u) (b .0 e) (b .1 e), tt)) (λ _. tt)
+    by-line before u k b =
+        either-eq Clean k 27 _ _ (λ e. (by-export (u .word + 1) (carriedIn same t y l u) (b .0 .0 e) (b .0 .1 e), tt)) (λ _.
+        either-eq Clean k 36 _ _ (λ e. (by-import (u .word + 1) (b .1 .0 e) (b .1 .1 e), tt)) (λ _. tt))
 
     faults-more : (left at : ℕ) → exportFaultsFrom (suc left) same t n y l uses at
         ≡ ifEq (lineKind t (unitAt t at .word)) 0 [] (lineFaults same t n y l uses (unitAt t at) (lineKind t (unitAt t at .word)) ++ exportFaultsFrom left same t n y l uses (unitAt t at .next))
@@ -172,7 +207,10 @@ module _ (same : ℕ → ℕ → Bool) (t : List ℕ) (n : ℕ) (y : List ℕ) (
     faults-more left at = refl
 
     edge-line : (before : List Line) (u : Span) (k : ℕ) → k ≡ 0 → Both before (record { unit = u; kind = k })
-    edge-line before u k e = (λ q. let z : ⊥ = omega arith in absurd z, λ q. let z : ⊥ = omega arith in absurd z)
+    edge-line before u k e = (
+      (λ q. let z : ⊥ = omega arith in absurd z, λ q. let z : ⊥ = omega arith in absurd z),
+      (λ q. let z : ⊥ = omega arith in absurd z, λ q. let z : ⊥ = omega arith in absurd z),
+    )
 
     faults-each : (left at : ℕ) (before : List Line) → Clean (exportFaultsFrom left same t n y l uses at) → EachFrom Both before (linesFrom left t at)
     unfolding linesFrom
@@ -218,19 +256,33 @@ module _ (same : ℕ → ℕ → Bool) (t : List ℕ) (n : ℕ) (k y : List ℕ)
   abbrev Fi : List Line → Line → Type 0
   Fi before x = x .kind ≡ 27 → (r : ℕ) → r < c → NoneBelow same t k y l c (carriedIn same t y l (x .unit)) (x .unit .word + 1) r
 
+  abbrev Ma : List Line → Line → Type 0
+  Ma before x = x .kind ≡ 36 → 1 ≤ hostAt t (x .unit .word + 1)
+
+  abbrev Im : List Line → Line → Type 0
+  Im before x = x .kind ≡ 36 → labelAtToken y l (x .unit .word + 1) < l
+      → (r : ℕ) → r < c → NoneBelow same t k y l c (labelAtToken y l (x .unit .word + 1)) (x .unit .word + 1) r
+
   use-is : (j : ℕ) → j < l → getD uses j 0 ≡ firstUse same t k y l c j
   use-is j h = uses-first same t n k y l c j (omega arith)
 
   both-first : InOrder t k c → (before : List Line) (x : Line) → Both same t n y l uses before x → Fi before x
   both-first o before x b e =
-      let q = use-is (carriedIn same t y l (x .unit)) (b .0 e) in
-      first-least same t k y l c (carriedIn same t y l (x .unit)) (x .unit .word + 1) o (λ d. omega (arith, b .1 e (λ z. d (sym q ∙ z)), q))
+      let q = use-is (carriedIn same t y l (x .unit)) (b .0 .0 e) in
+      first-least same t k y l c (carriedIn same t y l (x .unit)) (x .unit .word + 1) o (λ d. omega (arith, b .0 .1 e (λ z. d (sym q ∙ z)), q))
 
-  first-both : (before : List Line) (x : Line) → Ex before x × Fi before x → Both same t n y l uses before x
-  first-both before x b =
-      (b .0, λ e d. (let q = use-is (carriedIn same t y l (x .unit)) (b .0 e) in omega (arith, q, least-first same t k y l c (carriedIn same t y l (x .unit)) (x .unit .word + 1) (b .1 e) (λ z. d (q ∙ z)))))
+  both-import : InOrder t k c → (before : List Line) (x : Line) → Both same t n y l uses before x → Im before x
+  both-import o before x b e a =
+      let q = use-is (labelAtToken y l (x .unit .word + 1)) a in
+      first-least same t k y l c (labelAtToken y l (x .unit .word + 1)) (x .unit .word + 1) o (λ d. omega (arith, b .1 .1 e a (λ z. d (sym q ∙ z)), q))
 
-  pub clean-names : InOrder t k c → Clean (namesIn same t n k y l c) → NamesUnbroken same t n k y l c
+  first-both : (before : List Line) (x : Line) → (Ex before x × Fi before x) × (Ma before x × Im before x) → Both same t n y l uses before x
+  first-both before x b = (
+    (b .0 .0, λ e d. (let q = use-is (carriedIn same t y l (x .unit)) (b .0 .0 e) in omega (arith, q, least-first same t k y l c (carriedIn same t y l (x .unit)) (x .unit .word + 1) (b .0 .1 e) (λ z. d (q ∙ z))))),
+    (b .1 .0, λ e a d. (let q = use-is (labelAtToken y l (x .unit .word + 1)) a in omega (arith, q, least-first same t k y l c (labelAtToken y l (x .unit .word + 1)) (x .unit .word + 1) (b .1 .1 e a) (λ z. d (q ∙ z))))),
+  )
+
+  pub clean-names : InOrder t k c → Clean (namesIn same t n k y l c) → NamesUnbroken same t n k y l c × EachLine t Ma
   unfolding namesIn allNameFaults exportFaults linesOf
   clean-names o h =
       let names = labelFaults l same t n y l 0 ++ statementsFaults c same t n k y l 0 in
@@ -239,22 +291,25 @@ module _ (same : ℕ → ℕ → Bool) (t : List ℕ) (n : ℕ) (k y : List ℕ)
       let b : Clean (statementsFaults c same t n k y l 0) = clean-right (labelFaults l same t n y l 0) (statementsFaults c same t n k y l 0) a in
       let once : (r : ℕ) → r < c → DeclaredOnce same t n k r =
       λ r g. declared-by same t n k r (statement-parts same t n y l k r (statements-each same t n y l k c 0 b r (omega arith) (omega arith)) .0 .0) in
-      let e : EachLine t (Both same t n y l uses) = faults-each same t n y l uses (suc (length t)) 0 [] (clean-right names out h) in
-      record {
-        parameters = λ r g. once r g .parameters;
-        lets = λ r g. once r g .lets;
-        letsAndParameters = λ r g. once r g .letsAndParameters;
-        labels = labels-by same t n y l (λ j g. labels-each same t n y l l 0 (clean-left (labelFaults l same t n y l 0) (statementsFaults c same t n k y l 0) a) j (omega arith) (omega arith));
-        targets = λ r g. statement-parts same t n y l k r (statements-each same t n y l k c 0 b r (omega arith) (omega arith)) .0 .1;
-        callees = λ r g. statement-parts same t n y l k r (statements-each same t n y l k c 0 b r (omega arith) (omega arith)) .1 .0;
-        values = λ r g. statement-parts same t n y l k r (statements-each same t n y l k c 0 b r (omega arith) (omega arith)) .1 .1;
-        exports = each-map (Both same t n y l uses) Ex (λ before x z. z .0) [] (linesOf t) e;
-        exportsFirst = each-map (Both same t n y l uses) Fi (both-first o) [] (linesOf t) e;
-      }
+      let e : EachLine t (Both same t n y l uses) = faults-each same t n y l uses (suc (length t)) 0 [] (clean-right names out h) in (
+        record {
+          parameters = λ r g. once r g .parameters;
+          lets = λ r g. once r g .lets;
+          letsAndParameters = λ r g. once r g .letsAndParameters;
+          labels = labels-by same t n y l (λ j g. labels-each same t n y l l 0 (clean-left (labelFaults l same t n y l 0) (statementsFaults c same t n k y l 0) a) j (omega arith) (omega arith));
+          targets = λ r g. statement-parts same t n y l k r (statements-each same t n y l k c 0 b r (omega arith) (omega arith)) .0 .1;
+          callees = λ r g. statement-parts same t n y l k r (statements-each same t n y l k c 0 b r (omega arith) (omega arith)) .1 .0;
+          values = λ r g. statement-parts same t n y l k r (statements-each same t n y l k c 0 b r (omega arith) (omega arith)) .1 .1;
+          exports = each-map (Both same t n y l uses) Ex (λ before x z. z .0 .0) [] (linesOf t) e;
+          exportsFirst = each-map (Both same t n y l uses) Fi (both-first o) [] (linesOf t) e;
+          importsFirst = each-map (Both same t n y l uses) Im (both-import o) [] (linesOf t) e;
+        },
+        each-map (Both same t n y l uses) Ma (λ before x z. z .1 .0) [] (linesOf t) e,
+      )
 
-  pub names-clean : NamesUnbroken same t n k y l c → Clean (namesIn same t n k y l c)
+  pub names-clean : NamesUnbroken same t n k y l c → EachLine t Ma → Clean (namesIn same t n k y l c)
   unfolding namesIn allNameFaults exportFaults linesOf
-  names-clean u =
+  names-clean u m =
       let names = labelFaults l same t n y l 0 ++ statementsFaults c same t n k y l 0 in
       let out = exportFaultsFrom (suc (length t)) same t n y l uses 0 in
       clean-join names out
@@ -263,4 +318,5 @@ module _ (same : ℕ → ℕ → Bool) (t : List ℕ) (n : ℕ) (k y : List ℕ)
       (each-statements same t n y l k c 0 (λ r a b.
       parts-statement same t n y l k r (by-declared same t n k r (record { parameters = u .parameters r (omega arith); lets = u .lets r (omega arith); letsAndParameters = u .letsAndParameters r (omega arith) })) (u .targets r (omega arith)) (u .callees r (omega arith)) (u .values r (omega arith)))))
       (each-faults same t n y l uses (suc (length t)) 0 []
-      (each-map (λ before x. Ex before x × Fi before x) (Both same t n y l uses) first-both [] (linesOf t) (each-both Ex Fi [] (linesOf t) (u .exports) (u .exportsFirst))))
+      (each-map (λ before x. (Ex before x × Fi before x) × (Ma before x × Im before x)) (Both same t n y l uses) first-both [] (linesOf t)
+      (each-both (λ before x. Ex before x × Fi before x) (λ before x. Ma before x × Im before x) [] (linesOf t) (each-both Ex Fi [] (linesOf t) (u .exports) (u .exportsFirst)) (each-both Ma Im [] (linesOf t) m (u .importsFirst)))))

@@ -13,7 +13,7 @@ use lib.ListN.{length, length-replicate}
 use borrow.Author.Tests.{leb-true, le-leb}
 use Rattle.base_prelude.specs.Choice.{ifLt, ifEq, ifTrue}
 use Rattle.base_prelude.specs.Fault.{none, leastOf}
-use Rattle.base_prelude.specs.Lists.{zeros}
+use Rattle.base_prelude.specs.Lists.{zeros, isAmong}
 use Rattle.base_prelude.proofs.Choice.{either, either-eq, either-true, ifLt-yes, ifLt-no, ifEq-yes, ifEq-no, ifTrue-yes, ifTrue-no, true-false}
 use Rattle.base_prelude.proofs.Table.{under, under-at}
 use Rattle.base_limits.specs.declared.Width.{Width}
@@ -21,28 +21,28 @@ use Rattle.lang_kinds.specs.Nesting.{statementIn, refusedIn, standsIn, rowsOf, 
 use Rattle.lang_kinds.specs.Standing.{standsOn}
 use Rattle.lang_kinds.proofs.Standing.{stands-range}
 use Rattle.lang_kinds.proofs.RowCounts.{rows-two}
-use Rattle.parse_lines.specs.Tokens.{kindAt, wordAt, keyAt}
+use Rattle.parse_lines.specs.Tokens.{kindAt, wordAt, hostAt, keyAt}
 use Rattle.parse_lines.specs.Units.{unitAt}
 use Rattle.parse_lines.specs.Lines.{lineKind}
 use Rattle.parse_lines.specs.declared.Span.{Span}
 use Rattle.parse_lines.proofs.Keys.{no-key}
-use Rattle.parse_shapes.specs.Shapes.{operandCount}
+use Rattle.parse_shapes.specs.Shapes.{operandCount, isName, shapeFits}
 use Rattle.parse_rules.specs.Rules.{shapeRule, leftRule, tokensRule, listRule, reservedLabel, labelLimit, labelKey, labelled, labelStep, labelsFrom, labelsRule}
 use Rattle.parse_rules.specs.declared.Labelled.{Labelled}
 use Rattle.parse_units.specs.Outline.{rowAt, putRow, rowIn, behind}
-use Rattle.parse_units.specs.Places.{groundIn, mayLabel, labelRule, placeRule, roomRule, localsRule, depthRule, lineFaults, limitFaults, unitFault}
+use Rattle.parse_units.specs.Places.{groundIn, lineOn, mayLabel, labelRule, placeRule, importLabels, importRule, roomRule, localsRule, depthRule, lineFaults, limitFaults, unitFault}
 use Rattle.parse_units.specs.Parse.{World, world, begin, putState, putKind, growTwo, growBy, localsBehind, depthBehind, sectionBehind, stateBehind, joinState, advance, openRow, faultIn}
 use Rattle.parse_units.specs.declared.Row.{Row}
 use Rattle.parse_units.specs.declared.State.{State}
-use Rattle.parse_units.proofs.Bounds.{unit-order}
+use Rattle.parse_units.proofs.Bounds.{unit-order, unit-clean, import-ground}
 use Rattle.parse_verdict.specs.Verdict.{kindIn, faultAt, nextWorld, faultsFrom, allFaults, All, Clean}
 use Rattle.parse_verdict.proofs.Decided.{least-none, none-all}
 use Rattle.parse_verdict.proofs.Decided as decided
 use Rattle.thm_outline.proofs.Puts.{length-put}
 use Rattle.thm_outline.proofs.Words.{Says, line-says, test-kind}
 use Rattle.thm_outline.proofs.Unit.{line-low}
-use Rattle.thm_acceptance.specs.Lines.{Line, lineFrom, linesFrom, linesOf, EachFrom, EachLine, statementKinds, statementsBefore, labelsAmong, labelCount, labelsBefore, Level, level, openedBy, openedByAll, openBefore, localsIn, blocksIn, sectionBefore, groundAmong, groundBefore}
-use Rattle.thm_acceptance.specs.LineRules.{isReserved, Shaped, SubstitutesKnown, NamesFree, Placed, MayBeLabelled, LabelsFree, NotLeftOut, NoFrameSize, FewStatements, FewLabels, FewLocals, FewBlocks, FewArguments}
+use Rattle.thm_acceptance.specs.Lines.{Line, lineFrom, linesFrom, linesOf, EachFrom, EachLine, statementKinds, statementsBefore, labelsAmong, labelsOn, labelCount, labelsBefore, Level, level, openedBy, openedByAll, openBefore, localsIn, blocksIn, sectionBefore, groundAmong, groundBefore, kindOn}
+use Rattle.thm_acceptance.specs.LineRules.{isReserved, Shaped, SubstitutesKnown, NamesFree, Placed, MayBeLabelled, LabelsFree, NotLeftOut, ImportBetween, NoFrameSize, FewStatements, FewLabels, FewImports, FewLocals, FewBlocks, FewArguments}
 use Rattle.thm_acceptance.proofs.LineRules.{reserved-by, by-reserved, shape-by, by-shape, TokensFree, tokens-by, by-tokens, list-by, by-list}
 use Rattle.thm_acceptance.proofs.Opens.{implies, imply, leaves-high, Link, Chain, closed, within, Somewhere, nowhere, somewhere, where-is, Frame, LocalsAre, Needs, chain-more, Counted, Head, Fit, next-counted, else-if-counted}
 
@@ -183,6 +183,22 @@ module _ (t : List ℕ) (n : ℕ) where
 
 -- ---- rules, both ways
 
+import-one : (t : List ℕ) (u : Span) (k : ℕ) → importLabels t u k ≤ 1
+unfolding importLabels
+import-one t u k =
+    either-eq (λ (x : ℕ). x ≤ 1) k 36 _ _
+    (λ _. either-true (λ (x : ℕ). x ≤ 1) (isName t (u .word + 1)) _ _ (λ _. either-eq (λ (x : ℕ). x ≤ 1) (hostAt t (u .word + 1)) 0 _ _ (λ _. omega arith) (λ _. omega arith)) (λ _. omega arith))
+    (λ _. omega arith)
+
+import-none : (t : List ℕ) (u : Span) (k : ℕ) → (k ≡ 36 → ⊥) → importLabels t u k ≡ 0
+unfolding importLabels
+import-none t u k d = ifEq-no _ _ d
+
+-- an import between functions, and every other line, has its kind where it stands
+pub on-is : (g k : ℕ) → (k ≡ 36 → g ≡ 1) → lineOn g k ≡ k
+unfolding lineOn
+on-is g k f = either-eq (λ (x : ℕ). x ≡ k) k 36 _ _ (λ e. ifEq-yes _ _ (f e)) (λ _. refl)
+
 module _ (t : List ℕ) (n : ℕ) (u : Span) (k : ℕ) where
   label-by : (g : ℕ) → none ≤ labelRule t n u g → kindAt t (u .first) ≡ 2 → mayLabel g (kindAt t (u .word)) (wordAt t (u .word)) ≡ true
   unfolding labelRule
@@ -240,6 +256,19 @@ module _ (t : List ℕ) (n : ℕ) (u : Span) (k : ℕ) where
   by-depth v f =
       either-eq (λ (x : ℕ). none ≤ x) k 3 _ _ (λ e. subst (λ (x : ℕ). none ≤ x) (sym (ifLt-yes none (keyAt t n (u .word) 14) (f e))) (omega arith)) (λ _. omega arith)
 
+  -- the label that an import is
+  import-by : (c : ℕ) → none ≤ importRule t n u k c → c ≤ 256 → c + importLabels t u k ≤ 256
+  unfolding importRule
+  import-by c h l =
+      let i : importLabels t u k ≤ 1 = import-one t u k in
+      either-eq (λ (x : ℕ). none ≤ x → c + importLabels t u k ≤ 256) (importLabels t u k) 0 _ _ (λ e _. omega (arith, e))
+      (λ _ z. omega (arith, limit-by t n (u .word + 1) c z, i)) h
+
+  by-import : (c : ℕ) → c + importLabels t u k ≤ 256 → none ≤ importRule t n u k c
+  unfolding importRule
+  by-import c h =
+      either-eq (λ (x : ℕ). none ≤ x) (importLabels t u k) 0 _ _ (λ _. omega arith) (λ d. by-limit t n (u .word + 1) c (omega (arith, d)))
+
   labels-rule : (c : ℕ) → labelsRule t n u c ≡ labelsFrom (u .word - u .first) t n (u .first) (labelled none c)
   unfolding labelsRule
   labels-rule c = refl
@@ -262,6 +291,7 @@ record Rules (w : Width) (t : List ℕ) (n : ℕ) (u : Span) (k g : ℕ) (s : St
   pub shape : none ≤ shapeRule w t n u k
   pub place : none ≤ placeRule t n u k g
   pub left : none ≤ leftRule t n u k
+  pub import : none ≤ importRule t n u k (labelsRule t n u (s .labels) .count)
   pub room : none ≤ roomRule t n u k (s .count)
   pub locals : none ≤ localsRule t n u k (s .locals)
   pub depth : none ≤ depthRule t n u k (s .depth)
@@ -291,6 +321,7 @@ module _ (w : Width) (t : List ℕ) (n : ℕ) (u : Span) (k g : ℕ) (s : State)
         shape = a .1 .1 .0;
         place = a .1 .1 .1 .0;
         left = a .1 .1 .1 .1 .0;
+        import = a .1 .1 .1 .1 .1 .0;
         room = b .0;
         locals = b .1 .0;
         depth = b .1 .1 .0;
@@ -301,7 +332,7 @@ module _ (w : Width) (t : List ℕ) (n : ℕ) (u : Span) (k g : ℕ) (s : State)
   rules-fault : Rules w t n u k g s → none ≤ unitFault w t n u k g s
   unfolding unitFault lineFaults limitFaults
   rules-fault r =
-      let a : none ≤ leastOf (labelRule t n u g ∷ labelsRule t n u (s .labels) .fault ∷ shapeRule w t n u k ∷ placeRule t n u k g ∷ leftRule t n u k ∷ []) = decided.all-none _ (r .label, (r .labels, (r .shape, (r .place, (r .left, tt))))) in
+      let a : none ≤ leastOf (labelRule t n u g ∷ labelsRule t n u (s .labels) .fault ∷ shapeRule w t n u k ∷ placeRule t n u k g ∷ leftRule t n u k ∷ importRule t n u k (labelsRule t n u (s .labels) .count) ∷ []) = decided.all-none _ (r .label, (r .labels, (r .shape, (r .place, (r .left, (r .import, tt)))))) in
       let b : none ≤ leastOf (roomRule t n u k (s .count) ∷ localsRule t n u k (s .locals) ∷ depthRule t n u k (s .depth) ∷ tokensRule t n u k ∷ listRule t n u k ∷ []) = decided.all-none _ (r .room, (r .locals, (r .depth, (r .tokens, (r .list, tt))))) in
       omega arith
 
@@ -316,9 +347,11 @@ pub record LineFine (w : Width) (t : List ℕ) (before : List Line) (x : Line) :
   pub labelled : MayBeLabelled w t before x
   pub named : LabelsFree w t before x
   pub kept : NotLeftOut w t before x
+  pub between : ImportBetween w t before x
   pub sizes : NoFrameSize w t before x
   pub statements : FewStatements w t before x
   pub labels : FewLabels w t before x
+  pub imports : FewImports w t before x
   pub locals : FewLocals w t before x
   pub blocks : FewBlocks w t before x
   pub arguments : FewArguments w t before x
@@ -409,7 +442,7 @@ module _ (rows : List ℕ) (m section k : ℕ) (low : section ≤ 3) where
   alone-is os (nowhere z) l = refl
   alone-is os (somewhere o bs r e x ch) l = let z : ⊥ = omega (arith, x .high) in absurd z
 
-  stands-needs : (os : List Level) → Somewhere rows m os → k < 36 → standsOn (groundAmong section os) k ≡ true → Needs k os
+  stands-needs : (os : List Level) → Somewhere rows m os → k < 37 → standsOn (groundAmong section os) k ≡ true → Needs k os
   stands-needs os s h e =
       let r = stands-range (groundAmong section os) k e in
       record {
@@ -674,30 +707,53 @@ module _ (w : Width) (t : List ℕ) (n : ℕ) (before : List Line) (y : World) (
   locals-are : k ≡ 5 → standsOn (groundBefore t before) k ≡ true → y .state .locals ≡ localsIn (openBefore t before)
   locals-are e p = some-locals (openBefore t before) (y .state .locals) (os-some (omega arith) (omega arith) p) (a .counted .locals)
 
-  labels-in : labelCount t x ≡ labelsAmong (u .word - u .first) t (u .first)
-  unfolding labelCount
+  labels-in : labelsOn t x ≡ labelsAmong (u .word - u .first) t (u .first)
+  unfolding labelsOn
   labels-in = refl
+
+  count-in : labelCount t x ≡ labelsOn t x + importLabels t u k
+  unfolding labelCount
+  count-in = refl
+
+  -- all labels of a line that breaks no rule
+  all-few : LineFine w t before x → labelsBefore t before + labelCount t x ≤ 256
+  all-few f =
+      elim (ℕ-discrete k 36) [
+        | yes e ↦ f .imports e
+        | no d ↦ omega (arith, f .labels, count-in, import-none t u k d)
+      ]
+
+  kind-on : (k ≡ 36 → groundBefore t before ≡ 1) → kindOn t before x ≡ k
+  kind-on f = on-is (groundBefore t before) k f
+
+  placed-is : LineFine w t before x → standsOn (groundBefore t before) k ≡ true
+  placed-is f = subst (λ (v : ℕ). standsOn (groundBefore t before) v ≡ true) (kind-on (f .between)) (f .placed)
 
   -- the parser finds nothing: no rule is broken
   clean-fine : none ≤ faultAt w t n y → LineFine w t before x
-  unfolding faultAt faultIn
+  unfolding faultAt
   clean-fine h =
-      let r = fault-rules w t n u k g (y .state) h in
-      let p : standsOn (groundBefore t before) k ≡ true = subst (λ (v : ℕ). standsOn v k ≡ true) (ground-is t before y a) (place-by t n u k g (r .place)) in
+      let r = fault-rules w t n u k g (y .state) (unit-clean w t n u y h) in
+      let o = ground-is t before y a in
+      let v : k ≡ 36 → groundBefore t before ≡ 1 = λ e. sym o ∙ import-ground w t n u y h e in
+      let p : standsOn (groundBefore t before) k ≡ true = subst (λ (v : ℕ). standsOn v k ≡ true) o (place-by t n u k g (r .place)) in
       let m = labels-by t n u k (y .state .labels) (omega (arith, a .labels, a .few)) (r .labels) in
-      let o = unit-order t (y .state .at) in
+      let c = labels-count t n u k (y .state .labels) in
+      let i = unit-order t (y .state .at) in
       let z = tokens-by t n u k (r .tokens) in
       record {
-        shaped = shape-by w t n u k (r .shape);
+        shaped = subst (λ (v : ℕ). isAmong v (0 ∷ 34 ∷ []) ≡ false → shapeFits w t u v ≡ true) (sym (kind-on v)) (shape-by w t n u k (r .shape));
         substitutes = z .known;
         names = z .names;
         sizes = z .sizes;
-        placed = p;
-        labelled = λ e. subst (λ (v : ℕ). mayLabel v (kindAt t (u .word)) (wordAt t (u .word)) ≡ true) (ground-is t before y a) (label-by t n u k g (r .label) e);
+        placed = subst (λ (v : ℕ). standsOn (groundBefore t before) v ≡ true) (sym (kind-on v)) p;
+        labelled = λ e. subst (λ (v : ℕ). mayLabel v (kindAt t (u .word)) (wordAt t (u .word)) ≡ true) o (label-by t n u k g (r .label) e);
         named = λ i b c e. reserved-by t n i (m .0 i b (omega arith) e);
         kept = left-by t n u k (r .left);
+        between = v;
         statements = omega (arith, room-by t n u k (y .state .count) (r .room), a .count, a .free);
         labels = omega (arith, m .1, labels-in, a .labels);
+        imports = λ e. omega (arith, import-by t n u k (labelsRule t n u (y .state .labels) .count) (r .import) (omega (arith, c, m .1)), c, count-in, labels-in, a .labels);
         locals = λ e. omega (arith, locals-by t n u k (y .state .locals) (r .locals) e, locals-are e p);
         blocks = λ e. omega (arith, depth-by t n u k (y .state .depth) (r .depth) e, a .counted .depth);
         arguments = list-by t n u k (r .list);
@@ -708,29 +764,33 @@ module _ (w : Width) (t : List ℕ) (n : ℕ) (before : List Line) (y : World) (
   unfolding faultAt faultIn
   fine-clean f =
       let o = unit-order t (y .state .at) in
-      rules-fault w t n u k g (y .state) (record {
-        label = by-label t n u k g (λ e. subst (λ (v : ℕ). mayLabel v (kindAt t (u .word)) (wordAt t (u .word)) ≡ true) (sym (ground-is t before y a)) (f .labelled e));
+      let q = ground-is t before y a in
+      let c = labels-count t n u k (y .state .labels) in
+      subst (λ (v : ℕ). none ≤ unitFault w t n u v g (y .state)) (sym (on-is g k (λ e. q ∙ f .between e)))
+      (rules-fault w t n u k g (y .state) (record {
+        label = by-label t n u k g (λ e. subst (λ (v : ℕ). mayLabel v (kindAt t (u .word)) (wordAt t (u .word)) ≡ true) (sym q) (f .labelled e));
         labels = by-labels t n u k (y .state .labels) (λ j b c e. by-reserved t n j (f .named j b (omega (arith, o .1)) e), omega (arith, f .labels, labels-in, a .labels));
-        shape = by-shape w t n u k (f .shaped);
-        place = by-place t n u k g (subst (λ (v : ℕ). standsOn v k ≡ true) (sym (ground-is t before y a)) (f .placed));
+        shape = by-shape w t n u k (subst (λ (v : ℕ). isAmong v (0 ∷ 34 ∷ []) ≡ false → shapeFits w t u v ≡ true) (kind-on (f .between)) (f .shaped));
+        place = by-place t n u k g (subst (λ (v : ℕ). standsOn v k ≡ true) (sym q) (placed-is f));
         left = by-left t n u k (f .kept);
+        import = by-import t n u k (labelsRule t n u (y .state .labels) .count) (omega (arith, all-few f, c, count-in, labels-in, a .labels));
         room = by-room t n u k (y .state .count) (omega (arith, f .statements, a .count));
-        locals = by-locals t n u k (y .state .locals) (λ e. omega (arith, f .locals e, locals-are e (f .placed)));
+        locals = by-locals t n u k (y .state .locals) (λ e. omega (arith, f .locals e, locals-are e (placed-is f)));
         depth = by-depth t n u k (y .state .depth) (λ e. omega (arith, f .blocks e, a .counted .depth));
         tokens = by-tokens t n u k (record { names = f .names; known = f .substitutes; sizes = f .sizes });
         list = by-list t n u k (f .arguments);
-      })
+      }))
 
   here-is : LineFine w t before x → (k ≡ 0 → ⊥) → Here t u k (openBefore t before) y
   unfolding groundBefore
   here-is f d =
       let s = where-is (y .table) (y .state .top) (openBefore t before) (a .chain) in
-      let r = stands-range (groundAmong (sectionBefore before) (openBefore t before)) k (f .placed) in
+      let r = stands-range (groundAmong (sectionBefore before) (openBefore t before)) k (placed-is f) in
       record {
         room = omega (arith, f .statements, a .count);
         kind = refl;
         some = d;
-        needs = stands-needs (y .table) (y .state .top) (sectionBefore before) k (section-low before) (openBefore t before) s (omega (arith, line-low t (u .word))) (f .placed);
+        needs = stands-needs (y .table) (y .state .top) (sectionBefore before) k (section-low before) (openBefore t before) s (omega (arith, line-low t (u .word))) (placed-is f);
         fit = λ l h. fit-is (y .table) (y .state .top) (sectionBefore before) k (section-low before) l h (openBefore t before) s (r .0) (r .1);
         counted = a .counted;
         held = record { long = a .long; low = a .low; chain = a .chain };
@@ -750,8 +810,8 @@ module _ (w : Width) (t : List ℕ) (n : ℕ) (before : List Line) (y : World) (
         free = omega (arith, z .1, h .room);
         section = ap (λ (v : ℕ). ifEq k 25 2 (ifEq k 26 1 (ifEq k 32 3 (ifEq k 33 2 v)))) (a .section);
         counted = after t u k (openBefore t before) y h;
-        labels = omega (arith, labels-count t n u k (y .state .labels), labels-in, a .labels);
-        few = omega (arith, f .labels);
+        labels = omega (arith, labels-count t n u k (y .state .labels), count-in, labels-in, a .labels);
+        few = omega (arith, all-few f);
       }
 
 pub lines-more : (left : ℕ) (t : List ℕ) (at : ℕ) → linesFrom (suc left) t at

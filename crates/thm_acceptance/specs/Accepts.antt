@@ -12,7 +12,7 @@ use Rattle.base_limits.specs.Limits.{sourceBytes}
 use Rattle.base_limits.specs.declared.Width.{Width}
 use Rattle.lex_source.specs.Token.{Token}
 use Rattle.lex_source.specs.Lex.{Outcome, accepted, refused, lexOf}
-use Rattle.lex_source.specs.Rows.{tokenTable}
+use Rattle.prog_tables.specs.Hosts.{Hosts}
 use Rattle.parse_outline.specs.Outline.{Outlined, outlineOf}
 use Rattle.parse_outline.specs.declared.Parsed.{Parsed}
 use Rattle.parse_outline.specs.declared.Parsed.the-variants as parsed
@@ -22,6 +22,7 @@ use Rattle.res_data.specs.Sizes.{lengthOf, lengthIn, bigRule}
 use Rattle.res_text.specs.Same.{sameText}
 use Rattle.parse_verdict.specs.Verdict.{Clean, allFaults}
 use Rattle.parse_verdict.specs.Lexing.{lexFaults}
+use Rattle.check_judge.specs.Judge.{hostedTable}
 use Rattle.check_source.specs.Check.{Lent, hasRoom}
 use Rattle.check_source.specs.declared.Checked.{Checked}
 use Rattle.check_source.specs.declared.Checked.the-variants.{Accepted, Refused}
@@ -36,12 +37,12 @@ tokensIn (refused k) = []
 unfoldable pub tokensOf : Width → List ℕ → List Token
 tokensOf w s = tokensIn (lexOf w s)
 
--- their table, and the outline made of it
-abbrev pub tableOf : Width → List ℕ → List ℕ
-tableOf w s = tokenTable (tokensOf w s)
+-- their table, the names of imports marked against the host's list h, and the outline made of it
+abbrev pub tableOf : Width → Hosts → List ℕ → List ℕ
+tableOf w h s = hostedTable h s (tokensOf w s)
 
-abbrev pub outlined : Width → List ℕ → Outlined
-outlined w s = outlineOf w (tableOf w s) (length s)
+abbrev pub outlined : Width → Hosts → List ℕ → Outlined
+outlined w h s = outlineOf w (tableOf w h s) (length s)
 
 unfoldable pub statementsIn : Parsed → ℕ
 statementsIn (parsed.Accepted c l) = c
@@ -79,11 +80,11 @@ laterGroups w s b n t o =
     ∷ []
 
 -- all groups, in the check's order
-unfoldable pub groupsOf : Width → List ℕ → Lent → List (List ℕ)
-groupsOf w s b =
+unfoldable pub groupsOf : Width → Hosts → List ℕ → Lent → List (List ℕ)
+groupsOf w h s b =
     (longRule s ∷ [])
     ∷ lexFaults w s
-    ∷ laterGroups w s b (length (tokensOf w s)) (tableOf w s) (outlined w s)
+    ∷ laterGroups w s b (length (tokensOf w s)) (tableOf w h s) (outlined w h s)
 
 -- the least fault of the first group that has one, else the answer a
 unfoldable pub judge : List (List ℕ) → Checked → Checked
@@ -94,8 +95,8 @@ judge (ks ∷ gs) a = ifLt (leastOf ks) none (Refused (keyNumber (leastOf ks)) (
 unfoldable pub countsIn : Width → ℕ → List ℕ → Parsed → Checked
 countsIn w n t a = Accepted n (statementsIn a) (labelsIn a) (lengthIn (lengthOf w t))
 
-unfoldable pub countsOf : Width → List ℕ → Checked
-countsOf w s = countsIn w (length (tokensOf w s)) (tableOf w s) (outlined w s .answer)
+unfoldable pub countsOf : Width → Hosts → List ℕ → Checked
+countsOf w h s = countsIn w (length (tokensOf w s)) (tableOf w h s) (outlined w h s .answer)
 
 -- no group of a list has a fault
 abbrev pub AllClean : List (List ℕ) → Type 0
@@ -104,9 +105,10 @@ AllClean (ks ∷ gs) = Clean ks × AllClean gs
 
 -- ---- "and the tables lent can hold it": 16
 
-abbrev pub Holds : Width → List ℕ → Lent → Type 0
-Holds w s b =
-    hasRoom b (length (tokensOf w s)) (statementsIn (outlined w s .answer)) (labelsIn (outlined w s .answer)) (lengthIn (lengthOf w (tableOf w s))) ≡ true
+abbrev pub Holds : Width → Hosts → List ℕ → Lent → Type 0
+Holds w h s b =
+    hasRoom b (length (tokensOf w s)) (statementsIn (outlined w h s .answer)) (labelsIn (outlined w h s .answer)) (lengthIn (lengthOf w (tableOf w h s)))
+    ≡ true
 
 abbrev pub isAccepted : Checked → Bool
 isAccepted (Accepted n c l size) = true

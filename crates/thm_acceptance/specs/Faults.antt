@@ -1,4 +1,5 @@
--- The faults that the rules on names find in the WHOLE source, in source order: 10 to 13 in labels and statements, then 10, 11 and 17 in exports.
+-- The faults that the rules on names find in the WHOLE source, in source order: 10 to 13 in labels and statements, then 10, 11 and 17 in exports
+-- and imports.
 -- t the tokens of a source of n bytes, k the rows, y the l label rows; `same` says whether two tokens have one name.
 -- Assumes nothing.
 use Prim.Native.Nat.{ℕ, zero, suc, _+_, _-_}
@@ -18,7 +19,7 @@ use Rattle.res_scope.specs.Names.{meaningOf}
 use Rattle.res_scope.specs.Parts.{noCallee, partsOf}
 use Rattle.res_scope.specs.declared.Parts.{Parts}
 use Rattle.res_names.specs.Naming.{valueFault, setFault, calleeFault, gotoFault, letFault, parameterFault, labelFault}
-use Rattle.res_exports.specs.Exports.{definitionFrom, carriedBy, exportFault}
+use Rattle.res_exports.specs.Exports.{definitionFrom, carriedBy, exportFault, importFault}
 
 -- ---- labels: so many from label j on
 
@@ -84,14 +85,14 @@ statementsFaults (suc left) same t n k y l r = statementFaults same t n k y l r 
 unfoldable pub allNameFaults : (ℕ → ℕ → Bool) → List ℕ → ℕ → List ℕ → List ℕ → ℕ → ℕ → List ℕ
 allNameFaults same t n k y l c = labelFaults l same t n y l 0 ++ statementsFaults c same t n k y l 0
 
--- ---- exports; `uses` has the first token that means each label
+-- ---- exports and imports; `uses` has the first token that means each label
 
 -- the line whose unit is u
 unfoldable pub lineFaults : (ℕ → ℕ → Bool) → List ℕ → ℕ → List ℕ → ℕ → List ℕ → Span → ℕ → List ℕ
 lineFaults same t n y l uses u k =
     ifEq k kind.export
     (exportFault same t n y l uses (u .word + 1) (carriedBy same y l (definitionFrom t (u .next) .first) (definitionFrom t (u .next) .word) (u .word + 1)) ∷ [])
-    []
+    (ifEq k kind.importLine (importFault t n y l uses (u .word + 1) ∷ []) [])
 
 -- unit after unit from a token on, to the source's end
 unfoldable pub exportFaultsFrom : ℕ → (ℕ → ℕ → Bool) → List ℕ → ℕ → List ℕ → ℕ → List ℕ → ℕ → List ℕ

@@ -12,6 +12,7 @@ use Rattle.base_prelude.specs.Lists.{isAmong}
 use Rattle.base_limits.specs.Limits as limits
 use Rattle.base_limits.specs.declared.Width.{Width}
 use Rattle.lang_kinds.specs.Kinds as kind
+use Rattle.lang_kinds.specs.Grounds as ground
 use Rattle.lang_kinds.specs.Tokens as token
 use Rattle.lang_kinds.specs.Nesting.{rowsOf}
 use Rattle.lang_kinds.specs.Standing.{standsOn}
@@ -22,7 +23,7 @@ use Rattle.parse_lines.specs.Tokens.{kindAt, wordAt}
 use Rattle.parse_shapes.specs.Shapes.{operandCount, isListed, shapeFits}
 use Rattle.parse_rules.specs.Rules.{ownWord}
 use Rattle.parse_units.specs.Places.{mayLabel}
-use Rattle.thm_acceptance.specs.Lines.{Line, statementsBefore, labelsBefore, labelCount, openBefore, localsIn, blocksIn, groundBefore}
+use Rattle.thm_acceptance.specs.Lines.{Line, statementsBefore, labelsBefore, labelsOn, labelCount, openBefore, localsIn, blocksIn, groundBefore, kindOn}
 
 -- a rule finds nothing
 abbrev pub Silent : ℕ → Type 0
@@ -50,7 +51,7 @@ substitutes = token.substitute ∷ token.atSubstitute ∷ []
 module _ (w : Width) (t : List ℕ) where
   -- 7: "word or shape unknown: magic word", and "Out of range here is refusal 7"; what is left out is 9 in any shape
   abbrev pub Shaped : List Line → Line → Type 0
-  Shaped before x = isAmong (x .kind) (kind.edge ∷ kind.leftOut ∷ []) ≡ false → shapeFits w t (x .unit) (x .kind) ≡ true
+  Shaped before x = isAmong (kindOn t before x) (kind.edge ∷ kind.leftOut ∷ []) ≡ false → shapeFits w t (x .unit) (kindOn t before x) ≡ true
 
   -- 7: "any other substitute is refusal 7"
   abbrev pub SubstitutesKnown : List Line → Line → Type 0
@@ -63,7 +64,7 @@ module _ (w : Width) (t : List ℕ) where
 
   -- 8: "not allowed here: magic word"; "8 at source end if something is open"
   abbrev pub Placed : List Line → Line → Type 0
-  Placed before x = standsOn (groundBefore t before) (x .kind) ≡ true
+  Placed before x = standsOn (groundBefore t before) (kindOn t before x) ≡ true
 
   -- 8: "A label names a data definition, group or `align` in data, a function in functions, or a statement inside a function ..;
   -- else, or at the source's end, refusal 8 at it"
@@ -80,6 +81,10 @@ module _ (w : Width) (t : List ℕ) where
   abbrev pub NotLeftOut : List Line → Line → Type 0
   NotLeftOut before x = x .kind ≡ kind.leftOut → ⊥
 
+  -- 9: "`import` between functions is taken", "9 no longer for that `import`" (02, 3): in the section of functions, outside a function
+  abbrev pub ImportBetween : List Line → Line → Type 0
+  ImportBetween before x = x .kind ≡ kind.importLine → groundBefore t before ≡ ground.functionsSection
+
   -- 9: "`%saved-frame-size`"
   abbrev pub NoFrameSize : List Line → Line → Type 0
   NoFrameSize before x = Operands t substitutes (λ i. wordAt t i ≡ substitute.savedFrameSize → ⊥) x
@@ -90,7 +95,11 @@ module _ (w : Width) (t : List ℕ) where
 
   -- 14: "labels 256"
   abbrev pub FewLabels : List Line → Line → Type 0
-  FewLabels before x = labelsBefore t before + labelCount t x ≤ limits.labels
+  FewLabels before x = labelsBefore t before + labelsOn t x ≤ limits.labels
+
+  -- 14, at the name of an import: "Imported names count as labels in the one space" (02, 3)
+  abbrev pub FewImports : List Line → Line → Type 0
+  FewImports before x = x .kind ≡ kind.importLine → labelsBefore t before + labelCount t x ≤ limits.labels
 
   -- 14: "locals in scope 64, parameters and shadowed ones included"
   abbrev pub FewLocals : List Line → Line → Type 0

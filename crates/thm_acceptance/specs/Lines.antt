@@ -14,6 +14,7 @@ use Rattle.parse_lines.specs.Units.{unitAt}
 use Rattle.parse_lines.specs.Lines.{lineKind}
 use Rattle.parse_lines.specs.declared.Span.{Span}
 use Rattle.parse_shapes.specs.Shapes.{operandCount}
+use Rattle.parse_units.specs.Places.{lineOn, importLabels}
 
 -- ---- lines
 
@@ -60,8 +61,13 @@ unfoldable pub labelsAmong : ℕ → List ℕ → ℕ → ℕ
 labelsAmong zero t i = 0
 labelsAmong (suc left) t i = ifEq (kindAt t i) token.label (suc (labelsAmong left t (i + 1))) (labelsAmong left t (i + 1))
 
+-- the labels before a line's magic word
+unfoldable pub labelsOn : List ℕ → Line → ℕ
+labelsOn t x = labelsAmong (x .unit .word - x .unit .first) t (x .unit .first)
+
+-- with the name of an import that the host lists: "Imported names count as labels in the one space" (02, 3)
 unfoldable pub labelCount : List ℕ → Line → ℕ
-labelCount t x = labelsAmong (x .unit .word - x .unit .first) t (x .unit .first)
+labelCount t x = labelsOn t x + importLabels t (x .unit) (x .kind)
 
 unfoldable pub labelsBefore : List ℕ → List Line → ℕ
 labelsBefore t [] = 0
@@ -136,3 +142,7 @@ groundAmong section (o ∷ os) = o .ground
 
 unfoldable pub groundBefore : List ℕ → List Line → ℕ
 groundBefore t before = groundAmong (sectionBefore before) (openBefore t before)
+
+-- the kind of a line where it stands: an `import` elsewhere than between functions is left out
+abbrev pub kindOn : List ℕ → List Line → Line → ℕ
+kindOn t before x = lineOn (groundBefore t before) (x .kind)

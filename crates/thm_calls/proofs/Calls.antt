@@ -1,4 +1,4 @@
--- Any list of `voodoo_start`, `voodoo_step` and `voodoo_run` on the words that the last one left is a list of demand 3.
+-- Any list of `voodoo_start`, `voodoo_step`, `voodoo_run` and `voodoo_resume` on the words that the last one left is a list of demand 3.
 -- Assumes nothing.
 use mathlib.Core.Path.{_≡_, refl, sym, _∙_, ap, subst}
 use mathlib.Core.Bool.{Bool, true, false}
@@ -8,23 +8,24 @@ use native.Mathlib.Omega.{arith}
 use lib.Dec.{eqb}
 use lib.ListN.{length}
 use borrow.Author.Tests.{eq-eqb}
-use Rattle.base_prelude.specs.Choice.{ifLt}
+use Rattle.base_prelude.specs.Choice.{pick, ifLt, ifTrue}
 use Rattle.base_prelude.proofs.Choice.{true-false, ifLt-no, either, either-eq, either-true}
 use Rattle.base_limits.specs.Record.{freshOf}
 use Rattle.base_limits.specs.declared.Width.the-variants.{Bits32}
 use Rattle.base_limits.specs.declared.State.{State}
-use Rattle.base_limits.specs.declared.State.the-variants.{Running, Finished, Stopped}
+use Rattle.base_limits.specs.declared.State.the-variants.{Running, Finished, Stopped, Paused}
 use Rattle.base_limits.specs.declared.Machine.{Machine}
 use Rattle.prog_tables.specs.Program.{programFrom}
 use Rattle.prog_tables.specs.Label.{Tables, rows}
+use Rattle.prog_tables.specs.Hosts.{Hosts}
 use Rattle.check_source.specs.Check.{Lent, checkOf}
 use Rattle.thm_acceptance.specs.Accepts.{isAccepted}
 use Rattle.thm_soundness.specs.Program.{programOf}
 use Rattle.thm_demand.proofs.Demand.{demand-three}
-use Rattle.vm_definitions.specs.Step.{World, stepOf, runOf}
+use Rattle.vm_definitions.specs.Step.{World, stepOf, runOf, Continued, resumeOf}
 use Rattle.vm_definitions.specs.Start.{startOf, startBy, startAnswer, startLeaves, startWorld, begunBy}
 use Rattle.vm_definitions.specs.Broken.{startBroken}
-use Rattle.vm_definitions.specs.Play.{Call, start, step, run, Invocation, startBroke, calledOn, invokedOn, worldAfter, refusalsAfter}
+use Rattle.vm_definitions.specs.Play.{Call, start, step, run, resume, Invocation, startBroke, calledOn, invokedOn, worldAfter, refusalsAfter}
 use Rattle.vm_definitions.specs.Claim.{Demand, NoneBroken, startedBy}
 use Rattle.vm_definitions.specs.Lent.{world}
 use Rattle.vm_definitions.specs.declared.Broken.{Broken}
@@ -32,14 +33,14 @@ use Rattle.vm_definitions.specs.declared.Broken.the-variants.{No, At, Somewhere
 use Rattle.vm_definitions.specs.declared.Started.{Started}
 use Rattle.vm_definitions.specs.declared.Started.the-variants.{Begun, Refused, Unsound}
 use Rattle.c_words.specs.Words.{recordSize}
-use Rattle.c_words.specs.Record.{isStop, recordOf, recordWords}
-use Rattle.c_words.specs.Reply.{stopNumber, brokenNumber, outcomeNumber, outcomeReply, startNumber, recordBegun, openingReply}
+use Rattle.c_words.specs.Record.{isStop, recordOf}
+use Rattle.c_words.specs.Reply.{stopNumber, brokenNumber, outcomeNumber, refusalReply, outcomeReply, resumedReply, startNumber, recordBegun, openingReply}
 use Rattle.c_words.specs.declared.Loaded.{Loaded}
 use Rattle.c_words.specs.declared.Loaded.the-variants.{Fit}
 use Rattle.c_words.proofs.Laws.{Listed, record-back, record-long, record-listed}
-use Rattle.c_voodoo.specs.Calls.{Answered, unfit, outcomeAnswer, openingAnswer, stepBy, stepCall, runBy, runCall, startCall}
+use Rattle.c_voodoo.specs.Calls.{Answered, outcomeOf, resumedOf, unfit, outcomeAnswer, resumedAnswer, openingAnswer, stepBy, stepCall, runBy, runCall, resumeBy, resumeCall, startCall}
 use Rattle.thm_calls.specs.Calls.{Held, heldIn, worldOf, HostCall, invocations, answerTo, answerOf, heldAfter, numbersAfter, startedFrom, Without35, Holds, HostDemand}
-use Rattle.thm_calls.proofs.Words.{step-words, run-words, step-listed, run-listed}
+use Rattle.thm_calls.proofs.Words.{step-words, run-words, resume-words, step-listed, run-listed, resume-listed}
 
 -- ---- no number is 35
 
@@ -56,10 +57,21 @@ unfolding stopNumber Listed isStop ifLt
 stop-not Running l h = absurd (omega (arith, h))
 stop-not (Finished v) l h = absurd (omega (arith, h))
 stop-not (Stopped k i) l h = absurd (true-false (sym l ∙ ap isStop h))
+stop-not (Paused q) l h = absurd (omega (arith, h))
 
 broken-not : (b : Broken) (s : State) → Listed s → b ≡ No → Not35 (brokenNumber b s)
 unfolding brokenNumber
 broken-not b s l e = subst (λ (z : Broken). Not35 (brokenNumber z s)) (sym e) (stop-not s l)
+
+-- going on that is not 35: 37, or as a step
+resumed-not : (ws out : List ℕ) (y : Continued) → Listed (y .after .world .machine .state) → y .after .broken ≡ No
+    → Not35 (resumedReply (resumedOf y) ws out .number)
+unfolding resumedReply refusalReply outcomeReply outcomeNumber ifTrue
+resumed-not ws out y l e = by (y .unpaused)
+  where
+    by : (b : Bool) → Not35 (pick b (refusalReply 37 ws out) (outcomeReply (outcomeOf (y .after)) ws out) .number)
+    by true h = absurd (omega (arith, h))
+    by false h = broken-not _ _ l e h
 
 abbrev P : Started → Type 0
 P a = Not35 (startNumber a)
@@ -104,7 +116,7 @@ module _ (t : Tables) (bytes : List ℕ) where
     abbrev heldBy : List ℕ → List ℕ → List ℕ → Started → Held
     heldBy ws st m a =
         record {
-          words = recordBegun a (recordWords (begunBy (programFrom Bits32 t) bytes name args (X st m) a .machine)) ws;
+          words = recordBegun a (begunBy (programFrom Bits32 t) bytes name args (X st m) a .machine) ws;
           stack = begunBy (programFrom Bits32 t) bytes name args (X st m) a .stack;
           memory = begunBy (programFrom Bits32 t) bytes name args (X st m) a .memory;
         }
@@ -182,6 +194,22 @@ module _ (t : Tables) (bytes : List ℕ) where
         subst (λ (x : Loaded). Not35 (runBy ws st m out t budget x .number)) (sym e)
         (broken-not _ _ (run-listed t budget (world r st m) (record-listed ws r e)) h)
 
+    resume-holds : (v : ℕ) → Holds (heldIn (resumeCall ws st m out t v)) (resumeOf (programFrom Bits32 t) v (world r st m) .after .world)
+    unfolding resumeCall resumeBy resumedAnswer
+    resume-holds v =
+        record {
+          record-words = resume-words ws st m out t r e v;
+          stack-words = ap (λ (x : Loaded). resumeBy ws st m out t v x .stack) e;
+          memory-bytes = ap (λ (x : Loaded). resumeBy ws st m out t v x .memory) e;
+        }
+
+    resume-number : (v : ℕ) → resumeOf (programFrom Bits32 t) v (world r st m) .after .broken ≡ No
+        → Not35 (resumeCall ws st m out t v .number)
+    unfolding resumeCall resumeBy resumedAnswer
+    resume-number v h =
+        subst (λ (x : Loaded). Not35 (resumeBy ws st m out t v x .number)) (sym e)
+        (resumed-not ws out (resumeOf (programFrom Bits32 t) v (world r st m)) (resume-listed t v (world r st m) (record-listed ws r e)) h)
+
     -- ---- any call
 
     call-holds : (k : Call) → Holds (heldIn (answerTo t bytes k ws st m out)) (calledOn (programFrom Bits32 t) bytes k (world r st m) .world)
@@ -189,12 +217,14 @@ module _ (t : Tables) (bytes : List ℕ) where
     call-holds (start name args) = start-holds name args ws st m out r e
     call-holds step = step-holds
     call-holds (run budget) = run-holds budget
+    call-holds (resume v) = resume-holds v
 
     call-number : (k : Call) → calledOn (programFrom Bits32 t) bytes k (world r st m) .broken ≡ No → Not35 (answerTo t bytes k ws st m out .number)
     unfolding answerTo calledOn
     call-number (start name args) h = start-number name args ws st m out r e h
     call-number step h = step-number h
     call-number (run budget) h = run-number budget h
+    call-number (resume v) h = resume-number v h
 
   module _ (c : HostCall) (h : Held) (x : World) (q : Holds h x) where
     abbrev found : List ℕ → World
@@ -254,7 +284,7 @@ module _ (t : Tables) (bytes : List ℕ) where
         (first-number h name args out long e, numbers _ _ cs (first-holds h name args out long e) (s .1 .1)),
       )
 
--- demand 3 of an accepted source, said of the calls from C
-pub host-demand-three : (s : List ℕ) (b : Lent) → isAccepted (checkOf Bits32 s b .answer) ≡ true
-    → HostDemand (programOf (checkOf Bits32 s b)) (checkOf Bits32 s b .bytes)
-host-demand-three s b h = host-demand (programOf (checkOf Bits32 s b)) (checkOf Bits32 s b .bytes) (demand-three Bits32 s b h)
+-- demand 3 of an accepted source, said of the calls from C: g is the host's list
+pub host-demand-three : (g : Hosts) (s : List ℕ) (b : Lent) → isAccepted (checkOf Bits32 g s b .answer) ≡ true
+    → HostDemand (programOf (checkOf Bits32 g s b)) (checkOf Bits32 g s b .bytes)
+host-demand-three g s b h = host-demand (programOf (checkOf Bits32 g s b)) (checkOf Bits32 g s b .bytes) (demand-three Bits32 g s b h)

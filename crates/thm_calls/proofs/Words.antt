@@ -1,7 +1,7 @@
 -- The words that a call leaves hold the record that the definition leaves.
 -- Assumes nothing.
 use mathlib.Core.Path.{_≡_, refl, sym, _∙_, ap, subst}
-use mathlib.Core.Bool.{Bool, true, false}
+use mathlib.Core.Bool.{Bool, true, false, not}
 use mathlib.Core.List.{List, [], _∷_}
 use Prim.Native.Nat.{ℕ, zero, suc, _+_, _<_, _≤_}
 use native.Mathlib.Omega.{arith}
@@ -9,18 +9,17 @@ use lib.Dec.{eqb, ltb}
 use lib.ListN.{length, getD}
 use borrow.Author.Tests.{ltb-false}
 use Rattle.base_prelude.specs.Choice.{pick, ifLt, ifEq, ifTrue}
-use Rattle.base_prelude.specs.Lists.{overlay}
 use Rattle.base_prelude.proofs.Choice.{true-false, ifLt-no, ifEq-no, either-eq}
 use Rattle.base_limits.specs.declared.Width.{Width}
 use Rattle.base_limits.specs.declared.Width.the-variants.{Bits32}
 use Rattle.base_limits.specs.declared.State.{State}
-use Rattle.base_limits.specs.declared.State.the-variants.{Running, Finished, Stopped}
+use Rattle.base_limits.specs.declared.State.the-variants.{Running, Finished, Stopped, Paused}
 use Rattle.base_limits.specs.declared.Machine.{Machine}
-use Rattle.base_limits.specs.Record.{freshOf, stopped}
+use Rattle.base_limits.specs.Record.{freshOf, stopped, withState, pauseOf}
 use Rattle.prog_tables.specs.Program.{programFrom}
 use Rattle.prog_tables.specs.Label.{Tables, rows}
-use Rattle.vm_definitions.specs.Broken.{stepBroken}
-use Rattle.vm_definitions.specs.Step.{World, Effect, stops, leaves, After, idle, effected, guarded, inState, counting, effectOf, stepOf, runOf}
+use Rattle.vm_definitions.specs.Broken.{stepBroken, resumeBroken}
+use Rattle.vm_definitions.specs.Step.{World, Effect, stops, leaves, After, idle, effected, guarded, inState, inStateOf, importNumber, statementOf, counting, effectOf, stepOf, runOf, handedIn, Continued, onPause, resumeOf}
 use Rattle.vm_definitions.specs.Start.{startOf, startLeaves, startWorld, begunBy}
 use Rattle.vm_definitions.specs.Lent.{world}
 use Rattle.vm_definitions.specs.declared.Broken.{Broken}
@@ -28,15 +27,15 @@ use Rattle.vm_definitions.specs.declared.Broken.the-variants.{No, At, Somewhere
 use Rattle.vm_definitions.specs.declared.Started.{Started}
 use Rattle.vm_definitions.specs.declared.Started.the-variants.{Begun}
 use Rattle.vm_definitions.specs.declared.Outcome.{Outcome}
-use Rattle.c_words.specs.Record.{isStop, isListed, stateOf, machineOf, recordOf, stateNumber, recordWords}
-use Rattle.c_words.specs.Reply.{changes, recordAfter, outcomeReply, recordBegun, openingReply}
+use Rattle.c_words.specs.Record.{isStop, recordOf, stateNumber, recordOver}
+use Rattle.c_words.specs.Reply.{changes, recordAfter, refusalReply, outcomeReply, resumedReply, recordBegun, openingReply}
 use Rattle.c_words.specs.declared.Loaded.{Loaded}
 use Rattle.c_words.specs.declared.Loaded.the-variants.{Fit, Unfit}
 use Rattle.c_words.specs.Words as word
 use Rattle.c_words.specs.Words.{recordSize}
 use Rattle.c_words.proofs.Laws.{Listed, record-back, record-long, record-state, record-listed}
-use Rattle.vm_definitions.proofs.Outcomes.{Fine, effect-fine}
-use Rattle.c_voodoo.specs.Calls.{Answered, outcomeOf, unfit, outcomeAnswer, openingAnswer, stepBy, stepCall, runBy, runCall, startCall}
+use Rattle.vm_definitions.proofs.Outcomes.{Fine, effect-fine, handed-in-fine, statement-cases, resume-cases}
+use Rattle.c_voodoo.specs.Calls.{Answered, outcomeOf, resumedOf, unfit, outcomeAnswer, resumedAnswer, openingAnswer, stepBy, stepCall, runBy, runCall, resumeBy, resumeCall, startCall}
 
 -- where nothing is written, the record is as it was
 abbrev Quiet : World → After → Type 0
@@ -54,27 +53,45 @@ counts s n r b = ifEq-no _ true (some n)
     some : (n : ℕ) → 1 + n ≡ 0 → ⊥
     some n h = omega arith
 
-quiet-effected : (x : World) (e : Effect) → x .machine .state ≡ Running → Quiet x (effected x e)
+-- a stop is written where the record had not stopped before
+quiet-effected : (x z : World) (e : Effect) → eqb word.stopped (stateNumber (x .machine .state)) ≡ false → Quiet x (effected z e)
 unfolding effected changes stateNumber stopped ifEq
-quiet-effected x (stops k) q h = true-false (rw q at h)
-quiet-effected x (leaves y) q h = true-false h
+quiet-effected x z (stops k) q h = true-false (sym (ap not q) ∙ h)
+quiet-effected x z (leaves y) q h = true-false h
 
-quiet-guarded : (x : World) (e : Effect) (b : Broken) → x .machine .state ≡ Running → Quiet x (guarded x e b)
+-- so is a pause
+quiet-paused : (x : World) (vs : List ℕ) (n : ℕ) → x .machine .state ≡ Running → Quiet x (idle (inStateOf (Paused (pauseOf n vs)) x) No)
+unfolding idle inStateOf withState changes stateNumber ifEq
+quiet-paused x vs n q h = true-false (rw q at h)
+
+running-number : (s : State) → s ≡ Running → eqb word.stopped (stateNumber s) ≡ false
+unfolding stateNumber
+running-number s e = rw e
+
+quiet-statement : (t : Tables) (x : World) → x .machine .state ≡ Running → Quiet x (statementOf (programFrom Bits32 t) x)
+quiet-statement t x e =
+    statement-cases (Quiet x) (programFrom Bits32 t) x (quiet-effected x x (stops 32) (running-number _ e))
+    (λ vs. quiet-paused x vs (importNumber (programFrom Bits32 t) x) e)
+    (quiet-effected x x (effectOf (programFrom Bits32 t) x) (running-number _ e))
+
+quiet-guarded : (x : World) (y : After) (b : Broken) → Quiet x y → Quiet x (guarded x y b)
 unfolding guarded
-quiet-guarded x e No q = quiet-effected x e q
-quiet-guarded x e (At i) q = quiet-idle x (At i)
-quiet-guarded x e Somewhere q = quiet-idle x Somewhere
+quiet-guarded x y No q = q
+quiet-guarded x y (At i) q = quiet-idle x (At i)
+quiet-guarded x y Somewhere q = quiet-idle x Somewhere
 
-quiet-in : (x : World) (s : State) (e : Effect) (b : Broken) → x .machine .state ≡ s → Quiet x (inState s (guarded x e b) (idle x No))
+quiet-in : (x : World) (s : State) (y : After) (b : Broken) → (s ≡ Running → Quiet x y) → Quiet x (inState s (guarded x y b) (idle x No))
 unfolding inState
-quiet-in x Running e b q = quiet-guarded x e b q
-quiet-in x (Finished v) e b q = quiet-idle x No
-quiet-in x (Stopped k i) e b q = quiet-idle x No
+quiet-in x Running y b q = quiet-guarded x y b (q refl)
+quiet-in x (Finished v) y b q = quiet-idle x No
+quiet-in x (Stopped k i) y b q = quiet-idle x No
+quiet-in x (Paused v) y b q = quiet-idle x No
 
 quiet-step : (t : Tables) (x : World) → Quiet x (stepOf (programFrom Bits32 t) x)
 unfolding stepOf
 quiet-step t x =
-    quiet-in x (x .machine .state) (effectOf (programFrom Bits32 t) x) (stepBroken (programFrom Bits32 t) (x .machine) (x .stack) (length (x .memory))) refl
+    quiet-in x (x .machine .state) (statementOf (programFrom Bits32 t) x)
+    (stepBroken (programFrom Bits32 t) (x .machine) (x .stack) (length (x .memory))) (quiet-statement t x)
 
 quiet-run : (t : Tables) (budget : ℕ) (x : World) → Quiet x (runOf (programFrom Bits32 t) budget x)
 unfolding runOf ifEq counting
@@ -91,7 +108,30 @@ quiet-run t (suc b) x = by (eqb (stepOf (programFrom Bits32 t) x .count) 0)
         (runOf (programFrom Bits32 t) b (stepOf (programFrom Bits32 t) x .world) .world .machine) (runOf (programFrom Bits32 t) b (stepOf (programFrom Bits32 t) x .world) .broken))
         ∙ h)
 
--- ---- the state that a step or a run leaves is one that words can hold
+-- going on: 37 leaves the record, else it is as a step
+quiet-on : (x : World) (s : State) (y : After) (b : Broken) → x .machine .state ≡ s
+    → (eqb word.stopped (stateNumber (x .machine .state)) ≡ false → Quiet x y) → Quiet x (onPause s (guarded x y b) x .after)
+unfolding onPause stateNumber
+quiet-on x Running y b e q = quiet-idle x No
+quiet-on x (Finished v) y b e q = quiet-idle x No
+quiet-on x (Stopped k i) y b e q = quiet-idle x No
+quiet-on x (Paused v) y b e q = quiet-guarded x y b (q (rw e))
+
+quiet-resume : (t : Tables) (v : ℕ) (x : World) → Quiet x (resumeOf (programFrom Bits32 t) v x .after)
+unfolding resumeOf
+quiet-resume t v x =
+    quiet-on x (x .machine .state) _ (resumeBroken (programFrom Bits32 t) (x .machine) (x .stack) (length (x .memory))) refl
+    (quiet-effected x (inStateOf Running x) (handedIn (programFrom Bits32 t) v (inStateOf Running x)))
+
+-- 37 leaves the record
+unpaused-same : (t : Tables) (v : ℕ) (x : World) → resumeOf (programFrom Bits32 t) v x .unpaused ≡ true
+    → resumeOf (programFrom Bits32 t) v x .after .world .machine ≡ x .machine
+unfolding idle
+unpaused-same t v x =
+    resume-cases (λ (y : Continued). y .unpaused ≡ true → y .after .world .machine ≡ x .machine) (programFrom Bits32 t) v x (λ h. refl)
+    (λ b h. refl) (λ h. absurd (true-false (sym h)))
+
+-- ---- the state that a call leaves is one that words can hold
 
 abbrev Stop : ℕ → Type 0
 Stop k = isStop k ≡ true
@@ -131,22 +171,49 @@ unfolding effected Fine stopped Listed
 effected-listed x (stops k) h = h
 effected-listed x (leaves y) h = h
 
-guarded-listed : (x : World) (e : Effect) (b : Broken) → Listed (x .machine .state) → FineEffect e → LeavesListed (guarded x e b)
+guarded-listed : (x : World) (y : After) (b : Broken) → Listed (x .machine .state) → LeavesListed y → LeavesListed (guarded x y b)
 unfolding guarded idle
-guarded-listed x e No l h = effected-listed x e h
-guarded-listed x e (At i) l h = l
-guarded-listed x e Somewhere l h = l
+guarded-listed x y No l h = h
+guarded-listed x y (At i) l h = l
+guarded-listed x y Somewhere l h = l
 
-in-listed : (x : World) (s : State) (e : Effect) (b : Broken) → Listed (x .machine .state) → FineEffect e
-    → LeavesListed (inState s (guarded x e b) (idle x No))
+in-listed : (x : World) (s : State) (y : After) (b : Broken) → Listed (x .machine .state) → LeavesListed y
+    → LeavesListed (inState s (guarded x y b) (idle x No))
 unfolding inState idle
-in-listed x Running e b l h = guarded-listed x e b l h
-in-listed x (Finished v) e b l h = l
-in-listed x (Stopped k i) e b l h = l
+in-listed x Running y b l h = guarded-listed x y b l h
+in-listed x (Finished v) y b l h = l
+in-listed x (Stopped k i) y b l h = l
+in-listed x (Paused q) y b l h = l
+
+paused-listed : (x : World) (s : State) → Listed s → LeavesListed (idle (inStateOf s x) No)
+unfolding idle inStateOf withState
+paused-listed x s l = l
+
+pause-listed : (vs : List ℕ) (n : ℕ) → Listed (Paused (pauseOf n vs))
+unfolding Listed
+pause-listed vs n = tt
+
+statement-listed : (t : Tables) (x : World) → Listed (x .machine .state) → LeavesListed (statementOf (programFrom Bits32 t) x)
+unfolding Fine
+statement-listed t x l =
+    statement-cases LeavesListed (programFrom Bits32 t) x (effected-listed x (stops 32) s32) (λ vs. paused-listed x _ (pause-listed vs _))
+    (effected-listed x _ (effect-fine Stop s30 s31 s32 s33 s34 Listed finished-listed (programFrom Bits32 t) x l))
 
 pub step-listed : (t : Tables) (x : World) → Listed (x .machine .state) → LeavesListed (stepOf (programFrom Bits32 t) x)
 unfolding stepOf
-step-listed t x l = in-listed x (x .machine .state) _ _ l (effect-fine Stop s30 s31 s32 s33 s34 Listed finished-listed (programFrom Bits32 t) x l)
+step-listed t x l = in-listed x (x .machine .state) _ _ l (statement-listed t x l)
+
+running-listed : (x : World) → Listed (inStateOf Running x .machine .state)
+unfolding inStateOf withState Listed
+running-listed x = tt
+
+pub resume-listed : (t : Tables) (v : ℕ) (x : World) → Listed (x .machine .state)
+    → LeavesListed (resumeOf (programFrom Bits32 t) v x .after)
+unfolding idle
+resume-listed t v x l =
+    resume-cases (λ (y : Continued). LeavesListed (y .after)) (programFrom Bits32 t) v x l (λ b. l)
+    (effected-listed (inStateOf Running x) _
+    (handed-in-fine Stop s30 s31 s32 s33 s34 Listed finished-listed (programFrom Bits32 t) (inStateOf Running x) (running-listed x) v))
 
 pub run-listed : (t : Tables) (budget : ℕ) (x : World) → Listed (x .machine .state) → LeavesListed (runOf (programFrom Bits32 t) budget x)
 unfolding runOf counting idle
@@ -162,10 +229,22 @@ unfolding recordAfter ifTrue
 words-after ws x y e l q = by (changes (getD ws word.state 0) (outcomeOf y)) refl
   where
     by : (b : Bool) → changes (getD ws word.state 0) (outcomeOf y) ≡ b
-        → recordOf (pick b (overlay (recordWords (y .world .machine)) ws) ws) ≡ Fit (y .world .machine)
+        → recordOf (pick b (recordOver (y .world .machine) ws) ws) ≡ Fit (y .world .machine)
     by true h = record-back (y .world .machine) ws l (record-long ws (x .machine) e)
     by false h =
         e ∙ ap Fit (sym (q (ap (λ (s : ℕ). changes s (outcomeOf y)) (sym (record-state ws (x .machine) e)) ∙ h)))
+
+-- the same behind a going on
+words-resumed : (ws out : List ℕ) (x : World) (y : Continued) → recordOf ws ≡ Fit (x .machine) → LeavesListed (y .after)
+    → Quiet x (y .after) → (y .unpaused ≡ true → y .after .world .machine ≡ x .machine)
+    → recordOf (resumedReply (resumedOf y) ws out .words) ≡ Fit (y .after .world .machine)
+unfolding resumedReply refusalReply outcomeReply ifTrue
+words-resumed ws out x y e l q u = by (y .unpaused) refl
+  where
+    by : (b : Bool) → y .unpaused ≡ b
+        → recordOf (pick b (refusalReply 37 ws out) (outcomeReply (outcomeOf (y .after)) ws out) .words) ≡ Fit (y .after .world .machine)
+    by true h = e ∙ ap Fit (sym (u h))
+    by false h = words-after ws x (y .after) e l q
 
 module _ (ws st m out : List ℕ) (t : Tables) (r : Machine) (e : recordOf ws ≡ Fit r) where
   -- a step of a lent record is a step of the record that it holds
@@ -181,6 +260,14 @@ module _ (ws st m out : List ℕ) (t : Tables) (r : Machine) (e : recordOf ws �
       ap (λ (x : Loaded). recordOf (runBy ws st m out t budget x .words)) e
       ∙ words-after ws (world r st m) (runOf (programFrom Bits32 t) budget (world r st m)) e (run-listed t budget (world r st m) (record-listed ws r e)) (quiet-run t budget (world r st m))
 
+  pub resume-words : (v : ℕ)
+      → recordOf (resumeCall ws st m out t v .words) ≡ Fit (resumeOf (programFrom Bits32 t) v (world r st m) .after .world .machine)
+  unfolding resumeCall resumeBy resumedAnswer
+  resume-words v =
+      ap (λ (x : Loaded). recordOf (resumeBy ws st m out t v x .words)) e
+      ∙ words-resumed ws out (world r st m) (resumeOf (programFrom Bits32 t) v (world r st m)) e
+      (resume-listed t v (world r st m) (record-listed ws r e)) (quiet-resume t v (world r st m)) (unpaused-same t v (world r st m))
+
 -- a start that has begun leaves the record of the definition
 module _ (ws st m out : List ℕ) (t : Tables) (bytes name args : List ℕ) where
   abbrev S : Started
@@ -195,5 +282,5 @@ module _ (ws st m out : List ℕ) (t : Tables) (bytes name args : List ℕ) wher
   unfolding startCall openingAnswer openingReply recordBegun
   start-words h e =
       ap (λ (y : Answered). recordOf (y .words)) (ifLt-no (unfit ws st m out 35) _ h)
-      ∙ ap (λ (a : Started). recordOf (recordBegun a (recordWords (startLeaves (programFrom Bits32 t) bytes name args (world (freshOf 0 0 0) st m) .machine)) ws)) e
+      ∙ ap (λ (a : Started). recordOf (recordBegun a (startLeaves (programFrom Bits32 t) bytes name args (world (freshOf 0 0 0) st m) .machine) ws)) e
       ∙ record-back (startLeaves (programFrom Bits32 t) bytes name args (world (freshOf 0 0 0) st m) .machine) ws (begun-listed e) h

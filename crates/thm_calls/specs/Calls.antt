@@ -11,14 +11,14 @@ use Rattle.prog_tables.specs.Label.{Tables, rows}
 use Rattle.vm_definitions.specs.Step.{World}
 use Rattle.vm_definitions.specs.Start.{startOf}
 use Rattle.vm_definitions.specs.Ledger.{ledgerOf}
-use Rattle.vm_definitions.specs.Play.{Call, start, step, run, Invocation, worldAfter, eventsAfter}
+use Rattle.vm_definitions.specs.Play.{Call, start, step, run, resume, Invocation, worldAfter, eventsAfter}
 use Rattle.vm_definitions.specs.Claim.{Sound, stopMemory, AllLong, startedBy}
 use Rattle.vm_definitions.specs.Lent.{world}
 use Rattle.vm_definitions.specs.declared.Started.the-variants.{Begun}
 use Rattle.c_words.specs.Words.{recordSize}
 use Rattle.c_words.specs.Record.{recordOf}
 use Rattle.c_words.specs.declared.Loaded.the-variants.{Fit}
-use Rattle.c_voodoo.specs.Calls.{Answered, startCall, stepCall, runCall}
+use Rattle.c_voodoo.specs.Calls.{Answered, startCall, stepCall, runCall, resumeCall}
 
 -- what a host holds between two calls: the words of the record, the stack, the memory
 pub record Held : Type 0 where
@@ -43,11 +43,12 @@ invocations [] = []
 invocations (c ∷ cs) = c .invocation ∷ invocations cs
 
 module _ (t : Tables) (bytes : List ℕ) where
-  -- `voodoo_start`, `voodoo_step`, `voodoo_run`
+  -- `voodoo_start`, `voodoo_step`, `voodoo_run`, `voodoo_resume`
   unfoldable pub answerTo : Call → List ℕ → List ℕ → List ℕ → List ℕ → Answered
   answerTo (start name args) ws st m out = startCall ws st m out t bytes name args
   answerTo step ws st m out = stepCall ws st m out t
   answerTo (run budget) ws st m out = runCall ws st m out t budget
+  answerTo (resume v) ws st m out = resumeCall ws st m out t v
 
   unfoldable pub answerOf : HostCall → Held → Answered
   answerOf c h = answerTo (c .invocation .call) (h .words) (h .stack) (c .invocation .memory) (c .result)
@@ -65,7 +66,7 @@ module _ (t : Tables) (bytes : List ℕ) where
 abbrev pub startedFrom : List ℕ → List ℕ → List ℕ → Held → List HostCall → List HostCall
 startedFrom name args out h cs = record { invocation = record { call = start name args; memory = h .memory }; result = out } ∷ cs
 
--- "no call of the list gives 35"
+-- "no call of the list gives 35"; a going on may give 37
 unfoldable pub Without35 : List ℕ → Type 0
 Without35 [] = Unit {0}
 Without35 (n ∷ ns) = (n ≡ 35 → ⊥) × Without35 ns

@@ -10,6 +10,7 @@ use Rattle.prog_tables.specs.Program.{programFrom}
 use Rattle.prog_tables.specs.Label.{Tables}
 use Rattle.prog_tables.proofs.Samples.{program}
 use Rattle.thm_acceptance.specs.Accepts.{isAccepted}
+use Rattle.res_hosts.specs.Lister.{listerHosts}
 use Rattle.check_source.specs.Check.{lent}
 use Rattle.app_listing.specs.Cases.{case1}
 use Rattle.thm_soundness.specs.Program.{programBy, programOf}
@@ -45,4 +46,4 @@ case-two = subst (λ (t : Tables). CaseTwo t (case1-check .bytes)) (sym (check-i
 
 -- the demand of this source
 pub case1-demand : Demand (programFrom Bits32 (programOf case1-check)) (case1-check .bytes)
-case1-demand = demand-three Bits32 case1 (lent 1000 162 8 128 4) (check-is .2)
+case1-demand = demand-three Bits32 listerHosts case1 (lent 1000 162 8 128 4) (check-is .2)

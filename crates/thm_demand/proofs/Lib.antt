@@ -1,4 +1,5 @@
 pub mod Demand
 pub mod CaseTwo
+pub mod CaseImport
 pub mod Lexing
 pub mod Orders

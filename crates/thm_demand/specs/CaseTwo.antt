@@ -9,15 +9,16 @@ use Rattle.base_limits.specs.declared.State.the-variants.{Finished}
 use Rattle.base_limits.specs.Record.{freshOf}
 use Rattle.prog_tables.specs.Program.{programFrom}
 use Rattle.prog_tables.specs.Label.{Tables}
+use Rattle.res_hosts.specs.Lister.{listerHosts}
 use Rattle.check_source.specs.Check.{Filled, lent, checkOf}
 use Rattle.app_listing.specs.Cases.{case1}
 use Rattle.vm_definitions.specs.Step.{World, After, runOf}
 use Rattle.vm_definitions.specs.Start.{startOf, startLeaves}
 use Rattle.vm_definitions.specs.declared.Started.the-variants.{Begun, Refused}
 
--- its check, with buffers that hold 125 tokens, 6 statements, 2 labels and 4 bytes of data
+-- its check against the list of lister and case runner, with buffers that hold 125 tokens, 6 statements, 2 labels and 4 bytes of data
 abbrev pub case1-check : Filled
-case1-check = checkOf Bits32 case1 (lent 1000 162 8 128 4)
+case1-check = checkOf Bits32 listerHosts case1 (lent 1000 162 8 128 4)
 
 -- a world with so many stack words and 4 bytes of memory, whatever they held
 abbrev pub lentStack : ℕ → World

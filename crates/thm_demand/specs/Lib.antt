@@ -1,2 +1,3 @@
 pub mod CaseTwo
+pub mod CaseImport
 pub mod Orders

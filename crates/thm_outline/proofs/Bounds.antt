@@ -17,7 +17,7 @@ use Rattle.base_prelude.proofs.Walk.{Kept, walk-kept}
 use Rattle.base_limits.specs.declared.Width.{Width}
 use Rattle.parse_units.specs.declared.Verdict.{Verdict}
 use Rattle.parse_units.specs.declared.Verdict.the-variants.{Accepted, Refused}
-use Rattle.parse_units.proofs.Bounds.{clean-room, clean-lets, clean-deep}
+use Rattle.parse_units.proofs.Bounds.{clean-room, clean-lets, clean-deep, unit-clean}
 use Rattle.parse_units.specs.Outline as outline
 use Rattle.parse_units.specs.Outline.{putRow}
 use Rattle.parse_units.specs.declared.Row as declared
@@ -298,14 +298,14 @@ module _ (w : Width) (t : List ℕ) (n : ℕ) (x : World) (h : Between t x) (b :
       subst (λ (i : ℕ). Counted x i (x .state .depth) (x .state .locals)) e (b .counted)
 
   advance-behind : none ≤ faultIn w t n (unitAt t (x .state .at)) x → BehindOf (advance t n (unitAt t (x .state .at)) (lineKind t (unitAt t (x .state .at) .word)) x)
-  unfolding faultIn advance joinState stateBehind openRow
+  unfolding advance joinState stateBehind openRow
   advance-behind c =
       let r = grow-behind t x h (unitAt t (x .state .at)) (lineKind t (unitAt t (x .state .at) .word)) refl
-      (clean-place w t n (unitAt t (x .state .at)) (lineKind t (unitAt t (x .state .at) .word)) (places.groundIn (x .state) (openRow x)) (x .state) c)
-      (clean-room w t n (unitAt t (x .state .at)) (lineKind t (unitAt t (x .state .at) .word)) (places.groundIn (x .state) (openRow x)) (x .state) c) counted-here
-      (clean-deep w t n (unitAt t (x .state .at)) (lineKind t (unitAt t (x .state .at) .word)) (places.groundIn (x .state) (openRow x)) (x .state) c)
-      (clean-list w t n (unitAt t (x .state .at)) (lineKind t (unitAt t (x .state .at) .word)) (places.groundIn (x .state) (openRow x)) (x .state) c refl)
-      (clean-lets w t n (unitAt t (x .state .at)) (lineKind t (unitAt t (x .state .at) .word)) (places.groundIn (x .state) (openRow x)) (x .state) c) in
+      (clean-place w t n (unitAt t (x .state .at)) (lineKind t (unitAt t (x .state .at) .word)) (places.groundIn (x .state) (openRow x)) (x .state) (unit-clean w t n (unitAt t (x .state .at)) x c))
+      (clean-room w t n (unitAt t (x .state .at)) (lineKind t (unitAt t (x .state .at) .word)) (places.groundIn (x .state) (openRow x)) (x .state) (unit-clean w t n (unitAt t (x .state .at)) x c)) counted-here
+      (clean-deep w t n (unitAt t (x .state .at)) (lineKind t (unitAt t (x .state .at) .word)) (places.groundIn (x .state) (openRow x)) (x .state) (unit-clean w t n (unitAt t (x .state .at)) x c))
+      (clean-list w t n (unitAt t (x .state .at)) (lineKind t (unitAt t (x .state .at) .word)) (places.groundIn (x .state) (openRow x)) (x .state) (unit-clean w t n (unitAt t (x .state .at)) x c) refl)
+      (clean-lets w t n (unitAt t (x .state .at)) (lineKind t (unitAt t (x .state .at) .word)) (places.groundIn (x .state) (openRow x)) (x .state) (unit-clean w t n (unitAt t (x .state .at)) x c)) in
       record { c = r .c; count = r .count; counted = record { deep = r .counted .deep; few = r .counted .few } }
 
   unit-step-onward : Onward (unitStep w t n x)

@@ -30,7 +30,7 @@ use Rattle.parse_units.specs.Fits.{UnitStepFits}
 use Rattle.parse_units.specs.declared.Verdict.{Verdict}
 use Rattle.parse_units.specs.declared.Verdict.the-variants.{Accepted, Refused}
 use Rattle.parse_units.proofs.Cases.{row-put}
-use Rattle.parse_units.proofs.Bounds.{clean-room}
+use Rattle.parse_units.proofs.Bounds.{clean-room, unit-clean}
 use Rattle.parse_units.proofs.UnitSteps.{UnitStepGood, unit-step-good}
 use Rattle.prog_tables.specs.Tests.{both, given}
 use Rattle.prog_tables.specs.Statement.{Row, isTest}
@@ -286,18 +286,17 @@ end-range k e = rw e
 
 module _ (w : Width) (t : List ℕ) (n : ℕ) (x : World) (h : Between t x) where
   advance-whole : none ≤ faultIn w t n (unitAt t (x .state .at)) x → Onward (go (advance t n (unitAt t (x .state .at)) (lineKind t (unitAt t (x .state .at) .word)) x))
-  unfolding faultIn advance joinState stateBehind
+  unfolding advance joinState stateBehind
   advance-whole c = (
     grow-whole t x h (unitAt t (x .state .at)) (lineKind t (unitAt t (x .state .at) .word)) refl
-        (clean-place w t n (unitAt t (x .state .at)) (lineKind t (unitAt t (x .state .at) .word)) (places.groundIn (x .state) (openRow x)) (x .state) c)
-        (clean-room w t n (unitAt t (x .state .at)) (lineKind t (unitAt t (x .state .at) .word)) (places.groundIn (x .state) (openRow x)) (x .state) c),
+        (clean-place w t n (unitAt t (x .state .at)) (lineKind t (unitAt t (x .state .at) .word)) (places.groundIn (x .state) (openRow x)) (x .state) (unit-clean w t n (unitAt t (x .state .at)) x c))
+        (clean-room w t n (unitAt t (x .state .at)) (lineKind t (unitAt t (x .state .at) .word)) (places.groundIn (x .state) (openRow x)) (x .state) (unit-clean w t n (unitAt t (x .state .at)) x c)),
     section-low (lineKind t (unitAt t (x .state .at) .word)) (x .state .section) (h .section),
   )
 
   end-nests : none ≤ faultIn w t n (unitAt t (x .state .at)) x → lineKind t (unitAt t (x .state .at) .word) ≡ 0 → Nests (Accepted (x .state .count) (x .state .labels)) (x .table)
-  unfolding faultIn
   end-nests c e =
-      let p = clean-place w t n (unitAt t (x .state .at)) (lineKind t (unitAt t (x .state .at) .word)) (places.groundIn (x .state) (openRow x)) (x .state) c in
+      let p = clean-place w t n (unitAt t (x .state .at)) (lineKind t (unitAt t (x .state .at) .word)) (places.groundIn (x .state) (openRow x)) (x .state) (unit-clean w t n (unitAt t (x .state .at)) x c) in
       let z : x .state .top ≡ 0 = closed t x h (omega (arith, p .1, end-range _ e)) in
       (subst (λ (i : ℕ). Whole (x .table) (x .state .count) i) z (h .whole), h .fits .free)
 

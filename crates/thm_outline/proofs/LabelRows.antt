@@ -1,4 +1,5 @@
--- The label rows of an accepted source: each is a label token's, and names data, a function's row, or the first row of a statement's line.
+-- The label rows of an accepted source: each is a label token's, and names data, a function's row, or the first row of a statement's line, or
+-- it is an import's, at its name, and holds the mark of the host's entry.
 -- Assumes nothing.
 use mathlib.Core.Path.{_≡_, refl, sym, _∙_, ap, ap₂, subst}
 use mathlib.Core.Bool.{Bool, true, false}
@@ -18,23 +19,23 @@ use Rattle.base_prelude.proofs.Choice.{either, either-eq, ifLt-yes, ifLt-no, if
 use Rattle.base_prelude.proofs.Walk.{walk-go, walk-stop}
 use Rattle.base_limits.specs.declared.Width.{Width}
 use Rattle.lang_kinds.specs.Nesting.{rowsOf}
-use Rattle.parse_lines.specs.Tokens.{tokenWord, kindAt}
+use Rattle.parse_lines.specs.Tokens.{tokenWord, kindAt, hostAt}
 use Rattle.parse_lines.specs.Units.{unitAt}
 use Rattle.parse_lines.specs.Lines.{lineKind}
 use Rattle.parse_lines.specs.declared.Span.{Span}
 use Rattle.parse_rules.specs.Rules.{labelsRule}
 use Rattle.parse_units.specs.Outline.{rowAt}
-use Rattle.parse_units.specs.Places.{groundIn, unitFault}
+use Rattle.parse_units.specs.Places.{groundIn, importLabels, unitFault}
 use Rattle.parse_units.specs.Parse.{World, world, Result, result, begin, growBy, stateBehind, joinState, advance, sectionBehind, openRow, faultIn, unitStep, parseFrom, parseOf}
 use Rattle.parse_units.specs.Fits.{UnitStepFits}
 use Rattle.parse_units.specs.declared.Row as outlined
 use Rattle.parse_units.specs.declared.State.{State}
 use Rattle.parse_units.specs.declared.Verdict.{Verdict}
 use Rattle.parse_units.specs.declared.Verdict.the-variants.{Accepted, Refused}
-use Rattle.parse_units.proofs.Bounds.{unit-order, clean-room}
+use Rattle.parse_units.proofs.Bounds.{unit-order, clean-room, unit-clean}
 use Rattle.parse_units.proofs.UnitSteps.{UnitStepGood, unit-step-good}
 use Rattle.parse_outline.specs.Labels as marks
-use Rattle.parse_outline.specs.Labels.{labelNumber, Marked, marked, markUnit, Marking, marking, marksBehind, markOn, markStep, marksFrom, firstMarks, labelRows}
+use Rattle.parse_outline.specs.Labels.{labelNumber, Marked, marked, markBefore, markImport, markUnit, Marking, marking, marksBehind, markOn, markStep, marksFrom, firstMarks, labelRows}
 use Rattle.parse_outline.specs.declared.Marks.{Marks}
 use Rattle.parse_outline.proofs.Cases.{unit-kept}
 use Rattle.parse_outline.specs.Outline.{answerOf, Outlined, parsed, outlineOf}
@@ -52,7 +53,8 @@ use Rattle.thm_outline.proofs.Steps.{refused-step, end-step, go-step}
 use Rattle.thm_outline.proofs.Scans.{unit-plain}
 use Rattle.thm_outline.proofs.Grown.{Grown, grow-grown}
 use Rattle.thm_outline.proofs.Unit.{Free, unit-free, line-some, labelled-line, labelled-row}
-use Rattle.thm_outline.proofs.Marked.{RowHas, Each, unit-each, unit-none, unit-count}
+use Rattle.thm_outline.proofs.Imports.{Listed, listed, import-free}
+use Rattle.thm_outline.proofs.Marked.{RowHas, Each, before-each, before-none, import-none, unit-each, unit-count}
 
 -- ---- what a label names, in an outline x whose first free row is c
 
@@ -63,8 +65,8 @@ pub record Within (x : List ℕ) (c r : ℕ) : Type 0 where
   pub first : rowAt x (r - 1) .kind ≡ 21 → ⊥
 
 pub record Named (x : List ℕ) (c kind number : ℕ) : Type 0 where
-  pub kinds : (kind ≡ 1) ⊎ ((kind ≡ 3) ⊎ (kind ≡ 5))
-  pub within : (kind ≡ 1 → ⊥) → Within x c number
+  pub kinds : (kind ≡ 1) ⊎ ((kind ≡ 3) ⊎ ((kind ≡ 5) ⊎ (kind ≡ 6)))
+  pub within : (kind ≡ 1 → ⊥) → (kind ≡ 6 → ⊥) → Within x c number
   pub function : kind ≡ 3 → rowAt x number .kind ≡ 1
   pub place : kind ≡ 5 → rowAt x number .kind ≡ 1 → ⊥
 
@@ -80,21 +82,30 @@ named-grown x z c d kind number l s h =
     let f = kind-stays x z c s in
     record {
       kinds = h .kinds;
-      within = λ e. let q : Within x c number = h .within e in
+      within = λ d e. let q : Within x c number = h .within d e in
           record {
             some = q .some;
             below = omega (arith, q .below);
             first = λ g. q .first (sym (f (number - 1) (omega (arith, q .below))) ∙ g);
           };
-      function = λ e. f number (h .within (λ d. let z : ⊥ = omega arith in z) .below) ∙ h .function e;
-      place = λ e g. h .place e (sym (f number (h .within (λ d. let z : ⊥ = omega arith in z) .below)) ∙ g);
+      function = λ e. f number (h .within (λ d. let z : ⊥ = omega arith in z) (λ d. let z : ⊥ = omega arith in z) .below) ∙ h .function e;
+      place = λ e g. h .place e (sym (f number (h .within (λ d. let z : ⊥ = omega arith in z) (λ d. let z : ⊥ = omega arith in z) .below)) ∙ g);
     }
 
 data-named : (x : List ℕ) (c kind number : ℕ) → kind ≡ 1 → Named x c kind number
 data-named x c kind number e =
     record {
       kinds = inl e;
-      within = λ d. absurd (d e);
+      within = λ d _. absurd (d e);
+      function = λ g. let z : ⊥ = omega arith in absurd z;
+      place = λ g _. let z : ⊥ = omega arith in z;
+    }
+
+import-named : (x : List ℕ) (c number : ℕ) → Named x c 6 number
+import-named x c number =
+    record {
+      kinds = inr (inr (inr refl));
+      within = λ _ d. absurd (d refl);
       function = λ g. let z : ⊥ = omega arith in absurd z;
       place = λ g _. let z : ⊥ = omega arith in z;
     }
@@ -102,21 +113,45 @@ data-named x c kind number e =
 row-named : (x : List ℕ) (c k number : ℕ) → Within x c number → rowAt x number .kind ≡ k → Named x c (ifEq k 1 3 5) number
 row-named x c k number h q =
     either-eq (λ (kind : ℕ). Named x c kind number) k 1 _ _
-    (λ e. record { kinds = inr (inl refl); within = λ _. h; function = λ _. q ∙ e; place = λ g _. let z : ⊥ = omega arith in z })
-    (λ d. record { kinds = inr (inr refl); within = λ _. h; function = λ g. let z : ⊥ = omega arith in absurd z; place = λ _ g. d (sym q ∙ g) })
+    (λ e. record { kinds = inr (inl refl); within = λ _ _. h; function = λ _. q ∙ e; place = λ g _. let z : ⊥ = omega arith in z })
+    (λ d. record { kinds = inr (inr (inl refl)); within = λ _ _. h; function = λ g. let z : ⊥ = omega arith in absurd z; place = λ _ g. d (sym q ∙ g) })
 
--- out of data, the rows before the one it names end before its token
+-- a statement's label: the rows before the one it names end before its token
 abbrev Behind : List ℕ → ℕ → ℕ → ℕ → Type 0
-Behind x token kind number = (kind ≡ 1 → ⊥) → (m : ℕ) → 1 ≤ m → m < number → rowAt x m .next ≤ token
+Behind x token kind number = (kind ≡ 1 → ⊥) → (kind ≡ 6 → ⊥) → (m : ℕ) → 1 ≤ m → m < number → rowAt x m .next ≤ token
 
 behind-grown : (x z : List ℕ) (c token kind number : ℕ) → Stay x z c → Named x c kind number → Behind x token kind number → Behind z token kind number
-behind-grown x z c token kind number s n h d m a b =
-    let e = ap (λ (r : outlined.Row). r .next) (s m (let q = n .within d .below in omega (arith, q))) in
-    omega (arith, e, h d m a b)
+behind-grown x z c token kind number s n h d i m a b =
+    let e = ap (λ (r : outlined.Row). r .next) (s m (let q = n .within d i .below in omega (arith, q))) in
+    omega (arith, e, h d i m a b)
 
--- a label row: its token is a label, whose name is not reserved
+-- the token of an import's label: the name of an import line, which the host lists; the row holds its mark
+pub record Imported (t : List ℕ) (token number : ℕ) : Type 0 where
+  pub at : ℕ
+  pub is : token ≡ unitAt t at .word + 1
+  pub line : lineKind t (unitAt t at .word) ≡ 36
+  pub name : kindAt t token ≡ 3
+  pub listed : hostAt t token ≡ 0 → ⊥
+  pub mark : number ≡ hostAt t token
+
+-- the token of a label row: a label, or an import's name
+pub record Tokened (t : List ℕ) (token kind number : ℕ) : Type 0 where
+  pub label : (kind ≡ 6 → ⊥) → kindAt t token ≡ 2
+  pub import : kind ≡ 6 → Imported t token number
+
+-- a label row: its token, whose name is not reserved
 abbrev pub Labels : List ℕ → List ℕ → ℕ → ℕ → ℕ → ℕ → Type 0
-Labels t x c token kind number = (kindAt t token ≡ 2) × Free t token × Named x c kind number × Behind x token kind number
+Labels t x c token kind number = Tokened t token kind number × Free t token × Named x c kind number × Behind x token kind number
+
+-- a label token's kind
+label-sort : (k section : ℕ) → marks.labelKind k section ≡ 6 → ⊥
+unfolding marks.labelKind
+label-sort k section =
+    either (λ (v : ℕ). v ≡ 6 → ⊥) section 2 _ _ (λ _. either-eq (λ (v : ℕ). v ≡ 6 → ⊥) k 1 _ _ (λ _ e. let z : ⊥ = omega arith in z) (λ _ e. let z : ⊥ = omega arith in z))
+    (λ _ e. let z : ⊥ = omega arith in z)
+
+label-tokened : (t : List ℕ) (token kind number : ℕ) → (kind ≡ 6 → ⊥) → kindAt t token ≡ 2 → Tokened t token kind number
+label-tokened t token kind number d e = record { label = λ _. e; import = λ q. absurd (d q) }
 
 -- ---- the parser's walk and that of the label rows, side by side
 
@@ -159,8 +194,7 @@ module _ (w : Width) (t : List ℕ) (n : ℕ) (x : World) (m : Marking) (h : Lin
 
   module _ (c : none ≤ faultIn w t n u x) where
     clean : none ≤ unitFault w t n u k (groundIn (x .state) (openRow x)) (x .state)
-    unfolding faultIn
-    clean = c
+    clean = unit-clean w t n u x c
 
     room : x .state .count + rowsOf k ≤ 1025
     room = omega (arith, clean-room w t n u k (groundIn (x .state) (openRow x)) (x .state) clean, h .fits .free)
@@ -183,18 +217,23 @@ module _ (w : Width) (t : List ℕ) (n : ℕ) (x : World) (m : Marking) (h : Lin
     -- those before the unit end before its labels
     new-behind : (i : ℕ) → u .first ≤ i → Behind (growBy (rowsOf k) t u k x .table) i (marks.labelKind k (m .state .section)) (labelNumber (m .state .section) (u .word) (m .state .row))
     unfolding marks.labelKind labelNumber
-    new-behind i a d j b c =
+    new-behind i a d _ j b c =
         let o = unit-order t (x .state .at) in
         let s : m .state .section < 2 = elim (decLt (m .state .section) 2) [ yes g ↦ g | no g ↦ absurd (d (ifLt-no _ _ (omega arith))) ] in
         let e : j < x .state .count = omega (arith, ifLt-yes (m .state .row) (u .word) s, h .row) in
         omega (arith, ap (λ (r : outlined.Row). r .next) (grown .stays j e), h .ends j b e, o .0)
 
     -- at the source's end there are no labels
+    plain-none : k ≡ 0 → importLabels t u k ≡ 0
+    plain-none e =
+        elim (ℕ-discrete (importLabels t u k) 0) [ yes q ↦ q | no d ↦ let z : ⊥ = omega (arith, listed t u k d .kind) in absurd z ]
+
     end-plain : k ≡ 0 → unit ≡ marked (m .state .labels) (m .table)
+    unfolding markUnit
     end-plain e =
         elim (ℕ-discrete (kindAt t (u .first)) 2) [
           | yes f ↦ let z : ⊥ = omega (arith, line-some t (u .word) (labelled-line w t n u (x .state) (openRow x) clean f)) in absurd z
-          | no f ↦ unit-none t u k (m .state) (m .table) (unit-plain t (x .state .at) f)
+          | no f ↦ import-none t u k (markBefore t u k (m .state) (m .table)) (plain-none e) ∙ before-none t u k (m .state) (m .table) (unit-plain t (x .state .at) f)
         ]
 
     -- a new label
@@ -222,12 +261,28 @@ module _ (w : Width) (t : List ℕ) (n : ℕ) (x : World) (m : Marking) (h : Lin
         let q = h .each j (omega (arith, h .labels)) b in
         (q .0, q .1, named-grown _ _ _ _ _ _ (omega (arith, grown .count)) (grown .stays) (q .2), behind-grown _ _ _ _ _ _ (grown .stays) (q .2) (q .3))
 
-    new-each : Each (Labels t (growBy (rowsOf k) t u k x .table) (growBy (rowsOf k) t u k x .state .count)) (unit .table) (unit .count)
-    new-each =
+    -- an import that is a label
+    import-new : (importLabels t u k ≡ 0 → ⊥) → Labels t (growBy (rowsOf k) t u k x .table) (growBy (rowsOf k) t u k x .state .count) (u .word + 1) 6 (hostAt t (u .word + 1))
+    import-new d =
+        let q : Listed t u k = listed t u k d in (
+          record {
+            label = λ z. absurd (z refl);
+            import = λ _. record { at = x .state .at; is = refl; line = q .kind; name = q .name; listed = q .mark; mark = refl };
+          },
+          import-free w t n x c (q .kind),
+          import-named _ _ _,
+          (λ _ z. absurd (z refl)),
+        )
+
+    before-new : Each (Labels t (growBy (rowsOf k) t u k x .table) (growBy (rowsOf k) t u k x .state .count)) (markBefore t u k (m .state) (m .table) .table) (markBefore t u k (m .state) (m .table) .count)
+    before-new =
         elim (ℕ-discrete (kindAt t (u .first)) 2) [
-          | yes e ↦ unit-each t u k (m .state) (m .table) (Labels t (growBy (rowsOf k) t u k x .table) (growBy (rowsOf k) t u k x .state .count)) (unit-order t (x .state .at) .1) (λ i a b f. (f, unit-free w t n u k (groundIn (x .state) (openRow x)) (x .state) clean i a b f, new-named e, new-behind i a)) (h .long) old-each
-          | no e ↦ subst (λ (y : Marked). Each (Labels t (growBy (rowsOf k) t u k x .table) (growBy (rowsOf k) t u k x .state .count)) (y .table) (y .count)) (sym (unit-none t u k (m .state) (m .table) (unit-plain t (x .state .at) e))) old-each
+          | yes e ↦ before-each t u k (m .state) (m .table) (Labels t (growBy (rowsOf k) t u k x .table) (growBy (rowsOf k) t u k x .state .count)) (unit-order t (x .state .at) .1) (λ i a b f. (label-tokened t i (marks.labelKind k (m .state .section)) _ (label-sort k (m .state .section)) f, unit-free w t n u k (groundIn (x .state) (openRow x)) (x .state) clean i a b f, new-named e, new-behind i a)) (h .long) old-each
+          | no e ↦ subst (λ (y : Marked). Each (Labels t (growBy (rowsOf k) t u k x .table) (growBy (rowsOf k) t u k x .state .count)) (y .table) (y .count)) (sym (before-none t u k (m .state) (m .table) (unit-plain t (x .state .at) e))) old-each
         ]
+
+    new-each : Each (Labels t (growBy (rowsOf k) t u k x .table) (growBy (rowsOf k) t u k x .state .count)) (unit .table) (unit .count)
+    new-each = unit-each t u k (m .state) (m .table) (Labels t (growBy (rowsOf k) t u k x .table) (growBy (rowsOf k) t u k x .state .count)) (h .long) import-new before-new
 
     last-row : rowAt (growBy (rowsOf k) t u k x .table) (growBy (rowsOf k) t u k x .state .count - 1) .kind ≡ 21 → ⊥
     last-row e =
@@ -243,7 +298,8 @@ module _ (w : Width) (t : List ℕ) (n : ℕ) (x : World) (m : Marking) (h : Lin
     unfolding advance joinState stateBehind marksBehind
     linked-on d =
         let g : UnitStepGood t (x .state) (go on) = subst (UnitStepGood t (x .state)) (go-step w t n x c d) (unit-step-good w t n (x .state) (x .table) (h .fits) (h .few)) in
-        let q : unit .count ≡ labelsRule t n u (x .state .labels) .count = unit-count t n u k (m .state) (m .table) ∙ ap (λ (i : ℕ). labelsRule t n u i .count) (h .labels) in
+        let q : unit .count ≡ labelsRule t n u (x .state .labels) .count + importLabels t u k =
+        unit-count t n u k (m .state) (m .table) ∙ ap (λ (i : ℕ). labelsRule t n u i .count + importLabels t u k) (h .labels) in
         record {
           fits = g .0 .0;
           few = g .0 .1;
@@ -339,16 +395,23 @@ outline-rowed w t n e = answer-rowed t (parseOf w t n .outline) (labelRows t) (p
 -- what a label row of an accepted source says, in a view g of its c statements
 pub record LabelRow (t y : List ℕ) (g : ℕ → Row) (c j : ℕ) : Type 0 where
   -- its token is a label
-  pub token : kindAt t (labelToken y j) ≡ 2
+  pub token : (labelKind y j ≡ 6 → ⊥) → kindAt t (labelToken y j) ≡ 2
   -- whose name is not reserved
   pub free : Free t (labelToken y j)
-  -- data, a function or a place
-  pub kinds : (labelKind y j ≡ 1) ⊎ ((labelKind y j ≡ 3) ⊎ (labelKind y j ≡ 5))
-  -- what it names out of data is a statement, and not the test of an else-if line
-  pub below : (labelKind y j ≡ 1 → ⊥) → labelStatement y j < c
-  pub first : (labelKind y j ≡ 1 → ⊥) → followsJump g (labelStatement y j) ≡ false
+  -- data, a function, a place or an import
+  pub kinds : (labelKind y j ≡ 1) ⊎ ((labelKind y j ≡ 3) ⊎ ((labelKind y j ≡ 5) ⊎ (labelKind y j ≡ 6)))
+  -- what it names, if neither data nor an import, is a statement, and not the test of an else-if line
+  pub below : (labelKind y j ≡ 1 → ⊥) → (labelKind y j ≡ 6 → ⊥) → labelStatement y j < c
+  pub first : (labelKind y j ≡ 1 → ⊥) → (labelKind y j ≡ 6 → ⊥) → followsJump g (labelStatement y j) ≡ false
   pub function : labelKind y j ≡ 3 → g (labelStatement y j) .kind ≡ 1
   pub place : labelKind y j ≡ 5 → g (labelStatement y j) .kind ≡ 1 → ⊥
+  -- an import's token is its name, and its third word the mark of the host's entry
+  pub imported : labelKind y j ≡ 6 → Imported t (labelToken y j) (getD y (j * 4 + 2) 0)
+
+-- in each case a name stands there, without a mark before it
+pub label-name : (t y : List ℕ) (g : ℕ → Row) (c j : ℕ) → LabelRow t y g c j → (kindAt t (labelToken y j) ≡ 2) ⊎ (kindAt t (labelToken y j) ≡ 3)
+label-name t y g c j h =
+    elim (ℕ-discrete (labelKind y j) 6) [ yes e ↦ inr (h .imported e .name) | no d ↦ inl (h .token d) ]
 
 module _ (t x y : List ℕ) (c j : ℕ) (few : c ≤ 1024) where
   abbrev view : ℕ → Row
@@ -371,13 +434,14 @@ module _ (t x y : List ℕ) (c j : ℕ) (few : c ≤ 1024) where
   unfolding labelToken labelKind labelStatement
   row-good h =
       record {
-        token = h .0;
+        token = h .0 .label;
         free = h .1;
         kinds = h .2 .kinds;
-        below = λ d. let q : Within x (suc c) (getD y (j * 4 + 2) 0) = h .2 .within d in omega (arith, q .some, q .below);
-        first = λ d. view-first (getD y (j * 4 + 2) 0) (h .2 .within d);
-        function = λ e. view-is (getD y (j * 4 + 2) 0) (h .2 .within (λ d. let z : ⊥ = omega arith in z)) ∙ h .2 .function e;
-        place = λ e g. h .2 .place e (sym (view-is (getD y (j * 4 + 2) 0) (h .2 .within (λ d. let z : ⊥ = omega arith in z))) ∙ g);
+        below = λ d i. let q : Within x (suc c) (getD y (j * 4 + 2) 0) = h .2 .within d i in omega (arith, q .some, q .below);
+        first = λ d i. view-first (getD y (j * 4 + 2) 0) (h .2 .within d i);
+        function = λ e. view-is (getD y (j * 4 + 2) 0) (h .2 .within (λ d. let z : ⊥ = omega arith in z) (λ d. let z : ⊥ = omega arith in z)) ∙ h .2 .function e;
+        place = λ e g. h .2 .place e (sym (view-is (getD y (j * 4 + 2) 0) (h .2 .within (λ d. let z : ⊥ = omega arith in z) (λ d. let z : ⊥ = omega arith in z))) ∙ g);
+        imported = h .0 .import;
       }
 
 module _ (w : Width) (t : List ℕ) (n c l : ℕ) (x y : List ℕ) (long : length t ≡ 32768) (h : outlineOf w t n ≡ parsed (answer.Accepted c l) x y) (j : ℕ) (g : j < l) where
@@ -392,8 +456,8 @@ module _ (w : Width) (t : List ℕ) (n c l : ℕ) (x y : List ℕ) (long : lengt
   label-rows = row-good t x y c j (counts .0) has
 
   -- the statements before the one that a label names end before the label
-  pub label-behind : (labelKind y j ≡ 1 → ⊥) → (m : ℕ) → m < labelStatement y j → endToken (skeletonOf x c) m ≤ labelToken y j
+  pub label-behind : (labelKind y j ≡ 1 → ⊥) → (labelKind y j ≡ 6 → ⊥) → (m : ℕ) → m < labelStatement y j → endToken (skeletonOf x c) m ≤ labelToken y j
   unfolding labelToken labelKind labelStatement
-  label-behind d m a =
-      let q : Within x (suc c) (getD y (j * 4 + 2) 0) = has .2 .within d in
-      omega (arith, end-is w t n c l x y long h m (omega (arith, q .below)), has .3 d (m + 1) (omega arith) (omega arith))
+  label-behind d i m a =
+      let q : Within x (suc c) (getD y (j * 4 + 2) 0) = has .2 .within d i in
+      omega (arith, end-is w t n c l x y long h m (omega (arith, q .below)), has .3 d i (m + 1) (omega arith) (omega arith))

@@ -20,6 +20,7 @@ pub mod Steps
 pub mod Scans
 pub mod Grown
 pub mod Unit
+pub mod Imports
 pub mod Marked
 pub mod LabelRows
 pub mod Addresses

@@ -29,7 +29,7 @@ use Rattle.parse_units.specs.declared.Row.{Row}
 use Rattle.parse_units.specs.declared.State.{State}
 use Rattle.parse_units.specs.declared.Verdict.{Verdict}
 use Rattle.parse_units.specs.declared.Verdict.the-variants as verdict
-use Rattle.parse_units.proofs.Bounds.{unit-order, unit-next, line-some, clean-room}
+use Rattle.parse_units.proofs.Bounds.{unit-order, unit-next, line-some, clean-room, unit-clean}
 use Rattle.parse_units.proofs.UnitSteps.{UnitStepGood, unit-step-good}
 use Rattle.parse_outline.specs.Outline.{answerOf, outlineOf, Outlined}
 use Rattle.parse_outline.specs.Outline as outline
@@ -139,11 +139,11 @@ Led w t n (stop r) = Answer w t n (r .outline) (r .verdict)
 module _ (w : Width) (t : List ℕ) (n : ℕ) (x : World) (h : Good w t n x) where
   advance-lined : none ≤ faultIn w t n (unitAt t (x .state .at)) x → (lineKind t (unitAt t (x .state .at) .word) ≡ 0 → ⊥)
       → AllLined w t n (advance t n (unitAt t (x .state .at)) (lineKind t (unitAt t (x .state .at) .word)) x)
-  unfolding faultIn advance joinState
+  unfolding advance joinState
   advance-lined c e =
       let i : unitAt t (x .state .at) .word < 4096 = line-some t (unitAt t (x .state .at) .word) (h .0 .tokens) e in
-      let r : rowsOf (lineKind t (unitAt t (x .state .at) .word)) ≤ 1025 - x .state .count = clean-room w t n (unitAt t (x .state .at)) (lineKind t (unitAt t (x .state .at) .word)) (groundIn (x .state) (openRow x)) (x .state) c in
-      let b : Line w t n (unitAt t (x .state .at)) (lineKind t (unitAt t (x .state .at) .word)) = unit-line w t n (unitAt t (x .state .at)) (lineKind t (unitAt t (x .state .at) .word)) (groundIn (x .state) (openRow x)) (x .state) c (x .state .at) refl refl (unit-next t (x .state .at) (h .0 .tokens) (omega arith)) in
+      let r : rowsOf (lineKind t (unitAt t (x .state .at) .word)) ≤ 1025 - x .state .count = clean-room w t n (unitAt t (x .state .at)) (lineKind t (unitAt t (x .state .at) .word)) (groundIn (x .state) (openRow x)) (x .state) (unit-clean w t n (unitAt t (x .state .at)) x c) in
+      let b : Line w t n (unitAt t (x .state .at)) (lineKind t (unitAt t (x .state .at) .word)) = unit-line w t n (unitAt t (x .state .at)) (lineKind t (unitAt t (x .state .at) .word)) (groundIn (x .state) (openRow x)) (x .state) (unit-clean w t n (unitAt t (x .state .at)) x c) (x .state .at) refl refl (unit-next t (x .state .at) (h .0 .tokens) (omega arith)) in
       grow-more w t n (rowsOf (lineKind t (unitAt t (x .state .at) .word))) (unitAt t (x .state .at)) (lineKind t (unitAt t (x .state .at) .word)) x refl (omega (arith, h .0 .free)) (h .0 .long) (h .2) b
 
   unit-step-led : Led w t n (unitStep w t n x)

@@ -11,13 +11,15 @@ use lib.Seq.{length-take-le, getD-take, getD-append-add}
 use Rattle.base_prelude.specs.Choice.{ifLt, ifEq}
 use Rattle.base_prelude.specs.Fault.{none}
 use Rattle.base_prelude.proofs.Choice.{either, either-eq, ifLt-yes, ifEq-yes, ifEq-no}
-use Rattle.parse_lines.specs.Tokens.{kindAt}
+use Rattle.parse_lines.specs.Tokens.{kindAt, hostAt}
 use Rattle.parse_lines.specs.declared.Span.{Span}
 use Rattle.parse_rules.specs.Rules.{labelled, labelStep, labelsFrom, labelsRule}
 use Rattle.parse_rules.specs.declared.Labelled.{Labelled}
-use Rattle.parse_outline.specs.Labels.{labelKind, labelNumber, putLabel, Marked, marked, markToken, markFrom, markUnit}
+use Rattle.parse_units.specs.Places.{importLabels}
+use Rattle.parse_units.proofs.Bounds.{import-few}
+use Rattle.parse_outline.specs.Labels.{labelKind, labelNumber, putLabel, Marked, marked, markToken, markFrom, markBefore, markImport, markUnit}
 use Rattle.parse_outline.specs.declared.Marks.{Marks}
-use Rattle.parse_outline.proofs.Cases.{label-full, token-kept}
+use Rattle.parse_outline.proofs.Cases.{label-full, token-kept, before-kept}
 
 -- ---- a label row is put
 
@@ -95,21 +97,40 @@ module _ (t : List ℕ) (first end kind number : ℕ) (P : ℕ → ℕ → ℕ �
   from-each (suc left) i m a b l h =
       from-each left (i + 1) (markToken t i kind number m) (omega arith) (omega arith) (token-kept t i kind number m l .0) (token-each i m a (omega arith) l h)
 
--- the rows behind a unit
-pub unit-each : (t : List ℕ) (u : Span) (k : ℕ) (s : Marks) (y : List ℕ) (P : ℕ → ℕ → ℕ → Type 0) → u .first ≤ u .word
+-- the rows behind the labels before a line
+pub before-each : (t : List ℕ) (u : Span) (k : ℕ) (s : Marks) (y : List ℕ) (P : ℕ → ℕ → ℕ → Type 0) → u .first ≤ u .word
     → ((i : ℕ) → u .first ≤ i → i < u .word → kindAt t i ≡ 2 → P i (labelKind k (s .section)) (labelNumber (s .section) (u .word) (s .row)))
-    → length y ≡ 1024 → Each P y (s .labels) → Each P (markUnit t u k s y .table) (markUnit t u k s y .count)
-unfolding markUnit
-unit-each t u k s y P o p l h =
+    → length y ≡ 1024 → Each P y (s .labels) → Each P (markBefore t u k s y .table) (markBefore t u k s y .count)
+unfolding markBefore
+before-each t u k s y P o p l h =
     from-each t (u .first) (u .word) (labelKind k (s .section)) (labelNumber (s .section) (u .word) (s .row)) P p (u .word - u .first) (u .first) (marked (s .labels) y)
     (omega arith) (omega arith) l h
 
--- a unit without labels adds none
-pub unit-none : (t : List ℕ) (u : Span) (k : ℕ) (s : Marks) (y : List ℕ) → u .word ≡ u .first → markUnit t u k s y ≡ marked (s .labels) y
-unfolding markUnit markFrom
-unit-none t u k s y e =
+-- where none stand there, none is added
+pub before-none : (t : List ℕ) (u : Span) (k : ℕ) (s : Marks) (y : List ℕ) → u .word ≡ u .first → markBefore t u k s y ≡ marked (s .labels) y
+unfolding markBefore markFrom
+before-none t u k s y e =
     let z : u .word - u .first ≡ 0 = omega arith in
     ap (λ (left : ℕ). markFrom left t (u .first) (labelKind k (s .section)) (labelNumber (s .section) (u .word) (s .row)) (marked (s .labels) y)) z
+
+-- the row of an import
+import-each : (t : List ℕ) (u : Span) (k : ℕ) (m : Marked) (P : ℕ → ℕ → ℕ → Type 0) → ((importLabels t u k ≡ 0 → ⊥) → P (u .word + 1) 6 (hostAt t (u .word + 1)))
+    → length (m .table) ≡ 1024 → Each P (m .table) (m .count) → Each P (markImport t u k m .table) (markImport t u k m .count)
+unfolding markImport
+import-each t u k m P p l h =
+    either-eq (λ (x : Marked). Each P (x .table) (x .count)) (importLabels t u k) 0 _ _ (λ _. h)
+    (λ d. put-each P (m .table) (m .count) (u .word + 1) 6 (hostAt t (u .word + 1)) l h (p d))
+
+pub import-none : (t : List ℕ) (u : Span) (k : ℕ) (m : Marked) → importLabels t u k ≡ 0 → markImport t u k m ≡ m
+unfolding markImport
+import-none t u k m e = ifEq-yes _ _ e
+
+-- the rows behind a unit
+pub unit-each : (t : List ℕ) (u : Span) (k : ℕ) (s : Marks) (y : List ℕ) (P : ℕ → ℕ → ℕ → Type 0) → length y ≡ 1024
+    → ((importLabels t u k ≡ 0 → ⊥) → P (u .word + 1) 6 (hostAt t (u .word + 1))) → Each P (markBefore t u k s y .table) (markBefore t u k s y .count)
+    → Each P (markUnit t u k s y .table) (markUnit t u k s y .count)
+unfolding markUnit
+unit-each t u k s y P l p h = import-each t u k (markBefore t u k s y) P p (before-kept t u k s y l .0) h
 
 -- ---- their count
 
@@ -128,6 +149,16 @@ from-count zero t n i kind number m x e = e
 from-count (suc left) t n i kind number m x e =
     from-count left t n (i + 1) kind number (markToken t i kind number m) (labelStep t n i x) (token-count t n i kind number m x e)
 
-pub unit-count : (t : List ℕ) (n : ℕ) (u : Span) (k : ℕ) (s : Marks) (y : List ℕ) → markUnit t u k s y .count ≡ labelsRule t n u (s .labels) .count
-unfolding markUnit labelsRule
-unit-count t n u k s y = from-count (u .word - u .first) t n (u .first) _ _ (marked (s .labels) y) (labelled none (s .labels)) refl
+before-count : (t : List ℕ) (n : ℕ) (u : Span) (k : ℕ) (s : Marks) (y : List ℕ) → markBefore t u k s y .count ≡ labelsRule t n u (s .labels) .count
+unfolding markBefore labelsRule
+before-count t n u k s y = from-count (u .word - u .first) t n (u .first) _ _ (marked (s .labels) y) (labelled none (s .labels)) refl
+
+import-count : (t : List ℕ) (u : Span) (k : ℕ) (m : Marked) → markImport t u k m .count ≡ m .count + importLabels t u k
+unfolding markImport
+import-count t u k m =
+    either-eq (λ (x : Marked). x .count ≡ m .count + importLabels t u k) (importLabels t u k) 0 _ _ (λ e. omega arith) (λ d. omega (arith, import-few t u k))
+
+pub unit-count : (t : List ℕ) (n : ℕ) (u : Span) (k : ℕ) (s : Marks) (y : List ℕ)
+    → markUnit t u k s y .count ≡ labelsRule t n u (s .labels) .count + importLabels t u k
+unfolding markUnit
+unit-count t n u k s y = import-count t u k (markBefore t u k s y) ∙ ap (λ (c : ℕ). c + importLabels t u k) (before-count t n u k s y)

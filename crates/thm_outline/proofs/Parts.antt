@@ -18,9 +18,9 @@ use Rattle.parse_lines.specs.Tokens.{kindAt, wordAt, skipStep, skip, allFrom}
 use Rattle.parse_lines.proofs.Scans.{skip-from}
 use Rattle.parse_shapes.specs.Shapes.{isName, isOperator, operandsFrom, callFrom, operatorFrom, operandAt, symbolFrom, expressionFrom}
 use Rattle.prog_tables.specs.Tests.{both, oneOf, allBelow}
-use Rattle.prog_tables.specs.Statement.{hasExpression, isTest, isCall, expressionUses, usedBy}
+use Rattle.prog_tables.specs.Statement.{hasExpression, isTest, isCallRow, isCall, isImport, isCallExpression, expressionUses, usedBy}
 use Rattle.prog_tables.specs.Statement as statement
-use Rattle.prog_tables.specs.Faults.{expressionListed, isCallRow}
+use Rattle.prog_tables.specs.Faults.{expressionListed}
 use Rattle.prog_tables.specs.WellFormed.{hasOperands}
 use Rattle.prog_tables.proofs.Each.{below-at, both-left, both-right, one-no, one-rest}
 use Rattle.prog_tables.proofs.CallRows.{quiet-row, listed-none, listed-expression, listed-call}
@@ -144,6 +144,11 @@ operator-few w h =
     let r = operator-range w h in
     ltb-true _ _ (range-at (λ (i : ℕ). ltb (leastOperands i) 3) 33 19 w operators-few (r .0) (omega (arith, r .1)))
 
+-- a row without an expression calls no imported function
+no-import : (k : ℕ) → isImport k 0 ≡ false
+unfolding isImport ifEq
+no-import k = refl
+
 -- ---- rows with an expression
 
 module _ (kind : ℕ) (x : hasExpression kind ≡ true) where
@@ -160,14 +165,16 @@ module _ (kind : ℕ) (x : hasExpression kind ≡ true) where
 
   call-is : (ex : ℕ) → isCall kind ex ≡ eqb ex 2
   unfolding isCall hasExpression ifLt
-  call-is ex = ifEq-no _ _ (no-expression 11 refl) ∙ ifEq-no _ _ (no-expression 12 refl) ∙ ifTrue-yes _ _ x
+  call-is ex =
+      either-eq (λ (b : Bool). b ≡ eqb ex 2) ex 3 _ _ (λ e. sym (ne-eqb ex 2 (λ z. let y : ⊥ = omega arith in y)))
+      (λ _. ifEq-no _ _ (no-expression 11 refl) ∙ ifEq-no _ _ (no-expression 12 refl) ∙ ifTrue-yes _ _ x)
 
   no-plain : {P : Type 0} → oneOf (hasExpression kind) (isCallRow kind) ≡ false → P
   no-plain h = true-false (sym x ∙ one-no (hasExpression kind) (isCallRow kind) h)
 
   module _ (t : List ℕ) (i₀ i e : ℕ) (o : i₀ < i) (l : e ≤ i + 10) where
     call-parted : kindAt t (i + 1) ≡ 3 → operandsFrom t (i + 2) e ≡ true → Parted t kind i₀ e (parts 2 (i + 1) (i + 2))
-    unfolding expressionUses expressionListed ifEq
+    unfolding expressionUses expressionListed isCallExpression ifEq ifTrue
     call-parted a b =
         let r = operands-inside t (i + 2) e b in
         record {
@@ -187,13 +194,19 @@ module _ (kind : ℕ) (x : hasExpression kind ≡ true) where
     unfolding expressionUses
     operator-uses w m h =
         let r = operator-range w h in
-        ifEq-no _ _ (λ z. omega (arith, r .0)) ∙ ifEq-no _ _ (λ z. omega (arith, r .0)) ∙ ifTrue-yes _ _ (operator-is w h)
+        ifEq-no _ _ (λ z. omega (arith, r .0)) ∙ ifEq-no _ _ (λ z. omega (arith, r .0)) ∙ ifEq-no _ _ (λ z. omega (arith, r .0)) ∙ ifTrue-yes _ _ (operator-is w h)
+
+    operator-calls : (w : ℕ) → isOperator w ≡ true → isCallExpression w ≡ false
+    unfolding isCallExpression
+    operator-calls w h =
+        let r = operator-range w h in
+        ifEq-no _ _ (λ z. omega (arith, r .0)) ∙ ne-eqb w 3 (λ z. omega (arith, r .0))
 
     operator-listed : (w : ℕ) → isOperator w ≡ true → expressionListed kind w ≡ true
     unfolding expressionListed
     operator-listed w h =
         let r = operator-range w h in
-        ifEq-no _ _ (λ z. omega (arith, r .0)) ∙ ifEq-no _ _ (λ z. omega (arith, r .0)) ∙ ifEq-no _ _ (λ z. omega (arith, r .0)) ∙ operator-is w h
+        ifEq-no _ _ (λ z. omega (arith, r .0)) ∙ ifEq-no _ _ (λ z. omega (arith, r .0)) ∙ ifTrue-no _ _ (operator-calls w h) ∙ operator-is w h
 
     operator-parted : (w : ℕ) → isOperator w ≡ true → e - (i + 1) ≡ leastOperands w → operandsFrom t (i + 1) e ≡ true → Parted t kind i₀ e (parts w 0 (i + 1))
     operator-parted w h c b =
@@ -274,7 +287,7 @@ module _ (t : List ℕ) (kind i e : ℕ) (o : i < e) where
         shaped = λ z. true-false (sym z ∙ a);
         idle = λ _. refl;
         few = omega arith;
-        listed = listed-none kind 0 c (quiet-row kind 0 d);
+        listed = listed-none kind 0 c (quiet-row kind 0 d (no-import kind));
         plain = λ _. refl;
         operands = λ j p q. let z : ⊥ = omega arith in absurd z;
         called = λ z. true-false (sym z ∙ d);
@@ -333,12 +346,15 @@ module _ (kind : ℕ) (h : listTest kind ≡ true) where
   list-quiet : isCall kind 0 ≡ false
   list-quiet = untrue _ (both-left _ _ (both-right (not (hasExpression kind)) _ list-rest))
 
+  list-row : isCallRow kind ≡ false
+  list-row = quiet-row kind 0 list-quiet (no-import kind)
+
   list-lists : listsOperands kind ≡ true
   list-lists = both-right (not (isCall kind 0)) _ (both-right (not (hasExpression kind)) _ list-rest)
 
   list-uses : (m : ℕ) → usedBy kind 0 m ≡ ifTrue (isTest kind) 2 (ifEq kind 8 3 (ifEq kind 9 3 0))
   unfolding usedBy
-  list-uses m = ifTrue-no _ _ list-plain ∙ ifTrue-no _ _ list-quiet
+  list-uses m = ifTrue-no _ _ list-plain ∙ ifTrue-no _ _ list-row
 
   -- a row of operands alone
   list-parted : (t : List ℕ) (i e : ℕ) → operandsFrom t (i + 1) e ≡ true → e - (i + 1) ≤ 8 → ifTrue (isTest kind) 2 (ifEq kind 8 3 (ifEq kind 9 3 0)) ≡ e - (i + 1)
@@ -351,7 +367,7 @@ module _ (kind : ℕ) (h : listTest kind ≡ true) where
         shaped = λ _. list-uses (e - (i + 1)) ∙ q;
         idle = λ z. true-false (sym list-has ∙ z);
         few = l;
-        listed = listed-none kind 0 list-plain (quiet-row kind 0 list-quiet);
+        listed = listed-none kind 0 list-plain list-row;
         plain = λ _. refl;
         operands = r .1;
         called = λ z. true-false (sym z ∙ list-quiet);
@@ -401,7 +417,7 @@ module _ (kind : ℕ) (h : callTest kind ≡ true) where
 
   calls-uses : (m : ℕ) → usedBy kind 2 m ≡ m
   unfolding usedBy
-  calls-uses m = ifTrue-no _ _ calls-plain ∙ ifTrue-yes _ _ calls-call
+  calls-uses m = ifTrue-no _ _ calls-plain ∙ ifTrue-yes _ _ calls-row
 
   calls-parted : (t : List ℕ) (i e : ℕ) → callFrom t (i + 1) e ≡ true → e ≤ i + 10 → Parted t kind i e (parts 2 (i + 1) (i + 2))
   calls-parted t i e b l =

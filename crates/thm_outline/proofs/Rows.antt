@@ -14,10 +14,10 @@ use Rattle.parse_units.specs.Outline.{rowAt}
 use Rattle.parse_outline.specs.Outline.{outlineOf}
 use Rattle.parse_outline.specs.Outline as outline
 use Rattle.parse_outline.specs.declared.Parsed.the-variants as answer
-use Rattle.prog_tables.specs.Statement.{hasExpression, isCall, usedBy}
+use Rattle.prog_tables.specs.Statement.{hasExpression, isCallRow, isCall, usedBy}
 use Rattle.prog_tables.specs.Statement as statement
 use Rattle.prog_tables.specs.Tests.{oneOf}
-use Rattle.prog_tables.specs.Faults.{isCallRow, expressionFault}
+use Rattle.prog_tables.specs.Faults.{expressionFault}
 use Rattle.prog_tables.specs.WellFormed.{hasOperands}
 use Rattle.res_skeleton.specs.Skeleton.{parametersOf, skeletonOf}
 use Rattle.res_skeleton.proofs.Laws.{kind-is, parameters-are}

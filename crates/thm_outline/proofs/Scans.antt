@@ -1,47 +1,14 @@
 -- Where a unit's scans stop: a unit whose first token is no label has no labels.
 -- Assumes nothing.
-use mathlib.Core.Path.{_≡_, refl, sym, _∙_, ap, subst}
-use mathlib.Core.List.{List, [], _∷_}
-use Prim.Native.Nat.{ℕ, zero, suc, _+_, _*_, _-_, _≤_, _<_}
-use native.Mathlib.Decide.{decLt, ℕ-discrete}
+use mathlib.Core.Path.{_≡_}
+use mathlib.Core.List.{List}
+use Prim.Native.Nat.{ℕ, _≤_}
+use native.Mathlib.Decide.{ℕ-discrete}
 use native.Mathlib.Omega.{arith}
-use lib.ListN.{length}
-use Rattle.base_prelude.specs.Choice.{ifLt, ifEq}
-use Rattle.base_prelude.specs.Walk.{Step, go, stop, walk}
-use Rattle.base_prelude.proofs.Choice.{either, ifLt-yes, ifLt-no}
-use Rattle.base_prelude.proofs.Walk.{walk-stop, Ends, walk-ends}
-use Rattle.parse_lines.specs.Tokens.{tokenWord, kindAt, skipStep, skip}
+use Rattle.parse_lines.specs.Tokens.{kindAt, skip}
 use Rattle.parse_lines.specs.Units.{spanFrom, spanOf, unitAt}
 use Rattle.parse_lines.specs.declared.Span.{Span}
-use Rattle.parse_lines.proofs.Scans.{token-within}
-
-module _ (t : List ℕ) (lo hi : ℕ) (l : 1 ≤ lo) where
-  abbrev Out : ℕ → Type 0
-  Out j = lo ≤ kindAt t j → hi ≤ kindAt t j
-
-  abbrev left : ℕ → ℕ
-  left i = length t - i * 8
-
-  step-out : (i : ℕ) → Unit {0} → Ends (λ (j : ℕ). Unit {0}) Out left i (skipStep t lo hi i)
-  unfolding skipStep
-  step-out i _ =
-      either (Ends (λ (j : ℕ). Unit {0}) Out left i) (kindAt t i) lo _ _ (λ h g. let z : ⊥ = omega arith in absurd z) (λ g.
-      either (Ends (λ (j : ℕ). Unit {0}) Out left i) (kindAt t i) hi _ _
-      (λ _. let w : i * 8 + 0 < length t = token-within t i 0 (omega arith) in (tt, omega arith)) (λ h _. h))
-
-  -- a scan stops at a token that is not of its kinds
-  pub skip-out : (from : ℕ) → Out (skip t lo hi from)
-  unfolding skip
-  skip-out from = walk-ends (λ (j : ℕ). Unit {0}) Out left (skipStep t lo hi) from step-out (suc (length t)) from (omega arith) tt
-
-  -- and stays where it begins at such a one
-  pub skip-here : (from : ℕ) → Out from → skip t lo hi from ≡ from
-  unfolding skip skipStep
-  skip-here from h =
-      elim (decLt (kindAt t from) lo) [
-        | yes a ↦ walk-stop _ _ _ _ _ (ifLt-yes _ _ a)
-        | no a ↦ let b : lo ≤ kindAt t from = omega arith in walk-stop _ _ _ _ _ (ifLt-no _ _ b ∙ ifLt-no _ _ (h b))
-      ]
+use Rattle.parse_verdict.proofs.Scans.{skip-out, skip-here}
 
 -- a unit without a label begins at its magic word
 pub unit-plain : (t : List ℕ) (at : ℕ) → (kindAt t (unitAt t at .first) ≡ 2 → ⊥) → unitAt t at .word ≡ unitAt t at .first

@@ -1,8 +1,9 @@
--- The name of a label's token: 1 to 64 bytes, none of the reserved words.
+-- The name of a label's token, and of a symbol: 1 to 64 bytes, none of the reserved words.
 -- Assumes nothing.
 use mathlib.Core.Path.{_≡_, refl, sym, _∙_, ap, ap₂, subst}
 use mathlib.Core.Bool.{Bool, true, false}
 use mathlib.Core.List.{List, [], _∷_, _++_}
+use mathlib.Core.Logic.{_⊎_, inl, inr, ⊎-elim}
 use Prim.Native.Nat.{ℕ, zero, suc, _+_, _*_, _-_, _≤_, _<_}
 use native.Mathlib.Decide.{decLt, ℕ-discrete}
 use native.Mathlib.Omega.{arith}
@@ -49,26 +50,34 @@ known-free name =
 
 -- ---- the tokens of labels
 
--- a label's value is the size of its name, and its word the number of its name
+-- a label or a symbol
+abbrev pub Plain : ℕ → Type 0
+Plain kind = (kind ≡ 2) ⊎ (kind ≡ 3)
+
+-- its value is the size of its name, and its word the number of its name
 abbrev Made : Token → Type 0
-Made x = x .kind ≡ 2 → (x .value ≡ length (x .text)) × (x .word ≡ knownOf (x .text))
+Made x = Plain (x .kind) → (x .value ≡ length (x .text)) × (x .word ≡ knownOf (x .text))
 
-label-plain : isSubstitute 2 ≡ false
+plain-range : (kind : ℕ) → Plain kind → (2 ≤ kind) × (kind ≤ 3)
+plain-range kind h = ⊎-elim (λ e. (omega arith, omega arith)) (λ e. (omega arith, omega arith)) h
+
+plain-is : (kind : ℕ) → Plain kind → isSubstitute kind ≡ false
 unfolding isSubstitute ifEq
-label-plain = refl
+plain-is kind h = ⊎-elim (λ e. ap isSubstitute e) (λ e. ap isSubstitute e) h
 
-label-named : isNamed 2 ≡ true
+plain-named : (kind : ℕ) → Plain kind → isNamed kind ≡ true
 unfolding isNamed ifLt
-label-named = refl
+plain-named kind h = ⊎-elim (λ e. ap isNamed e) (λ e. ap isNamed e) h
 
-value-made : (w : Width) (kind value size word : ℕ) → kind ≡ 2 → tokenValue w kind value size word ≡ size
+value-made : (w : Width) (kind value size word : ℕ) → Plain kind → tokenValue w kind value size word ≡ size
 unfolding tokenValue
 value-made w kind value size word e =
-    ifTrue-no _ _ (ap isSubstitute e ∙ label-plain) ∙ ifEq-no _ _ (λ z. let y : ⊥ = omega arith in y) ∙ ifEq-no _ _ (λ z. let y : ⊥ = omega arith in y)
+    let r = plain-range kind e in
+    ifTrue-no _ _ (plain-is kind e) ∙ ifEq-no _ _ (λ z. let y : ⊥ = omega (arith, r .0, r .1) in y) ∙ ifEq-no _ _ (λ z. let y : ⊥ = omega (arith, r .0, r .1) in y)
 
-word-made : (kind : ℕ) (text : List ℕ) → kind ≡ 2 → wordOf kind text ≡ knownOf text
+word-made : (kind : ℕ) (text : List ℕ) → Plain kind → wordOf kind text ≡ knownOf text
 unfolding wordOf
-word-made kind text e = ifTrue-yes _ _ (ap isNamed e ∙ label-named) ∙ ifTrue-no _ _ (ap isSubstitute e ∙ label-plain)
+word-made kind text e = ifTrue-yes _ _ (plain-named kind e) ∙ ifTrue-no _ _ (plain-is kind e)
 
 token-made : (w : Width) (s : List ℕ) (ts : List Token) (x : Lexeme) → Made (tokenOf w s ts x)
 unfolding tokenOf
@@ -101,24 +110,26 @@ lex-made w s = either MadeIn 16384 (length s) _ _ (λ _. tt) (λ _. from-made w 
 
 -- ---- the table of an accepted source
 
--- a label's token: its name as it stands in the source
+-- such a token: its name as it stands in the source
 pub record LabelToken (s t : List ℕ) (i : ℕ) : Type 0 where
   pub some : 1 ≤ valueAt t i
   pub short : valueAt t i ≤ 64
   pub size : length (nameAt s (tokenWord t i 1)) ≡ valueAt t i
   pub free : Free t i → numberOf (nameAt s (tokenWord t i 1)) ≡ 0
 
-label-start : (s : List ℕ) (kind first : ℕ) → kind ≡ 2 → nameStart s kind first ≡ first
+-- its name begins at its first byte
+pub plain-start : (s : List ℕ) (kind first : ℕ) → Plain kind → nameStart s kind first ≡ first
 unfolding nameStart
-label-start s kind first e = ifLt-yes _ _ (omega arith)
+plain-start s kind first e = ifLt-yes _ _ (let r = plain-range kind e in omega (arith, r .1))
 
-module _ (w : Width) (s : List ℕ) (ts : List Token) (e : lexOf w s ≡ accepted ts) (i : ℕ) (k : kindAt (tokenTable ts) i ≡ 2) where
+module _ (w : Width) (s : List ℕ) (ts : List Token) (e : lexOf w s ≡ accepted ts) (i : ℕ)
+    (k : (kindAt (tokenTable ts) i ≡ 2) ⊎ (kindAt (tokenTable ts) i ≡ 3)) where
   within : i < length ts
   unfolding tokenWord
   within =
       elim (decLt i (length ts)) [
         | yes l ↦ l
-        | no l ↦ let z : ⊥ = omega (arith, token-behind ts i 0 (omega arith)) in absurd z
+        | no l ↦ let z : ⊥ = omega (arith, token-behind ts i 0 (omega arith), plain-range (kindAt (tokenTable ts) i) k .0) in absurd z
       ]
 
   abbrev x : Token
@@ -128,9 +139,9 @@ module _ (w : Width) (s : List ℕ) (ts : List Token) (e : lexOf w s ≡ accepte
   unfolding tokenWord
   word-is j h = token-read ts i j within h
 
-  kind-is : x .kind ≡ 2
+  kind-is : (x .kind ≡ 2) ⊎ (x .kind ≡ 3)
   unfolding rowOf
-  kind-is = sym (word-is 0 (omega arith)) ∙ k
+  kind-is = subst Plain (word-is 0 (omega arith)) k
 
   first-is : tokenWord (tokenTable ts) i 1 ≡ x .first
   unfolding rowOf
@@ -151,10 +162,10 @@ module _ (w : Width) (s : List ℕ) (ts : List Token) (e : lexOf w s ≡ accepte
   good = every-at (TokenGood s) ts i (accepted-good w s ts e .each) within
 
   named : isNamed (x .kind) ≡ true
-  named = ap isNamed kind-is ∙ label-named
+  named = plain-named (x .kind) kind-is
 
   text-is : x .text ≡ nameAt s (tokenWord (tokenTable ts) i 1)
-  text-is = good .spelt named ∙ ap (nameAt s) (label-start s (x .kind) (x .first) kind-is ∙ sym first-is)
+  text-is = good .spelt named ∙ ap (nameAt s) (plain-start s (x .kind) (x .first) kind-is ∙ sym first-is)
 
   size-is : length (nameAt s (tokenWord (tokenTable ts) i 1)) ≡ valueAt (tokenTable ts) i
   size-is = ap length (sym text-is) ∙ sym (made .0) ∙ sym value-is

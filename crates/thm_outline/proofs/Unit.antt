@@ -6,8 +6,9 @@ use mathlib.Core.List.{List, [], _∷_, _++_}
 use Prim.Native.Nat.{ℕ, zero, suc, _+_, _*_, _-_, _≤_, _<_, min}
 use native.Mathlib.Decide.{decLt, ℕ-discrete}
 use native.Mathlib.Omega.{arith}
-use lib.Dec.{T, leb, leb→le}
+use lib.Dec.{T, eqb, leb, leb→le}
 use lib.ListN.{length, getD}
+use borrow.Author.Tests.{eq-eqb, eqb-true}
 use Rattle.base_prelude.specs.Choice.{ifLt, ifEq, ifTrue}
 use Rattle.base_prelude.specs.Fault.{none, leastOf}
 use Rattle.base_prelude.specs.Lists.{isAmong}
@@ -26,6 +27,8 @@ use Rattle.parse_lines.proofs.Keys.{key-low}
 use Rattle.parse_rules.specs.Rules.{shapeRule, leftRule, reservedLabel, labelKey, labelled, labelStep, labelsFrom, labelsRule}
 use Rattle.parse_rules.specs.declared.Labelled.{Labelled}
 use Rattle.parse_verdict.proofs.Counts.{from-low}
+use Rattle.prog_tables.specs.Tests.{given, allBelow}
+use Rattle.prog_tables.proofs.Each.{below-at, given-then}
 use Rattle.parse_units.specs.Places.{groundIn, labelledOn, mayLabel, labelRule, placeRule, lineFaults, unitFault}
 use Rattle.parse_units.proofs.Labelled.{may-before, may-first}
 use Rattle.parse_units.specs.declared.Row.{Row}
@@ -37,14 +40,32 @@ use Rattle.parse_units.specs.declared.State.{State}
 abbrev Some : ℕ → Type 0
 Some k = (1 ≤ k) × (k ≤ 35)
 
-word-some : (w : ℕ) → Some (kindOfWord w)
-word-some w =
+-- of a line whose magic word is w: that of `import` alone is later
+abbrev Begun : ℕ → ℕ → Type 0
+Begun w k = (1 ≤ k) × (k ≤ 36) × (k ≡ 36 → w ≡ 2)
+
+begun : (w k : ℕ) → Some k → Begun w k
+begun w k h = (h .0, omega (arith, h .1), λ e. let z : ⊥ = omega (arith, h .1) in absurd z)
+
+unfoldable importTest : ℕ → Bool
+importTest w = given (eqb (kindOfWord w) 36) (eqb w 2)
+
+one-import : allBelow importTest 33 ≡ true
+unfolding allBelow importTest kindOfWord
+one-import = refl
+
+import-word : (w : ℕ) → w < 33 → kindOfWord w ≡ 36 → w ≡ 2
+unfolding importTest
+import-word w h e = eqb-true _ _ (given-then _ _ (below-at importTest 33 w one-import h) (eq-eqb _ _ e))
+
+word-begun : (w : ℕ) → Begun w (kindOfWord w)
+word-begun w =
     elim (decLt w 33) [
       | yes h ↦
           let a : 1 ≤ getD wordKinds w 0 = leb→le 1 (getD wordKinds w 0) (at 0 (λ (i k : ℕ). leb 1 k) wordKinds tt w h) in
-          let b : getD wordKinds w 0 ≤ 35 = leb→le (getD wordKinds w 0) 35 (at 0 (λ (i k : ℕ). leb k 35) wordKinds tt w h) in
-          (omega (arith, kind-known w h), omega (arith, kind-known w h))
-      | no h ↦ (omega (arith, kind-none w (omega arith)), omega (arith, kind-none w (omega arith)))
+          let b : getD wordKinds w 0 ≤ 36 = leb→le (getD wordKinds w 0) 36 (at 0 (λ (i k : ℕ). leb k 36) wordKinds tt w h) in
+          (omega (arith, kind-known w h), omega (arith, kind-known w h), import-word w h)
+      | no h ↦ begun w (kindOfWord w) (omega (arith, kind-none w (omega arith)), omega (arith, kind-none w (omega arith)))
     ]
 
 section-some : (w : ℕ) → Some (sectionKind w)
@@ -78,13 +99,13 @@ set-some kind =
     either-eq Some kind 6 _ _ (λ _. (omega arith, omega arith)) (λ _.
     either-eq Some kind 8 _ _ (λ _. (omega arith, omega arith)) (λ _. (omega arith, omega arith))))
 
-symbol-some : (w kind second : ℕ) → Some (symbolKind w kind second)
+symbol-begun : (w kind second : ℕ) → Begun w (symbolKind w kind second)
 unfolding symbolKind
-symbol-some w kind second =
-    either-eq Some w 1 _ _ (λ _. either-eq Some kind 3 _ _ (λ _. section-some second) (λ _. (omega arith, omega arith))) (λ _.
-    either-eq Some w 11 _ _ (λ _. either-eq Some kind 3 _ _ (λ _. end-some second) (λ _. (omega arith, omega arith))) (λ _.
-    either-eq Some w 12 _ _ (λ _. else-some kind second) (λ _.
-    either-eq Some w 18 _ _ (λ _. set-some kind) (λ _. word-some w))))
+symbol-begun w kind second =
+    either-eq (Begun w) w 1 _ _ (λ _. begun w _ (either-eq Some kind 3 _ _ (λ _. section-some second) (λ _. (omega arith, omega arith)))) (λ _.
+    either-eq (Begun w) w 11 _ _ (λ _. begun w _ (either-eq Some kind 3 _ _ (λ _. end-some second) (λ _. (omega arith, omega arith)))) (λ _.
+    either-eq (Begun w) w 12 _ _ (λ _. begun w _ (else-some kind second)) (λ _.
+    either-eq (Begun w) w 18 _ _ (λ _. begun w _ (set-some kind)) (λ _. word-begun w))))
 
 other-low : (kind w : ℕ) → otherKind kind w ≤ 35
 unfolding otherKind
@@ -93,15 +114,24 @@ other-low kind w =
     either-eq (λ (k : ℕ). k ≤ 35) kind 4 _ _ (λ _. either-eq (λ (k : ℕ). k ≤ 35) w 3 _ _ (λ _. omega arith) (λ _. omega arith)) (λ _.
     either-eq (λ (k : ℕ). k ≤ 35) kind 6 _ _ (λ _. either-eq (λ (k : ℕ). k ≤ 35) w 3 _ _ (λ _. omega arith) (λ _. omega arith)) (λ _. omega arith)))
 
-pub line-low : (t : List ℕ) (i : ℕ) → lineKind t i ≤ 35
+pub line-low : (t : List ℕ) (i : ℕ) → lineKind t i ≤ 36
 unfolding lineKind
 line-low t i =
-    either-eq (λ (k : ℕ). k ≤ 35) (kindAt t i) 3 _ _ (λ _. symbol-some (wordAt t i) (kindAt t (i + 1)) (wordAt t (i + 1)) .1) (λ _. other-low (kindAt t i) (wordAt t i))
+    either-eq (λ (k : ℕ). k ≤ 36) (kindAt t i) 3 _ _ (λ _. symbol-begun (wordAt t i) (kindAt t (i + 1)) (wordAt t (i + 1)) .1)
+    (λ _. omega (arith, other-low (kindAt t i) (wordAt t i)))
+
+-- a line of an import
+pub line-import : (t : List ℕ) (i : ℕ) → lineKind t i ≡ 36 → (kindAt t i ≡ 3) × (wordAt t i ≡ 2)
+unfolding lineKind
+line-import t i =
+    either-eq (λ (k : ℕ). k ≡ 36 → (kindAt t i ≡ 3) × (wordAt t i ≡ 2)) (kindAt t i) 3 _ _
+    (λ e q. (e, symbol-begun (wordAt t i) (kindAt t (i + 1)) (wordAt t (i + 1)) .2 q))
+    (λ _ q. let z : ⊥ = omega (arith, other-low (kindAt t i) (wordAt t i)) in absurd z)
 
 -- a symbol starts a line
 pub line-some : (t : List ℕ) (i : ℕ) → kindAt t i ≡ 3 → 1 ≤ lineKind t i
 unfolding lineKind
-line-some t i e = subst (λ (k : ℕ). 1 ≤ k) (sym (ifEq-yes _ _ e)) (symbol-some (wordAt t i) (kindAt t (i + 1)) (wordAt t (i + 1)) .0)
+line-some t i e = subst (λ (k : ℕ). 1 ≤ k) (sym (ifEq-yes _ _ e)) (symbol-begun (wordAt t i) (kindAt t (i + 1)) (wordAt t (i + 1)) .0)
 
 -- a line whose magic word is `function`
 symbol-function : (kind second : ℕ) → symbolKind 9 kind second ≡ 1
@@ -115,9 +145,9 @@ function-line t i a b = ifEq-yes _ _ a ∙ ap (λ (w : ℕ). symbolKind w (kindA
 -- ---- what a unit without a fault says
 
 -- lines that make no row stand on no ground from 4 on
-stands-low : (k : ℕ) → k ≤ 33 → (1 ≤ k → 25 ≤ k) → standsIn k .hi ≤ 4
+stands-low : (k : ℕ) → (k ≡ 34 → ⊥) → (k ≡ 35 → ⊥) → k ≤ 36 → (1 ≤ k → 25 ≤ k) → standsIn k .hi ≤ 4
 unfolding standsIn
-stands-low k l h =
+stands-low k p q l h =
     either-eq (λ (r : Range). r .hi ≤ 4) k 0 _ _ (λ _. omega arith) (λ d.
     let g : 25 ≤ k = h (omega arith) in
     either (λ (r : Range). r .hi ≤ 4) k 25 _ _ (λ a. let z : ⊥ = omega arith in absurd z) (λ _.
@@ -126,7 +156,8 @@ stands-low k l h =
     either-eq (λ (r : Range). r .hi ≤ 4) k 28 _ _ (λ _. omega arith) (λ _.
     either (λ (r : Range). r .hi ≤ 4) k 32 _ _ (λ _. omega arith) (λ a.
     either-eq (λ (r : Range). r .hi ≤ 4) k 32 _ _ (λ _. omega arith) (λ b.
-    either-eq (λ (r : Range). r .hi ≤ 4) k 33 _ _ (λ _. omega arith) (λ f. let z : ⊥ = omega arith in absurd z))))))))
+    either-eq (λ (r : Range). r .hi ≤ 4) k 33 _ _ (λ _. omega arith) (λ f.
+    either-eq (λ (r : Range). r .hi ≤ 4) k 36 _ _ (λ _. omega arith) (λ i. let z : ⊥ = omega arith in absurd z)))))))))
 
 place-stands : (t : List ℕ) (n : ℕ) (u : Span) (k g : ℕ) → none ≤ placeRule t n u k g → standsOn g k ≡ true
 unfolding placeRule
@@ -271,21 +302,16 @@ module _ (w : Width) (t : List ℕ) (n : ℕ) (u : Span) (s : State) (o : Row) (
 
   high : 4 ≤ groundIn s o → (1 ≤ lineKind t (u .word)) × (lineKind t (u .word) < 25)
   high h =
-      let a : lineKind t (u .word) ≤ 35 = line-low t (u .word) in
-      elim (decLt (lineKind t (u .word)) 34) [
-        | no b ↦
-            elim (ℕ-discrete (lineKind t (u .word)) 34) [
-              | yes d ↦ absurd (left-by t n u (lineKind t (u .word)) left-clean d)
-              | no d ↦ absurd (shape-by w t n u (lineKind t (u .word)) shape-clean (omega arith))
-            ]
-        | yes b ↦
-            elim (decLt (lineKind t (u .word)) 1) [
-              | yes d ↦ let z : ⊥ = omega (arith, place-by t n u (lineKind t (u .word)) (groundIn s o) place-clean, stands-low (lineKind t (u .word)) (omega arith) (λ i. omega arith)) in absurd z
-              | no d ↦
-                  elim (decLt (lineKind t (u .word)) 25) [
-                    | yes f ↦ (omega arith, f)
-                    | no f ↦ let z : ⊥ = omega (arith, place-by t n u (lineKind t (u .word)) (groundIn s o) place-clean, stands-low (lineKind t (u .word)) (omega arith) (λ i. omega arith)) in absurd z
-                  ]
+      let a : lineKind t (u .word) ≤ 36 = line-low t (u .word) in
+      let p : lineKind t (u .word) ≡ 34 → ⊥ = left-by t n u (lineKind t (u .word)) left-clean in
+      let q : lineKind t (u .word) ≡ 35 → ⊥ = shape-by w t n u (lineKind t (u .word)) shape-clean in
+      let b : groundIn s o < standsIn (lineKind t (u .word)) .hi = place-by t n u (lineKind t (u .word)) (groundIn s o) place-clean in
+      elim (decLt (lineKind t (u .word)) 1) [
+        | yes d ↦ let z : ⊥ = omega (arith, b, stands-low (lineKind t (u .word)) p q a (λ i. omega arith)) in absurd z
+        | no d ↦
+            elim (decLt (lineKind t (u .word)) 25) [
+              | yes f ↦ (omega arith, f)
+              | no f ↦ let z : ⊥ = omega (arith, b, stands-low (lineKind t (u .word)) p q a (λ i. omega arith)) in absurd z
             ]
       ]
 

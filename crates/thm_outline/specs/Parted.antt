@@ -9,8 +9,8 @@ use Rattle.lang_kinds.specs.Tokens as token
 use Rattle.parse_lines.specs.Tokens.{kindAt}
 use Rattle.prog_tables.specs.Layout.{noExpression}
 use Rattle.prog_tables.specs.Tests.{oneOf}
-use Rattle.prog_tables.specs.Statement.{hasExpression, isCall, usedBy}
-use Rattle.prog_tables.specs.Faults.{isCallRow, expressionFault}
+use Rattle.prog_tables.specs.Statement.{hasExpression, isCallRow, isCall, usedBy}
+use Rattle.prog_tables.specs.Faults.{expressionFault}
 use Rattle.prog_tables.specs.WellFormed.{hasOperands}
 use Rattle.res_scope.specs.Parts.{noCallee}
 use Rattle.res_scope.specs.declared.Parts.{Parts}

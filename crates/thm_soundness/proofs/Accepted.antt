@@ -11,7 +11,7 @@ use Rattle.base_prelude.specs.Fault.{none}
 use Rattle.base_prelude.proofs.Choice.{ifTrue-yes, ifTrue-no, true-false}
 use Rattle.base_limits.specs.declared.Width.{Width}
 use Rattle.lex_source.specs.Token.{Token}
-use Rattle.lex_source.specs.Rows.{tokenTable}
+use Rattle.prog_tables.specs.Hosts.{Hosts}
 use Rattle.lex_source.specs.Lex.{accepted, lexOf}
 use Rattle.parse_outline.specs.Outline.{outlineOf}
 use Rattle.parse_outline.specs.declared.Parsed.the-variants as parsed
@@ -22,7 +22,7 @@ use Rattle.parse_verdict.proofs.Decided.{least-none, none-all}
 use Rattle.thm_acceptance.specs.Faults.{allNameFaults}
 use Rattle.thm_acceptance.specs.Accepts.{isAccepted}
 use Rattle.thm_acceptance.proofs.Least.{names-least}
-use Rattle.check_judge.specs.Judge.{Known, Judged, refusal, fine, namesWith, namesJudged, judgeOf}
+use Rattle.check_judge.specs.Judge.{Known, Judged, refusal, fine, namesWith, namesJudged, hostedTable, judgeOf}
 use Rattle.check_judge.proofs.Fine.{namesIn, knownIn, passed}
 use Rattle.check_source.specs.Check.{Lent, Filled, refuse, hasRoom, accept, answerTo, checkOf}
 
@@ -31,17 +31,17 @@ unfolding refuse
 refused-not number place b h = true-false (sym h)
 
 -- what is known of an accepted source
-pub record Checks (w : Width) (s : List ℕ) (b : Lent) : Type 0 where
+pub record Checks (w : Width) (h : Hosts) (s : List ℕ) (b : Lent) : Type 0 where
   pub tokens : List Token
   pub c : ℕ
   pub l : ℕ
   pub size : ℕ
   pub lexes : lexOf w s ≡ accepted tokens
-  pub outlines : outlineOf w (tokenTable tokens) (length s) .answer ≡ parsed.Accepted c l
-  pub names : none ≤ namesIn w s tokens c l .fault
-  pub sized : lengthOf w (tokenTable tokens) ≡ Length size
+  pub outlines : outlineOf w (hostedTable h s tokens) (length s) .answer ≡ parsed.Accepted c l
+  pub names : none ≤ namesIn w h s tokens c l .fault
+  pub sized : lengthOf w (hostedTable h s tokens) ≡ Length size
   pub held : hasRoom b (length tokens) c l size ≡ true
-  pub leaves : checkOf w s b ≡ accept w s (knownIn w s tokens c l) size b
+  pub leaves : checkOf w h s b ≡ accept w s (knownIn w h s tokens c l) size b
 
 module _ (w : Width) (s : List ℕ) (b : Lent) where
   answer-inv : (j : Judged) → isAccepted (answerTo w s j b .answer) ≡ true
@@ -56,11 +56,11 @@ module _ (w : Width) (s : List ℕ) (b : Lent) where
       by false e = refused-not 16 0 b (ap (λ (x : Filled). isAccepted (x .answer)) (sym (ifTrue-no (accept w s p size b) (refuse 16 0 b) e)) ∙ h)
 
   -- a check that accepts
-  pub checks : isAccepted (checkOf w s b .answer) ≡ true → Checks w s b
+  pub checks : (hosts : Hosts) → isAccepted (checkOf w hosts s b .answer) ≡ true → Checks w hosts s b
   unfolding checkOf
-  checks h =
-      let j = answer-inv (judgeOf w s) h in
-      let v = passed w s (j .0) (j .1) (j .2) in
+  checks hosts h =
+      let j = answer-inv (judgeOf w hosts s) h in
+      let v = passed w hosts s (j .0) (j .1) (j .2) in
       record {
         tokens = v .tokens;
         c = v .c;

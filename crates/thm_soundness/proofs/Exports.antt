@@ -31,7 +31,7 @@ use Rattle.parse_units.specs.declared.Row as outlined
 use Rattle.parse_units.specs.declared.State.{State}
 use Rattle.parse_units.specs.declared.Verdict.{Verdict}
 use Rattle.parse_units.specs.declared.Verdict.the-variants.{Accepted, Refused}
-use Rattle.parse_units.proofs.Bounds.{unit-order, unit-next, line-some, clean-room}
+use Rattle.parse_units.proofs.Bounds.{unit-order, unit-next, line-some, clean-room, unit-clean}
 use Rattle.parse_units.proofs.UnitSteps.{UnitStepGood, unit-step-good}
 use Rattle.parse_outline.specs.Outline.{answerOf, outlineOf, Outlined}
 use Rattle.parse_outline.specs.Outline as outline
@@ -55,15 +55,15 @@ use Rattle.thm_acceptance.proofs.Page.{each-map}
 bare : ℕ → ℕ → Bool
 bare g k = implies (standsOn g k) (pick (isDefinition k) true (eqb (rowsOf k) 0))
 
-bare-all : T (under (λ g. under (bare g) 36) 4)
+bare-all : T (under (λ g. under (bare g) 37) 4)
 unfolding bare standsOn isAmong groundNumbered linesOn rowsOf isDefinition ifLt ifEq
 bare-all = tt
 
-rows-none : (g k : ℕ) → g ≤ 3 → k ≤ 35 → standsOn g k ≡ true → isDefinition k ≡ false → rowsOf k ≡ 0
+rows-none : (g k : ℕ) → g ≤ 3 → k ≤ 36 → standsOn g k ≡ true → isDefinition k ≡ false → rowsOf k ≡ 0
 unfolding bare
 rows-none g k a b e d =
     let h : pick (isDefinition k) true (eqb (rowsOf k) 0) ≡ true =
-    imply (standsOn g k) _ (under-at (bare g) 36 k (under-at (λ g. under (bare g) 36) 4 g bare-all (omega arith)) (omega arith)) e in
+    imply (standsOn g k) _ (under-at (bare g) 37 k (under-at (λ g. under (bare g) 37) 4 g bare-all (omega arith)) (omega arith)) e in
     eqb-true (rowsOf k) 0 (ap (λ (v : Bool). pick v true (eqb (rowsOf k) 0)) (sym d) ∙ h)
 
 -- an export stands in nothing that is open
@@ -118,8 +118,7 @@ module _ (w : Width) (t : List ℕ) (n : ℕ) (x : World) (h : Fine t x) where
 
   module _ (c : none ≤ faultIn w t n u x) where
     clean : none ≤ unitFault w t n u k (groundIn (x .state) (openRow x)) (x .state)
-    unfolding faultIn
-    clean = c
+    clean = unit-clean w t n u x c
 
     stands : standsOn (groundIn (x .state) (openRow x)) k ≡ true
     stands = unit-stands w t n u k (groundIn (x .state) (openRow x)) (x .state) clean

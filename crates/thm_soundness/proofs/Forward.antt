@@ -128,7 +128,7 @@ module _ (w : Width) (t : List ℕ) (n c l : ℕ) (x y : List ℕ) (long : lengt
       by true p =
           let v = exporting same t y l j _ (suc (length t)) 0 [] p (each-both _ (Apart t k c) [] (linesOf t) first (exports-apart w t n c l x y long oh)) in
           let s = callee-named w t n c l x y long oh r g call in
-          let b = label-behind w t n c l x y long oh j a (λ d. absurd (omega arith)) r ahead in
+          let b = label-behind w t n c l x y long oh j a (λ d. absurd (omega arith)) (λ d. absurd (omega arith)) r ahead in
           let d = carried-before same t y l j (v .here .unit) a (v .carries) in
           let o = row-ordered w t n c l x y long oh r g in
           let used = callee-used _ t k r (λ z. absurd (omega (arith, s .0))) (v .has .0 (v .export) r g) in

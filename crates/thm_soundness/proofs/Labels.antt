@@ -18,10 +18,12 @@ use Rattle.parse_outline.specs.Outline.{Outlined, outlineOf}
 use Rattle.parse_outline.specs.Outline as outline
 use Rattle.parse_outline.specs.declared.Parsed.the-variants as answer
 use Rattle.res_skeleton.specs.Skeleton.{skeletonOf}
-use Rattle.res_scope.specs.Lines.{labelToken, labelKind, labelStatement}
-use Rattle.res_labels.specs.Labelling.{outlineWord, flagAt, exportedKind, finalKind, finalNumber, labelWords, labelTable, nameTable}
+use Rattle.res_scope.specs.Lines.{labelToken, labelKind, labelStatement, labelArguments}
+use Rattle.res_labels.specs.Labelling.{outlineWord, flagAt, exportedKind, finalKind, finalNumber, finalArguments, labelWords, labelTable, nameTable}
 use Rattle.res_labels.proofs.Laws.{label-word}
 use Rattle.res_rows.specs.Rows.{labelNumber}
+use Rattle.prog_tables.specs.Hosts.{markNumber, markArguments}
+use Rattle.thm_statement_rows.proofs.Labels.{import-final}
 use Rattle.thm_outline.proofs.LabelRows.{LabelRow, label-rows}
 use Rattle.thm_soundness.proofs.Tests.{Labels}
 
@@ -58,9 +60,24 @@ module _ (w : Width) (s t : List ℕ) (y flags : List ℕ) (l i j : ℕ) (room :
   unfolding labelAt labelNumber
   number-same e = refl
 
-  pub statement-of : (e : ℕ) → e < l → (labelKind y e ≡ 1 → ⊥) → labelNumber (labelTable w t y flags l (zeros i)) e ≡ labelStatement y e
+  pub statement-of : (e : ℕ) → e < l → (labelKind y e ≡ 1 → ⊥) → (labelKind y e ≡ 6 → ⊥) → labelNumber (labelTable w t y flags l (zeros i)) e ≡ labelStatement y e
   unfolding finalNumber labelStatement
-  statement-of e g d = number-of e g ∙ ifEq-no _ _ d
+  statement-of e g d f = number-of e g ∙ ifEq-no _ _ d ∙ ifEq-no _ _ f
+
+  -- of an import: its number, and its argument count
+  pub import-of : (e : ℕ) → e < l → labelKind y e ≡ 6 → labelNumber (labelTable w t y flags l (zeros i)) e ≡ markNumber (getD y (e * 4 + 2) 0)
+  unfolding finalNumber
+  import-of e g q = number-of e g ∙ ifEq-no _ _ (λ d. let v : ⊥ = omega (arith, q, d) in v) ∙ ifEq-yes _ _ q
+
+  pub arguments-of : (e : ℕ) → e < l → labelKind y e ≡ 6
+      → labelAt (labelTable w t y flags l (zeros i)) (nameTable s t y l (zeros j)) e .arguments ≡ markArguments (getD y (e * 4 + 2) 0)
+  unfolding labelAt labelWords finalArguments outlineWord labelKind
+  arguments-of e g q = word-of e 2 g (omega arith) ∙ ifEq-yes _ _ q
+
+  arguments-same : (e : ℕ) → e < l → labelKind y e ≡ 6
+      → labelAt (labelTable w t y flags l (zeros i)) (nameTable s t y l (zeros j)) e .arguments ≡ labelArguments y e
+  unfolding labelArguments
+  arguments-same e g q = arguments-of e g q
 
   module _ (n c : ℕ) (x : List ℕ) (long : length t ≡ 32768) (oh : outlineOf w t n ≡ outline.parsed (answer.Accepted c l) x y) where
     row : (e : ℕ) → e < l → LabelRow t y (rowAt (skeletonOf x c)) c e
@@ -73,12 +90,16 @@ module _ (w : Width) (s t : List ℕ) (y flags : List ℕ) (l i j : ℕ) (room :
           values = λ e g q. ap isData (kind-of e g ∙ ap (λ (v : ℕ). finalKind v (flagAt flags e)) q) ∙ final-data (flagAt flags e);
           functions = λ e g q. (
             ap isFunctionLabel (kind-of e g ∙ ap (λ (v : ℕ). finalKind v (flagAt flags e)) q) ∙ final-function (flagAt flags e),
-            statement-of e g (λ d. absurd (omega arith)),
+            statement-of e g (λ d. absurd (omega arith)) (λ d. absurd (omega arith)),
           );
           places = λ e g q. (
             kind-of e g ∙ ap (λ (v : ℕ). finalKind v (flagAt flags e)) q ∙ final-place (flagAt flags e),
-            statement-of e g (λ d. absurd (omega arith)),
+            statement-of e g (λ d. absurd (omega arith)) (λ d. absurd (omega arith)),
           );
-          callees = λ e g q. (row e g .below (λ d. absurd (omega arith)), row e g .function q);
-          spots = λ e g q. row e g .below (λ d. absurd (omega arith));
+          imports = λ e g q. (
+            kind-of e g ∙ import-final (labelKind y e) (flagAt flags e) q,
+            arguments-same e g q,
+          );
+          callees = λ e g q. (row e g .below (λ d. absurd (omega arith)) (λ d. absurd (omega arith)), row e g .function q);
+          spots = λ e g q. row e g .below (λ d. absurd (omega arith)) (λ d. absurd (omega arith));
         }

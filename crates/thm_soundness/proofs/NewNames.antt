@@ -3,6 +3,7 @@
 use mathlib.Core.Path.{_≡_, refl, sym, _∙_, ap, ap₂, subst}
 use mathlib.Core.Bool.{Bool, true, false, not}
 use mathlib.Core.List.{List, [], _∷_}
+use mathlib.Core.Logic.{_⊎_, inl, inr}
 use Prim.Native.Nat.{ℕ, zero, suc, _+_, _*_, _-_, _≤_, _<_}
 use native.Mathlib.Decide.{ℕ-discrete, decLt}
 use native.Mathlib.Omega.{arith}
@@ -37,11 +38,15 @@ label-clean (suc left) same t n y l j e h a b =
       | no d ↦ label-clean left same t n y l (j + 1) e (h .1) (omega arith) (omega arith)
     ]
 
-named : (t : List ℕ) (i : ℕ) → kindAt t i ≡ 2 → hasName t i ≡ true
-unfolding hasName
-named t i e = ifLt-no false (ltb (kindAt t i) 7) (omega arith) ∙ lt-ltb (kindAt t i) 7 (omega arith)
+between : (t : List ℕ) (i : ℕ) → (kindAt t i ≡ 2) ⊎ (kindAt t i ≡ 3) → (2 ≤ kindAt t i) × (kindAt t i < 7)
+between t i (inl e) = (omega arith, omega arith)
+between t i (inr e) = (omega arith, omega arith)
 
-module _ (s t : List ℕ) (n : ℕ) (y : List ℕ) (l : ℕ) (h : ℕ → Label) (tokens : (e : ℕ) → e < l → kindAt t (labelToken y e) ≡ 2) (are : (e : ℕ) → e < l → h e .name ≡ nameOf s t (labelToken y e)) where
+named : (t : List ℕ) (i : ℕ) → (kindAt t i ≡ 2) ⊎ (kindAt t i ≡ 3) → hasName t i ≡ true
+unfolding hasName
+named t i e = let r = between t i e in ifLt-no false (ltb (kindAt t i) 7) (r .0) ∙ lt-ltb (kindAt t i) 7 (r .1)
+
+module _ (s t : List ℕ) (n : ℕ) (y : List ℕ) (l : ℕ) (h : ℕ → Label) (tokens : (e : ℕ) → e < l → (kindAt t (labelToken y e) ≡ 2) ⊎ (kindAt t (labelToken y e) ≡ 3)) (are : (e : ℕ) → e < l → h e .name ≡ nameOf s t (labelToken y e)) where
   same-token : (i e : ℕ) → i < l → e < l → sameList (h i .name) (h e .name) ≡ true → sameText s t (labelToken y i) (labelToken y e) ≡ true
   unfolding sameText
   same-token i e a b q =

@@ -34,7 +34,8 @@ use Rattle.res_frame_words.specs.Framing.{wordsOf}
 use Rattle.res_rows.specs.Rows.{operandsFrom, bOf, rowWith, rowOf, statementTable}
 use Rattle.thm_outline.proofs.Nested.{rows-stand}
 use Rattle.thm_outline.proofs.Lines.{few-rows}
-use Rattle.thm_outline.proofs.Rows.{kindOf, partsAt, row-shaped, row-idle, row-few, row-kind, function-parameters}
+use Rattle.thm_outline.proofs.Rows.{kindOf, partsAt, row-shaped, row-idle, row-few, row-kind, function-parameters, callee-none}
+use Rattle.thm_statement_rows.proofs.Calls.{used-expr}
 use Rattle.thm_statement_rows.proofs.Views.{Alike}
 use Rattle.thm_statement_rows.proofs.Readback.{row-back, table-behind, table-long}
 
@@ -136,7 +137,8 @@ module _ (w : Width) (t : List ℕ) (n c l : ℕ) (x y : List ℕ) (long : lengt
         let few = row-few w t n c l x y long oh r h in
         let a : length (operandsFrom (min (endToken k r - p .first) 8) same t k y l (wordsOf (rowAt k) c) z r (p .first)) ≡ endToken k r - p .first =
         operands-long (min (endToken k r - p .first) 8) same t k y l (wordsOf (rowAt k) c) z r (p .first) ∙ min-eq-left few in
-        record { used = a ∙ sym (row-uses r h); few = omega (arith, a, few) }
+        let q = used-expr same k y l r (kindOf k r) p (callee-none w t n c l x y long oh r h) (endToken k r - p .first) in
+        record { used = a ∙ sym (row-uses r h) ∙ sym q; few = omega (arith, a, few) }
 
     pub back : (r : ℕ) → r < c → rowAt table r ≡ rowOf same t (skeletonOf x c) y l (wordsOf (rowAt (skeletonOf x c)) c) z c r
     back r h =

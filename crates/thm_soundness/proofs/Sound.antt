@@ -13,12 +13,12 @@ use Rattle.base_limits.specs.Width.{dataLimit}
 use Rattle.base_limits.specs.declared.Width.{Width}
 use Rattle.base_limits.specs.declared.Width.the-variants.{Bits32, Bits16}
 use Rattle.lex_source.specs.Lex.{Outcome}
-use Rattle.lex_source.specs.Rows.{tokenTable}
 use Rattle.prog_tables.specs.Statement.{rowAt}
 use Rattle.prog_tables.specs.Label.{Tables, labelAt}
 use Rattle.prog_tables.specs.WellFormed.{WellFormed}
 use Rattle.prog_tables.specs.Canonical.{Canonical}
 use Rattle.prog_tables.specs.Program.{programFrom}
+use Rattle.prog_tables.specs.Hosts.{Hosts, hosted}
 use Rattle.parse_outline.specs.Outline.{Outlined, outlineOf}
 use Rattle.parse_outline.specs.Outline as outline
 use Rattle.parse_outline.specs.declared.Parsed.{Parsed}
@@ -31,7 +31,7 @@ use Rattle.res_data.specs.Sizes.{lengthOf}
 use Rattle.res_data.specs.declared.Measured.the-variants.{Length}
 use Rattle.res_data.proofs.Laws.{measure-low}
 use Rattle.res_text.specs.Same.{sameText}
-use Rattle.parse_verdict.proofs.Lexed.{lexed-long}
+use Rattle.check_judge.proofs.Hosted.{table-long}
 use Rattle.parse_verdict.proofs.Counts.{accepted-counts}
 use Rattle.res_names.specs.Naming.{Naming, namesOf}
 use Rattle.res_exports.specs.Exports.{isExported}
@@ -40,10 +40,11 @@ use Rattle.thm_acceptance.specs.Accepts.{tokensIn, tokensOf, statementsIn, isAc
 use Rattle.thm_acceptance.specs.Accepts as accepts
 use Rattle.thm_acceptance.specs.Unbroken.{NamesUnbroken, Unbroken}
 use Rattle.thm_acceptance.proofs.Accepts.{accepts-exactly}
-use Rattle.check_judge.specs.Judge.{known, namesWith, namesJudged}
+use Rattle.check_judge.specs.Judge.{known, namesWith, namesJudged, hostedTable}
 use Rattle.check_fill.specs.Fill.{labelsIn, fillOf}
 use Rattle.check_source.specs.Check.{Lent, accept, checkOf}
 use Rattle.check_source.proofs.Cases.{room-statements, room-labels, room-names}
+use Rattle.thm_statement_rows.proofs.Zeros.{below-all}
 use Rattle.thm_statement_rows.proofs.Whole.{outline-canonical}
 use Rattle.thm_soundness.specs.Program.{programBy, programOf}
 use Rattle.thm_soundness.proofs.Accepted.{Checks, checks, names-clean}
@@ -52,7 +53,7 @@ use Rattle.thm_soundness.proofs.Labels.{kind-of, labels-are}
 use Rattle.thm_soundness.proofs.NewNames.{names-new}
 use Rattle.thm_soundness.proofs.Forward.{forward-free}
 use Rattle.thm_soundness.proofs.Tests.{Forward}
-use Rattle.thm_soundness.proofs.LabelTests.{size-of, name-bytes, label-passes, label-tokens}
+use Rattle.thm_soundness.proofs.LabelTests.{size-of, name-bytes, label-passes, label-hosted, label-tokens}
 use Rattle.thm_soundness.proofs.Whole.{left, outline-wellformed}
 
 limit-low : (w : Width) → dataLimit w ≤ 32768
@@ -63,24 +64,24 @@ plain-function : finalKind 3 0 ≡ 3
 unfolding finalKind ifEq
 plain-function = refl
 
-module _ (w : Width) (s : List ℕ) (b : Lent) (q : Checks w s b) (page : Unbroken w s) where
+module _ (w : Width) (h : Hosts) (s : List ℕ) (b : Lent) (q : Checks w h s b) (page : Unbroken w h s) where
   abbrev t : List ℕ
-  t = tokenTable (q .tokens)
+  t = hostedTable h s (q .tokens)
 
   abbrev x : List ℕ
-  x = outlineOf w (tokenTable (q .tokens)) (length s) .rows
+  x = outlineOf w (hostedTable h s (q .tokens)) (length s) .rows
 
   abbrev y : List ℕ
-  y = outlineOf w (tokenTable (q .tokens)) (length s) .labels
+  y = outlineOf w (hostedTable h s (q .tokens)) (length s) .labels
 
   abbrev same : ℕ → ℕ → Bool
-  same = sameText s (tokenTable (q .tokens))
+  same = sameText s (hostedTable h s (q .tokens))
 
   abbrev flags : List ℕ
   flags = namesJudged same t (length s) (skeletonOf x (q .c)) y (q .l) (q .c) .flags
 
   long : length t ≡ 32768
-  long = lexed-long w s (q .tokens) (q .lexes)
+  long = table-long h s (q .tokens) w (q .lexes)
 
   oh : outlineOf w t (length s) ≡ outline.parsed (answer.Accepted (q .c) (q .l)) x y
   oh = ap (λ (a : Parsed). outline.parsed a x y) (q .outlines)
@@ -110,9 +111,9 @@ module _ (w : Width) (s : List ℕ) (b : Lent) (q : Checks w s b) (page : Unbrok
   unfolding tokensOf tokensIn statementsIn accepts.labelsIn
   names-hold =
       subst (λ (a : Parsed). NamesUnbroken same t (length s) (skeletonOf x (statementsIn a)) y (accepts.labelsIn a) (statementsIn a)) (q .outlines)
-      (subst (λ (o : Outcome). NamesUnbroken (sameText s (tokenTable (tokensIn o))) (tokenTable (tokensIn o)) (length s)
-      (skeletonOf (outlineOf w (tokenTable (tokensIn o)) (length s) .rows) (statementsIn (outlineOf w (tokenTable (tokensIn o)) (length s) .answer)))
-      (outlineOf w (tokenTable (tokensIn o)) (length s) .labels) (accepts.labelsIn (outlineOf w (tokenTable (tokensIn o)) (length s) .answer)) (statementsIn (outlineOf w (tokenTable (tokensIn o)) (length s) .answer)))
+      (subst (λ (o : Outcome). NamesUnbroken (sameText s (hostedTable h s (tokensIn o))) (hostedTable h s (tokensIn o)) (length s)
+      (skeletonOf (outlineOf w (hostedTable h s (tokensIn o)) (length s) .rows) (statementsIn (outlineOf w (hostedTable h s (tokensIn o)) (length s) .answer)))
+      (outlineOf w (hostedTable h s (tokensIn o)) (length s) .labels) (accepts.labelsIn (outlineOf w (hostedTable h s (tokensIn o)) (length s) .answer)) (statementsIn (outlineOf w (hostedTable h s (tokensIn o)) (length s) .answer)))
       (q .lexes) (page .names))
 
   few-labels : q .l ≤ 256
@@ -134,32 +135,43 @@ module _ (w : Width) (s : List ℕ) (b : Lent) (q : Checks w s b) (page : Unbrok
   program-formed =
       let like = alike w t (length s) (q .c) (q .l) x y long oh same (labelTable w t y flags (q .l) (zeros (b .labels))) (b .statements) rows-room in
       let clean = names-clean same t (length s) (skeletonOf x (q .c)) y (q .l) (q .c) (q .names) in
-      let tokens = label-tokens w s (q .tokens) (q .lexes) (length s) (q .c) (q .l) x y flags long oh (b .labels) (b .names) (q .size) labels-room names-room (q .sized) _ like (programFrom w program) in
-      let bytes = name-bytes w s (q .tokens) (q .lexes) (length s) (q .c) (q .l) x y flags long oh (b .labels) (b .names) (q .size) labels-room names-room (q .sized) _ like (programFrom w program) in
+      let tokens = label-tokens w h s (q .tokens) (q .lexes) (length s) (q .c) (q .l) x y flags long oh (b .labels) (b .names) (q .size) labels-room names-room (q .sized) _ like (programFrom w program) in
+      let bytes = name-bytes w h s (q .tokens) (q .lexes) (length s) (q .c) (q .l) x y flags long oh (b .labels) (b .names) (q .size) labels-room names-room (q .sized) _ like (programFrom w program) in
       let new = names-new s t (length s) y (q .l) (labelAt (labelTable w t y flags (q .l) (zeros (b .labels))) (nameTable s t y (q .l) (zeros (b .names)))) tokens bytes (skeletonOf x (q .c)) (q .c) clean in
       let low : q .size ≤ 32768 = let a = measure-low w t 4098 (q .size) (q .sized) in let c = limit-low w in omega (arith, a, c) in
       outline-wellformed w t (length s) (q .c) (q .l) x y long oh same s flags (b .statements) (b .labels) (b .names) (q .size) rows-room labels-room names-room
       (labels-are w s t y flags (q .l) (b .labels) (b .names) labels-room (length s) (q .c) x long oh) clean low forward
-      (label-passes w s (q .tokens) (q .lexes) (length s) (q .c) (q .l) x y flags long oh (b .labels) (b .names) (q .size) labels-room names-room (q .sized) _ like (programFrom w program) new)
+      (label-passes w h s (q .tokens) (q .lexes) (length s) (q .c) (q .l) x y flags long oh (b .labels) (b .names) (q .size) labels-room names-room (q .sized) _ like (programFrom w program) new)
 
   program-canonical : Canonical program
   program-canonical =
       let like = alike w t (length s) (q .c) (q .l) x y long oh same (labelTable w t y flags (q .l) (zeros (b .labels))) (b .statements) rows-room in
       outline-canonical w t (length s) (q .c) (q .l) x y long oh same s flags (labelTable w t y flags (q .l) (zeros (b .labels))) (b .statements) (b .labels) (b .names) (q .size) rows-room labels-room names-room
-      (size-of w s (q .tokens) (q .lexes) (length s) (q .c) (q .l) x y flags long oh (b .labels) (b .names) (q .size) labels-room names-room (q .sized) _ like (programFrom w program))
+      (size-of w h s (q .tokens) (q .lexes) (length s) (q .c) (q .l) x y flags long oh (b .labels) (b .names) (q .size) labels-room names-room (q .sized) _ like (programFrom w program))
+
+  -- imports have what the host's list gives them
+  program-hosted : hosted h (programFrom w program) ≡ true
+  unfolding hosted
+  program-hosted =
+      let like = alike w t (length s) (q .c) (q .l) x y long oh same (labelTable w t y flags (q .l) (zeros (b .labels))) (b .statements) rows-room in
+      below-all _ (q .l)
+      (label-hosted w h s (q .tokens) (q .lexes) (length s) (q .c) (q .l) x y flags long oh (b .labels) (b .names) (q .size) labels-room names-room (q .sized) _ like (programFrom w program))
 
   accept-is : programOf (accept w s (known (length (q .tokens)) t (q .c) (skeletonOf x (q .c)) (q .l) y flags) (q .size) b) ≡ program
   unfolding accept fillOf labelsIn programBy
   accept-is = refl
 
-  program-is : programOf (checkOf w s b) ≡ program
+  program-is : programOf (checkOf w h s b) ≡ program
   program-is = ap programOf (q .leaves) ∙ accept-is
 
--- "Take any source you accepted": the tables, names, counts and data that an accepted check leaves in the lent buffers, of any lengths
-pub accepted-sound : (w : Width) (s : List ℕ) (b : Lent) → isAccepted (checkOf w s b .answer) ≡ true → WellFormed (programFrom w (programOf (checkOf w s b))) × Canonical (programOf (checkOf w s b))
-accepted-sound w s b h =
-    let q = checks w s b h in
-    let page = accepts-exactly w s b .0 h .0 in (
-      subst (λ (t : Tables). WellFormed (programFrom w t)) (sym (program-is w s b q page)) (program-formed w s b q page),
-      subst Canonical (sym (program-is w s b q page)) (program-canonical w s b q page),
-    )
+abbrev Good : Width → Hosts → Tables → Type 0
+Good w h t = WellFormed (programFrom w t) × Canonical t × (hosted h (programFrom w t) ≡ true)
+
+-- "Take any source you accepted": the tables, names, counts and data that an accepted check leaves in the lent buffers, of any lengths; its imports
+-- have what the list lent by the host gives them
+pub accepted-sound : (w : Width) (h : Hosts) (s : List ℕ) (b : Lent) → isAccepted (checkOf w h s b .answer) ≡ true
+    → WellFormed (programFrom w (programOf (checkOf w h s b))) × Canonical (programOf (checkOf w h s b)) × (hosted h (programFrom w (programOf (checkOf w h s b))) ≡ true)
+accepted-sound w h s b e =
+    let q = checks w s b h e in
+    let page = accepts-exactly w h s b .0 e .0 in
+    subst (Good w h) (sym (program-is w h s b q page)) (program-formed w h s b q page, program-canonical w h s b q page, program-hosted w h s b q page)

@@ -10,7 +10,7 @@ use lib.Dec.{eqb, ltb, leb}
 use lib.ListN.{length, getD}
 use Rattle.base_prelude.specs.Choice.{ifLt, ifEq, ifTrue}
 use Rattle.base_prelude.specs.Lists.{zeros}
-use Rattle.base_prelude.proofs.Choice.{ifEq-yes, ifEq-no, true-false}
+use Rattle.base_prelude.proofs.Choice.{either-eq, ifEq-yes, ifEq-no, true-false}
 use Rattle.base_limits.specs.declared.Width.{Width}
 use Rattle.parse_lines.specs.Tokens.{kindAt}
 use Rattle.prog_tables.proofs.Each.{both-true}
@@ -24,17 +24,17 @@ use Rattle.parse_outline.specs.Outline.{Outlined, outlineOf}
 use Rattle.parse_outline.specs.Outline as outline
 use Rattle.parse_outline.specs.declared.Parsed.the-variants as answer
 use Rattle.res_skeleton.specs.Skeleton.{skeletonOf}
-use Rattle.res_scope.specs.Lines.{firstToken, endToken, labelKind, labelStatement}
+use Rattle.res_scope.specs.Lines.{firstToken, endToken, labelKind, labelStatement, labelArguments}
 use Rattle.res_scope.specs.Names.{meaningOf}
 use Rattle.res_scope.specs.declared.Meaning.the-variants as meaning
 use Rattle.res_frame_words.specs.Framing.{wordsOf}
 use Rattle.res_rows.specs.Rows.{labelNumber, aOf, rowWith, rowOf, statementTable}
 use Rattle.parse_verdict.specs.Verdict.{Clean}
 use Rattle.thm_acceptance.specs.Faults.{allNameFaults}
-use Rattle.thm_outline.proofs.Rows.{kindOf, partsAt, row-shaped, row-listed, row-few, row-operands, address-marked, callee-some, function-parameters}
+use Rattle.thm_outline.proofs.Rows.{kindOf, partsAt, row-shaped, row-listed, row-few, row-operands, address-marked, callee-some, callee-none, function-parameters}
 use Rattle.thm_statement_rows.proofs.Views.{viewing, Alike, stands-same, shallow-same, few-same}
 use Rattle.thm_statement_rows.proofs.Operands.{Known}
-use Rattle.thm_statement_rows.proofs.Statements.{statement-clean, operands-pass, address-passes, set-passes, goto-passes, calls-pass, forward-passes, shape-passes}
+use Rattle.thm_statement_rows.proofs.Statements.{statement-clean, Called, operands-pass, address-passes, set-passes, goto-passes, calls-pass, forward-passes, shape-passes}
 use Rattle.thm_statement_rows.proofs.Framing.{aimed-passes, framed-passes}
 use Rattle.thm_soundness.proofs.Rows.{few-statements, stand, in-function, few-parameters, back, alike}
 
@@ -44,6 +44,7 @@ pub record Labels (k y : List ℕ) (l : ℕ) (z : List ℕ) (c : ℕ) (h : ℕ �
   pub values : (j : ℕ) → j < l → labelKind y j ≡ 1 → isData (h j .kind) ≡ true
   pub functions : (j : ℕ) → j < l → labelKind y j ≡ 3 → (isFunctionLabel (h j .kind) ≡ true) × (labelNumber z j ≡ labelStatement y j)
   pub places : (j : ℕ) → j < l → labelKind y j ≡ 5 → (h j .kind ≡ 5) × (labelNumber z j ≡ labelStatement y j)
+  pub imports : (j : ℕ) → j < l → labelKind y j ≡ 6 → (h j .kind ≡ 6) × (h j .arguments ≡ labelArguments y j)
   pub callees : (j : ℕ) → j < l → labelKind y j ≡ 3 → (labelStatement y j < c) × (rowAt k (labelStatement y j) .kind ≡ 1)
   pub spots : (j : ℕ) → j < l → labelKind y j ≡ 5 → labelStatement y j < c
 
@@ -54,8 +55,10 @@ Forward same t k y l c h = (r j : ℕ) → r < c → j < l → isCall (kindOf k 
 
 -- a call is no block
 block-not : (e : ℕ) → isCall 3 e ≡ false
-unfolding isCall hasExpression ifEq ifLt ifTrue
-block-not e = refl
+unfolding isCall hasExpression ifLt ifTrue
+block-not e =
+    either-eq (λ (b : Bool). b ≡ false) e 3 _ _ (λ _. refl)
+    (λ _. ifEq-no _ _ (λ d. let z : ⊥ = omega arith in z) ∙ ifEq-no _ _ (λ d. let z : ⊥ = omega arith in z))
 
 call-not : (e v : ℕ) → v ≡ 3 → isCall v e ≡ true → ⊥
 call-not e v q h = true-false (sym h ∙ ap (λ (u : ℕ). isCall u e) q ∙ block-not e)
@@ -105,6 +108,7 @@ module _ (w : Width) (t : List ℕ) (n c l : ℕ) (x y : List ℕ) (long : lengt
         values = lb .values;
         functions = lb .functions;
         places = lb .places;
+        imports = lb .imports;
         callees = lb .callees;
         spots = lb .spots;
         forward = forward;
@@ -117,19 +121,19 @@ module _ (w : Width) (t : List ℕ) (n c l : ℕ) (x y : List ℕ) (long : lengt
       let few₈ = few-parameters w t n c l x y long oh in
       let hc = few-statements w t n c l x y long oh in
       let v = statement-clean same t n (skeletonOf x c) y l c r clean g in
+      let s : Called same t (skeletonOf x c) y l frames z c (rowAt table) h known prog n r g (read r g) v =
+      record { named = λ e. (callee-some w t n c l x y long oh r g e, λ d. call-not _ _ d e); uncalled = callee-none w t n c l x y long oh r g } in
       both-true _ _ (stands-same (rowAt table) (rowAt (skeletonOf x c)) like r ∙ stand w t n c l x y long oh r g)
       (both-true _ _ (shallow-same (rowAt table) (rowAt (skeletonOf x c)) like r ∙ deep r g)
       (both-true _ _ (aimed-passes same t (skeletonOf x c) y l z c (rowAt table) hc few₈ like r g (outside-table r g) (read r g))
       (both-true _ _ (goto-passes same t (skeletonOf x c) y l frames z c (rowAt table) h known prog n r g (read r g) v)
-      (both-true _ _ (calls-pass same t (skeletonOf x c) y l frames z c (rowAt table) h known prog n r g (read r g) v
-      (λ e. (callee-some w t n c l x y long oh r g e, λ d. call-not _ _ d e)) (row-few w t n c l x y long oh r g))
-      (both-true _ _ (shape-passes same t (skeletonOf x c) y l frames z c (rowAt table) h known prog n r g (read r g) v (row-listed w t n c l x y long oh r g) (row-shaped w t n c l x y long oh r g))
+      (both-true _ _ (calls-pass same t (skeletonOf x c) y l frames z c (rowAt table) h known prog n r g (read r g) v s (row-few w t n c l x y long oh r g))
+      (both-true _ _ (shape-passes same t (skeletonOf x c) y l frames z c (rowAt table) h known prog n r g (read r g) v s (row-listed w t n c l x y long oh r g) (row-shaped w t n c l x y long oh r g))
       (both-true _ _ (operands-pass same t (skeletonOf x c) y l frames z c (rowAt table) h known prog n r g (read r g) v
       (λ j a b. let o = row-operands w t n c l x y long oh r g j a b in (o .0, omega (arith, o .1))))
       (both-true _ _ (address-passes same t (skeletonOf x c) y l frames z c (rowAt table) h known prog n r g (read r g) v (λ e. address-marked w t n c l x y long oh r g e .1))
       (both-true _ _ (set-passes same t (skeletonOf x c) y l frames z c (rowAt table) h known prog n r g (read r g) v)
       (both-true _ _ (framed-passes same t (skeletonOf x c) y l z c (rowAt table) hc few₈ like r g (outside-table r g) (read r g))
       (both-true _ _ (few-same (rowAt table) (rowAt (skeletonOf x c)) like r (outside-table r g) (λ e. like .counts r (λ d. absurd (omega arith))) ∙ few r g)
-      (both-true _ _ (forward-passes same t (skeletonOf x c) y l frames z c (rowAt table) h known prog n r g (read r g) v
-      (λ e. (callee-some w t n c l x y long oh r g e, λ d. call-not _ _ d e)))
+      (both-true _ _ (forward-passes same t (skeletonOf x c) y l frames z c (rowAt table) h known prog n r g (read r g) v s)
       refl)))))))))))

@@ -8,20 +8,28 @@ use native.Mathlib.Omega.{arith}
 use lib.Dec.{eqb, ltb}
 use lib.ListN.{length, getD, take, drop, length-take, length-drop, length-replicate}
 use lib.Seq.{getD-take, getD-drop}
-use borrow.Author.Tests.{eq-eqb, ltb-false}
+use native.Mathlib.Nat.{add-zero}
+use borrow.Author.Tests.{eqb-false, ltb-false}
 use Rattle.base_prelude.specs.Lists.{zeros}
 use Rattle.base_limits.specs.declared.Width.{Width}
 use Rattle.parse_lines.specs.Tokens.{valueAt}
-use Rattle.prog_tables.specs.Tests.{allOf}
+use Rattle.base_prelude.proofs.Choice.{either-eq, ifEq-no}
+use Rattle.prog_tables.specs.Tests.{oneOf, allOf}
 use Rattle.prog_tables.specs.Label.{labelAt}
 use Rattle.prog_tables.specs.Canonical.{labelUnusedZero, zeroFrom}
 use Rattle.prog_tables.proofs.Each.{both-true}
-use Rattle.res_labels.specs.Labelling.{outlineWord, labelWords, labelTable, labelName, nameTable}
+use Rattle.res_labels.specs.Labelling.{outlineWord, flagAt, exportedKind, finalKind, finalArguments, labelWords, labelTable, labelName, nameTable}
 use Rattle.res_labels.proofs.Laws.{label-word, labels-behind, name-row, names-behind}
 use Rattle.thm_statement_rows.proofs.Zeros.{below-all, used-or-zero, zeros-at, zeros-zero, overlay-behind}
 
 room : (l m k : ℕ) → l * k ≤ m → l * k ≤ length (zeros m)
 room l m k h = omega (arith, length-replicate {A = ℕ} m 0)
+
+-- an import stays one
+pub import-final : (kind flag : ℕ) → kind ≡ 6 → finalKind kind flag ≡ 6
+unfolding finalKind exportedKind
+import-final kind flag e =
+    either-eq (λ (v : ℕ). v ≡ 6) flag 1 _ _ (λ _. ifEq-no _ _ (λ z. omega (arith, e, z)) ∙ ifEq-no _ _ (λ z. omega (arith, e, z)) ∙ e) (λ _. e)
 
 module _ (w : Width) (t y flags : List ℕ) (l m : ℕ) (h : l * 4 ≤ m) where
   pub labels-zero : zeroFrom (l * 4) (labelTable w t y flags l (zeros m)) ≡ true
@@ -29,10 +37,20 @@ module _ (w : Width) (t y flags : List ℕ) (l m : ℕ) (h : l * 4 ≤ m) where
   labels-zero =
       ap (allOf (λ (x : ℕ). eqb x 0)) (labels-behind w t y flags l (zeros m) (room l m 4 h)) ∙ zeros-zero (l * 4) m
 
-  -- word 2
-  word-unused : (j : ℕ) → j < l → getD (labelTable w t y flags l (zeros m)) (j * 4 + 2) 0 ≡ 0
+  kind-is : (j : ℕ) → j < l → getD (labelTable w t y flags l (zeros m)) (j * 4) 0 ≡ finalKind (outlineWord y j 1) (flagAt flags j)
   unfolding labelWords
-  word-unused j g = label-word w t y flags l (zeros m) (room l m 4 h) j 2 g (omega arith)
+  kind-is j g =
+      ap (λ (i : ℕ). getD (labelTable w t y flags l (zeros m)) i 0) (sym (add-zero (j * 4))) ∙ label-word w t y flags l (zeros m) (room l m 4 h) j 0 g (omega arith)
+
+  -- word 2, but for that of an import
+  word-is : (j : ℕ) → j < l → getD (labelTable w t y flags l (zeros m)) (j * 4 + 2) 0 ≡ finalArguments (outlineWord y j 1) (outlineWord y j 2)
+  unfolding labelWords
+  word-is j g = label-word w t y flags l (zeros m) (room l m 4 h) j 2 g (omega arith)
+
+  word-unused : (j : ℕ) → j < l → oneOf (eqb (getD (labelTable w t y flags l (zeros m)) (j * 4) 0) 6) (eqb (getD (labelTable w t y flags l (zeros m)) (j * 4 + 2) 0) 0) ≡ true
+  unfolding finalArguments
+  word-unused j g =
+      used-or-zero _ _ (λ u. word-is j g ∙ ifEq-no _ _ (λ e. eqb-false _ 6 u (kind-is j g ∙ import-final (outlineWord y j 1) (flagAt flags j) e)))
 
   size-is : (j : ℕ) → j < l → getD (labelTable w t y flags l (zeros m)) (j * 4 + 3) 0 ≡ valueAt t (outlineWord y j 0)
   unfolding labelWords
@@ -61,6 +79,6 @@ module _ (w : Width) (s t y flags : List ℕ) (l m n : ℕ) (h : l * 4 ≤ m) (o
       → labelUnusedZero (labelTable w t y flags l (zeros m)) (nameTable s t y l (zeros n)) j ≡ true
   unfolding labelUnusedZero labelAt
   label-unused j g e =
-      both-true _ _ (eq-eqb _ 0 (word-unused w t y flags l m h j g))
+      both-true _ _ (word-unused w t y flags l m h j g)
       (below-all _ 64 (λ i a. used-or-zero _ _ (λ (u : ltb i (getD (labelTable w t y flags l (zeros m)) (j * 4 + 3) 0) ≡ false).
       byte-unused s t y l n o j i g a (omega (arith, ltb-false i (getD (labelTable w t y flags l (zeros m)) (j * 4 + 3) 0) u, size-is w t y flags l m h j g, e)))))

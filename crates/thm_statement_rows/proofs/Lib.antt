@@ -1,3 +1,4 @@
+pub mod Calls
 pub mod Views
 pub mod Readback
 pub mod Frames

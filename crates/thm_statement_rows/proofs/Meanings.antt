@@ -24,12 +24,12 @@ use Rattle.prog_tables.specs.Label.{Label, isData, isFunctionLabel}
 use Rattle.prog_tables.specs.WellFormed.{labelled, operandGood}
 use Rattle.prog_tables.specs.declared.Operand.{Operand}
 use Rattle.prog_tables.specs.declared.Operand.the-variants.{Constant, Local, Address, AtConstant, AtLocal, AtAddress, Unlisted}
-use Rattle.res_scope.specs.Lines.{firstToken, endToken, labelKind, labelStatement}
+use Rattle.res_scope.specs.Lines.{firstToken, endToken, labelKind, labelStatement, labelArguments}
 use Rattle.res_scope.specs.Names.{lastFrom, letNamed, parameterNamed, letOf, parameterOf, labelOf, labelMeaning, outerMeaning, meaningOf}
 use Rattle.res_scope.specs.declared.Meaning.{Meaning}
 use Rattle.res_scope.specs.declared.Meaning.the-variants as meaning
 use Rattle.res_scope.proofs.Cases.{from-start}
-use Rattle.res_names.specs.Naming.{dataFault, valueFault, setFault, functionFault, calleeFault, placeFault, gotoFault}
+use Rattle.res_names.specs.Naming.{dataFault, valueFault, setFault, importFault, functionFault, calleeFault, placeFault, gotoFault}
 use Rattle.res_rows.specs.Rows.{labelNumber, wordOfLet, wordOfParameter, localWord, labelTarget, plainOperand, atOperand, constantOperand, tokenOperand, addressConstant, addressOperand}
 use Rattle.thm_statement_rows.proofs.Views.{Alike, seen-same}
 
@@ -40,13 +40,25 @@ module _ (t : List ℕ) (n : ℕ) (k y : List ℕ) (r i : ℕ) where
   unfolding dataFault
   data-kind j = either-eq (λ (v : ℕ). none ≤ v → labelKind y j ≡ 1) (labelKind y j) 1 _ _ (λ e _. e) (λ _ h. no-key t n i 11 (omega arith) h)
 
-  pub function-good : (count j : ℕ) → none ≤ functionFault t n k y i count j → (labelKind y j ≡ 3) × (rowAt k (labelStatement y j) .b ≡ count)
-  unfolding functionFault
-  function-good count j =
-      either-eq (λ (v : ℕ). none ≤ v → (labelKind y j ≡ 3) × (rowAt k (labelStatement y j) .b ≡ count)) (labelKind y j) 3 _ _
-      (λ e. either-eq (λ (v : ℕ). none ≤ v → (labelKind y j ≡ 3) × (rowAt k (labelStatement y j) .b ≡ count)) (rowAt k (labelStatement y j) .b) count _ _
+  -- a function with its parameter count, or an imported one with its argument count
+  abbrev pub Callable : ℕ → ℕ → Type 0
+  Callable count j = ((labelKind y j ≡ 3) × (rowAt k (labelStatement y j) .b ≡ count)) ⊎ ((labelKind y j ≡ 6) × (labelArguments y j ≡ count))
+
+  import-good : (count j : ℕ) → none ≤ importFault t n y i count j → (labelKind y j ≡ 6) × (labelArguments y j ≡ count)
+  unfolding importFault
+  import-good count j =
+      either-eq (λ (v : ℕ). none ≤ v → (labelKind y j ≡ 6) × (labelArguments y j ≡ count)) (labelKind y j) 6 _ _
+      (λ e. either-eq (λ (v : ℕ). none ≤ v → (labelKind y j ≡ 6) × (labelArguments y j ≡ count)) (labelArguments y j) count _ _
       (λ q _. (e, q)) (λ _ h. no-key t n i 13 (omega arith) h))
       (λ _ h. no-key t n i 11 (omega arith) h)
+
+  pub function-good : (count j : ℕ) → none ≤ functionFault t n k y i count j → Callable count j
+  unfolding functionFault
+  function-good count j =
+      either-eq (λ (v : ℕ). none ≤ v → Callable count j) (labelKind y j) 3 _ _
+      (λ e. either-eq (λ (v : ℕ). none ≤ v → Callable count j) (rowAt k (labelStatement y j) .b) count _ _
+      (λ q _. inl (e, q)) (λ _ h. no-key t n i 13 (omega arith) h))
+      (λ _ h. inr (import-good count j h))
 
   pub place-good : (j : ℕ) → none ≤ placeFault t n k y r i j
       → (labelKind y j ≡ 5) × (rowAt k (labelStatement y j) .func ≡ rowAt k r .func) × (rowAt k (labelStatement y j) .scope ≡ rowAt k r .scope)

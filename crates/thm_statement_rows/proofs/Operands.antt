@@ -9,7 +9,8 @@ use native.Mathlib.Decide.{decLt, ℕ-discrete}
 use native.Mathlib.Omega.{arith}
 use lib.Dec.{eqb, ltb, leb}
 use lib.ListN.{length, getD}
-use borrow.Author.Tests.{eq-eqb, ne-eqb, lt-ltb, le-leb}
+use mathlib.Core.Logic.{_⊎_, inl, inr}
+use borrow.Author.Tests.{eq-eqb, ne-eqb, eqb-true, lt-ltb, le-leb}
 use Rattle.base_prelude.specs.Choice.{pick, ifLt, ifEq, ifTrue}
 use Rattle.base_prelude.specs.Fault.{none}
 use Rattle.base_prelude.proofs.Choice.{either-eq, either-true, ifEq-yes, ifEq-no, true-false}
@@ -25,15 +26,15 @@ use Rattle.prog_tables.specs.Faults.{addressListed}
 use Rattle.prog_tables.specs.WellFormed.{labelled, operandGood}
 use Rattle.prog_tables.specs.declared.Operand.{Operand}
 use Rattle.prog_tables.specs.declared.Operand.the-variants.{Constant, Local, Address, AtConstant, AtLocal, AtAddress, Unlisted}
-use Rattle.res_scope.specs.Lines.{firstToken, endToken, labelKind, labelStatement}
+use Rattle.res_scope.specs.Lines.{firstToken, endToken, labelKind, labelStatement, labelArguments}
 use Rattle.res_scope.specs.Names.{letNamed, meaningOf}
 use Rattle.res_scope.specs.Parts.{partsOf}
 use Rattle.res_scope.specs.declared.Meaning.{Meaning}
 use Rattle.res_scope.specs.declared.Meaning.the-variants as meaning
 use Rattle.res_names.specs.Naming.{dataFault, valueFault, setFault, functionFault, calleeFault, placeFault, gotoFault}
-use Rattle.res_rows.specs.Rows.{labelNumber, wordOfLet, wordOfParameter, localWord, labelTarget, plainOperand, atOperand, constantOperand, tokenOperand, addressConstant, addressOperand, operandsFrom}
+use Rattle.res_rows.specs.Rows.{labelNumber, wordOfLet, wordOfParameter, localWord, labelTarget, calledLabel, calleeTarget, isImported, plainOperand, atOperand, constantOperand, tokenOperand, addressConstant, addressOperand, operandsFrom}
 use Rattle.thm_statement_rows.proofs.Views.{viewing, Alike, seen-same}
-use Rattle.thm_statement_rows.proofs.Meanings.{IsLet, IsParameter, From, meaning-from, data-kind, function-good, place-good}
+use Rattle.thm_statement_rows.proofs.Meanings.{IsLet, IsParameter, From, meaning-from, data-kind, Callable, function-good, place-good}
 use Rattle.prog_tables.proofs.Each.{some-at}
 use Rattle.prog_tables.specs.Program.{Program}
 
@@ -58,6 +59,7 @@ pub record Known (same : ℕ → ℕ → Bool) (t k y : List ℕ) (l : ℕ) (w z
   pub values : (j : ℕ) → j < l → labelKind y j ≡ 1 → isData (h j .kind) ≡ true
   pub functions : (j : ℕ) → j < l → labelKind y j ≡ 3 → (isFunctionLabel (h j .kind) ≡ true) × (labelNumber z j ≡ labelStatement y j)
   pub places : (j : ℕ) → j < l → labelKind y j ≡ 5 → (h j .kind ≡ 5) × (labelNumber z j ≡ labelStatement y j)
+  pub imports : (j : ℕ) → j < l → labelKind y j ≡ 6 → (h j .kind ≡ 6) × (h j .arguments ≡ labelArguments y j)
   -- what it names
   pub callees : (j : ℕ) → j < l → labelKind y j ≡ 3 → (labelStatement y j < c) × (rowAt k (labelStatement y j) .kind ≡ 1)
   pub spots : (j : ℕ) → j < l → labelKind y j ≡ 5 → labelStatement y j < c
@@ -112,6 +114,14 @@ module _ (same : ℕ → ℕ → Bool) (t k y : List ℕ) (l : ℕ) (w z : List 
       some-at (λ i. both (p (h i .kind)) (eqb (h i .number) (labelNumber z j))) l j g
       (both-true (p (h j .kind)) (eqb (h j .number) (labelNumber z j)) e (eq-eqb (h j .number) (labelNumber z j) (q .numbers j g)))
 
+  called-function : (j : ℕ) → labelKind y j ≡ 3 → calledLabel y z j ≡ labelNumber z j
+  unfolding calledLabel
+  called-function j e = ifEq-no _ _ (λ d. let v : ⊥ = omega (arith, e, d) in v)
+
+  called-import : (j : ℕ) → labelKind y j ≡ 6 → calledLabel y z j ≡ j
+  unfolding calledLabel
+  called-import j e = ifEq-yes _ _ e
+
   module _ (prog : Program) (n r i : ℕ) (l₀ : r < c) where
     pub plain-good : (m : Meaning) → From same k y l r i m → none ≤ valueFault t n y i m → operandGood (viewing prog f c h l (prog .dataLength)) r (plainOperand w z m) ≡ true
     unfolding valueFault plainOperand operandGood
@@ -143,17 +153,39 @@ module _ (same : ℕ → ℕ → Bool) (t k y : List ℕ) (l : ℕ) (w z : List 
     set-scope meaning.Unknown x g = no-key t n i 10 (omega arith) g
 
     -- "`call` and `tail-call` take a function label with its parameter count."
-    pub callee-good : (count : ℕ) (m : Meaning) → From same k y l r i m → none ≤ calleeFault t n k y i count m
-        → (j : ℕ) × (j < l) × (labelKind y j ≡ 3) × (labelTarget z m ≡ labelStatement y j) × (rowAt k (labelStatement y j) .b ≡ count) × (labelled h l isFunctionLabel (labelTarget z m) ≡ true)
-        × (m ≡ meaning.Label j)
-    unfolding calleeFault labelTarget
-    callee-good count (meaning.Let m) x g = no-key t n i 11 (omega arith) g
-    callee-good count (meaning.Parameter j) x g = no-key t n i 11 (omega arith) g
-    callee-good count (meaning.Label j) x g =
-        let d = function-good t n k y r i count j g in
-        let v = q .functions j x (d .0) in
-        (j, x, d .0, v .1, d .1, label-named isFunctionLabel j x (v .0), refl)
-    callee-good count meaning.Unknown x g = no-key t n i 10 (omega arith) g
+    pub callee-good : (count : ℕ) (m : Meaning) → From same k y l r i m → none ≤ calleeFault t n k y i count m → isImported y m ≡ false
+        → (j : ℕ) × (j < l) × (labelKind y j ≡ 3) × (calleeTarget y z m ≡ labelStatement y j) × (rowAt k (labelStatement y j) .b ≡ count)
+        × (labelled h l isFunctionLabel (calleeTarget y z m) ≡ true) × (m ≡ meaning.Label j)
+    unfolding calleeFault calleeTarget isImported
+    callee-good count (meaning.Let m) x g o = no-key t n i 11 (omega arith) g
+    callee-good count (meaning.Parameter j) x g o = no-key t n i 11 (omega arith) g
+    callee-good count (meaning.Label j) x g o = by (function-good t n k y r i count j g)
+      where
+        by : Callable t n k y r i count j
+            → (e : ℕ) × (e < l) × (labelKind y e ≡ 3) × (calleeTarget y z (meaning.Label j) ≡ labelStatement y e) × (rowAt k (labelStatement y e) .b ≡ count)
+            × (labelled h l isFunctionLabel (calleeTarget y z (meaning.Label j)) ≡ true) × (meaning.Label j ≡ meaning.Label e)
+        by (inl d) =
+            let v = q .functions j x (d .0) in
+            let e = called-function j (d .0) in
+            (j, x, d .0, e ∙ v .1, d .1, ap (labelled h l isFunctionLabel) e ∙ label-named isFunctionLabel j x (v .0), refl)
+        by (inr d) = true-false (sym (eq-eqb _ _ (d .0)) ∙ o)
+    callee-good count meaning.Unknown x g o = no-key t n i 10 (omega arith) g
+
+    -- an imported name is called by its label row, with its argument count
+    pub import-good : (count : ℕ) (m : Meaning) → From same k y l r i m → none ≤ calleeFault t n k y i count m → isImported y m ≡ true
+        → (j : ℕ) × (j < l) × (calleeTarget y z m ≡ j) × (h j .kind ≡ 6) × (h j .arguments ≡ count)
+    unfolding calleeFault calleeTarget isImported
+    import-good count (meaning.Let m) x g o = true-false (sym o)
+    import-good count (meaning.Parameter j) x g o = true-false (sym o)
+    import-good count (meaning.Label j) x g o = by (function-good t n k y r i count j g)
+      where
+        six : labelKind y j ≡ 6
+        six = eqb-true _ _ o
+
+        by : Callable t n k y r i count j → (e : ℕ) × (e < l) × (calleeTarget y z (meaning.Label j) ≡ e) × (h e .kind ≡ 6) × (h e .arguments ≡ count)
+        by (inl d) = let e : ⊥ = omega (arith, d .0, six) in absurd e
+        by (inr d) = let v = q .imports j x six in (j, x, called-import j six, v .0, v .1 ∙ d .1)
+    import-good count meaning.Unknown x g o = true-false (sym o)
 
     -- "`goto` takes a statement's label in the same function and innermost block."
     pub goto-good : (m : Meaning) → From same k y l r i m → none ≤ gotoFault t n k y r i m

@@ -14,9 +14,9 @@ use Rattle.base_prelude.specs.Choice.{ifLt, ifEq}
 use Rattle.base_prelude.specs.Lists.{zeros}
 use Rattle.base_prelude.proofs.Choice.{ifEq-yes, ifEq-no, ifLt-no, ifTrue-no, true-false}
 use Rattle.prog_tables.specs.Tests.{oneOf, allOf}
-use Rattle.prog_tables.specs.Statement.{Row, operandKind, operandNumber, hasExpression, isCall, usedBy, rowAt, rowFrom, slotWords, encode}
+use Rattle.prog_tables.specs.Statement.{Row, operandKind, operandNumber, hasExpression, isCallRow, isCall, isImport, usedBy, rowAt, rowFrom, slotWords, encode}
 use Rattle.prog_tables.specs.Nesting.{hasTarget}
-use Rattle.prog_tables.specs.Faults.{isCallRow, hasWord}
+use Rattle.prog_tables.specs.Faults.{hasWord}
 use Rattle.prog_tables.specs.WellFormed.{hasOperands}
 use Rattle.prog_tables.specs.Canonical.{usesWord, unusedZero, zeroFrom}
 use Rattle.prog_tables.specs.declared.Operand.{Operand}
@@ -26,7 +26,8 @@ use Rattle.res_frame_words.proofs.Laws.{word-at}
 use Rattle.res_scope.specs.Lines.{firstToken, endToken}
 use Rattle.res_scope.specs.Parts.{partsOf}
 use Rattle.res_scope.specs.declared.Parts.{Parts}
-use Rattle.res_rows.specs.Rows.{operandsFrom, aOf, bOf, calleeOf, addressOf, rowWith, rowOf, statementTable}
+use Rattle.res_rows.specs.Rows.{operandsFrom, aOf, bOf, exprOf, calleeOf, addressOf, rowWith, rowOf, statementTable}
+use Rattle.thm_statement_rows.proofs.Calls.{used-expr, quiet-callee, plain-expr}
 use Rattle.thm_statement_rows.proofs.Readback.{rows, rows-long, rows-split, encode-long, table-is, table-behind}
 use Rattle.thm_statement_rows.proofs.Zeros.{below-all, used-or-zero, neither-left, neither-right, zeros-zero}
 
@@ -37,7 +38,7 @@ pub record Bare (x : Row) : Type 0 where
   pub words : (x .kind ≡ 1 → ⊥) → hasWord (x .kind) ≡ false → hasTarget (x .kind) ≡ false → (x .kind ≡ 10 → ⊥) → x .a ≡ 0
   pub owns : (x .kind ≡ 1 → ⊥) → (x .kind ≡ 3 → ⊥) → x .b ≡ 0
   pub plain : oneOf (hasExpression (x .kind)) (isCallRow (x .kind)) ≡ false → x .expr ≡ 0
-  pub uncalled : (x .kind ≡ 3 → ⊥) → isCall (x .kind) (x .expr) ≡ false → x .callee ≡ 0
+  pub uncalled : (x .kind ≡ 3 → ⊥) → isCall (x .kind) (x .expr) ≡ false → isImport (x .kind) (x .expr) ≡ false → x .callee ≡ 0
   pub idle : hasOperands (x .kind) ≡ false → x .count ≡ 0
   pub unlisted : (x .kind ≡ 7 → ⊥) → x .address ≡ Unlisted
   pub few : length (x .operands) ≤ usedBy (x .kind) (x .expr) (x .count)
@@ -76,7 +77,8 @@ module _ (x : Row) (b : Bare x) where
       b .owns (eqb-false (x .kind) 1 (neither-left _ _ h)) (eqb-false (x .kind) 3 (neither-right (eqb (x .kind) 1) _ h))
   encoded-unused (suc (suc (suc (suc (suc (suc zero)))))) h = b .plain h
   encoded-unused (suc (suc (suc (suc (suc (suc (suc zero))))))) h =
-      b .uncalled (eqb-false (x .kind) 3 (neither-left _ _ h)) (neither-right (eqb (x .kind) 3) _ h)
+      let q = neither-right (eqb (x .kind) 3) _ h in
+      b .uncalled (eqb-false (x .kind) 3 (neither-left _ _ h)) (neither-left (isCall (x .kind) (x .expr)) _ q) (neither-right (isCall (x .kind) (x .expr)) _ q)
   encoded-unused (suc (suc (suc (suc (suc (suc (suc (suc zero)))))))) h = b .idle h
   encoded-unused (suc (suc (suc (suc (suc (suc (suc (suc (suc zero))))))))) h = ap operandKind (b .unlisted (eqb-false (x .kind) 7 h))
   encoded-unused (suc (suc (suc (suc (suc (suc (suc (suc (suc (suc zero)))))))))) h = ap operandNumber (b .unlisted (eqb-false (x .kind) 7 h))
@@ -147,17 +149,28 @@ module _ (same : ℕ → ℕ → Bool) (t k y : List ℕ) (l : ℕ) (z : List �
   unfolding bOf
   b-none a b = ifEq-no _ _ a ∙ ifEq-no _ _ b
 
-  callee-none : (kind ≡ 3 → ⊥) → isCall kind (p .expr) ≡ false → calleeOf same k y l z r kind (p .callee) ≡ 0
+  abbrev expr : ℕ
+  expr = exprOf same k y l r (p .expr) (p .callee)
+
+  callee-none : (kind ≡ 3 → ⊥) → isCall kind expr ≡ false → isImport kind expr ≡ false → calleeOf same k y l z r kind (p .callee) ≡ 0
   unfolding calleeOf
-  callee-none a b = ifEq-no _ _ a ∙ ifEq-yes _ _ (q .uncalled b)
+  callee-none a b d = ifEq-no _ _ a ∙ ifEq-yes _ _ (quiet-callee same k y l r kind p (q .uncalled) b d)
+
+  expr-none : oneOf (hasExpression kind) (isCallRow kind) ≡ false → expr ≡ 0
+  expr-none h = plain-expr same k y l r kind p (q .uncalled) h ∙ q .plain h
 
   address-none : (kind ≡ 7 → ⊥) → addressOf same t k y l w z r kind (firstToken k r + 1) ≡ Unlisted
   unfolding addressOf
   address-none a = ifEq-no _ _ a
 
-  operands-few : length (operandsFrom (min (next - p .first) 8) same t k y l w z r (p .first)) ≤ usedBy kind (p .expr) (next - p .first)
+  operands-few : length (operandsFrom (min (next - p .first) 8) same t k y l w z r (p .first)) ≤ usedBy kind expr (next - p .first)
   operands-few =
-      omega (arith, operands-long (min (next - p .first) 8) same t k y l w z r (p .first), few-used kind (p .expr) (next - p .first) (q .idle) (q .shaped))
+      omega (
+        arith,
+        operands-long (min (next - p .first) 8) same t k y l w z r (p .first),
+        few-used kind (p .expr) (next - p .first) (q .idle) (q .shaped),
+        used-expr same k y l r kind p (q .uncalled) (next - p .first),
+      )
 
   row-bare : Bare (rowOf same t k y l (wordsOf (rowAt k) c) z c r)
   unfolding rowOf rowWith
@@ -165,7 +178,7 @@ module _ (same : ℕ → ℕ → Bool) (t k y : List ℕ) (l : ℕ) (z : List �
       record {
         words = a-none;
         owns = b-none;
-        plain = q .plain;
+        plain = expr-none;
         uncalled = callee-none;
         idle = q .idle;
         unlisted = address-none;

@@ -16,11 +16,11 @@ use Rattle.base_prelude.proofs.Choice.{either-eq, either-true, ifEq-yes, ifEq-n
 use Rattle.parse_lines.specs.Tokens.{kindAt, valueAt}
 use Rattle.prog_tables.proofs.Each.{both-left, both-right, both-true}
 use Rattle.prog_tables.specs.Tests.{both, oneOf, given, all, allOf, someBelow}
-use Rattle.prog_tables.specs.Statement.{Row, rowAt, isCall, hasExpression, usedBy}
+use Rattle.prog_tables.specs.Statement.{Row, rowAt, isCall, isImport, hasExpression, usedBy}
 use Rattle.prog_tables.specs.Frames.{inScope}
 use Rattle.prog_tables.specs.Label.{Label, isData, isFunctionLabel}
 use Rattle.prog_tables.specs.Faults.{addressListed, expressionFault}
-use Rattle.prog_tables.specs.WellFormed.{labelled, jumps, calls, forwardCalls, shaped, hasOperands, operandGood, operandsGood, addressGood, setsLocal}
+use Rattle.prog_tables.specs.WellFormed.{labelled, jumps, functionCalls, importCalls, calls, forwardCalls, shaped, hasOperands, operandGood, operandsGood, addressGood, setsLocal}
 use Rattle.prog_tables.specs.declared.Operand.{Operand}
 use Rattle.prog_tables.specs.declared.Operand.the-variants.{Constant, Local, Address, AtConstant, AtLocal, AtAddress, Unlisted}
 use Rattle.prog_tables.specs.Program.{Program}
@@ -31,9 +31,10 @@ use Rattle.res_scope.specs.declared.Parts.{Parts}
 use Rattle.res_names.specs.Naming.{valueFault, setFault, calleeFault, gotoFault}
 use Rattle.parse_verdict.specs.Verdict.{All, Clean}
 use Rattle.thm_acceptance.specs.Faults.{operandFault, operandFaults, calleeFaults, declaredFaults, headFaults, bodyFaults, statementFaults, statementsFaults, labelFaults, allNameFaults}
-use Rattle.res_rows.specs.Rows.{labelTarget, localWord, plainOperand, atOperand, constantOperand, tokenOperand, addressConstant, addressOperand, operandsFrom, aOf, calleeOf, addressOf, rowWith, rowOf}
+use Rattle.res_rows.specs.Rows.{labelTarget, calleeTarget, isImported, exprOf, localWord, plainOperand, atOperand, constantOperand, tokenOperand, addressConstant, addressOperand, operandsFrom, aOf, calleeOf, addressOf, rowWith, rowOf}
 use Rattle.thm_statement_rows.proofs.Meanings.{From, meaning-from}
-use Rattle.thm_statement_rows.proofs.Operands.{Known, plain-good, at-good, plain-listed, set-scope, label-named, callee-good, goto-good}
+use Rattle.thm_statement_rows.proofs.Operands.{Known, plain-good, at-good, plain-listed, set-scope, label-named, callee-good, import-good, goto-good}
+use Rattle.thm_statement_rows.proofs.Calls.{used-expr, fault-expr, function-call, import-call, parts-plain}
 use Rattle.thm_statement_rows.proofs.Views.{viewing}
 
 -- q where the test holds
@@ -148,7 +149,7 @@ module _ (same : ℕ → ℕ → Bool) (t k y : List ℕ) (l : ℕ) (w z : List 
     unfolding rowOf rowWith
     count-is = ap (λ (v : Row). v .count) back
 
-    expr-is : f r .expr ≡ p .expr
+    expr-is : f r .expr ≡ exprOf same k y l r (p .expr) (p .callee)
     unfolding rowOf rowWith
     expr-is = ap (λ (v : Row). v .expr) back
 
@@ -221,58 +222,80 @@ module _ (same : ℕ → ℕ → Bool) (t k y : List ℕ) (l : ℕ) (w z : List 
         (both-true _ _ (eq-eqb (f (f r .a) .scope) (f r .scope) (q .alike .scopes (f r .a) ∙ ap (λ (i : ℕ). rowAt k i .scope) b ∙ m .5 ∙ sym (q .alike .scopes r)))
         (both-true _ _ (ap (labelled h l (λ v. eqb v 5)) a ∙ m .6) refl))))
 
-    calling : isCall (f r .kind) (f r .expr) ≡ true → isCall kind (p .expr) ≡ true
-    calling e = ap₂ isCall (sym kind-is) (sym expr-is) ∙ e
+    -- the callee of a call: where it is named, and what the label is; a row that calls nothing names nothing
+    pub record Called : Type 0 where
+      pub named : isCall kind (p .expr) ≡ true → (p .callee ≡ 0 → ⊥) × (kind ≡ 3 → ⊥)
+      pub uncalled : isCall kind (p .expr) ≡ false → p .callee ≡ 0
 
-    -- the callee of a call: where it is named, and what the label is
-    abbrev Called : Type 0
-    Called = isCall kind (p .expr) ≡ true → (p .callee ≡ 0 → ⊥) × (kind ≡ 3 → ⊥)
+    module _ (s : Called) where
+      target-is : isCall kind (p .expr) ≡ true → f r .callee ≡ calleeTarget y z (meaningOf same k y l r (p .callee))
+      unfolding calleeOf
+      target-is g = callee-is ∙ ifEq-no _ _ (s .named g .1) ∙ ifEq-no _ _ (s .named g .0)
 
-    target-is : Called → isCall kind (p .expr) ≡ true → f r .callee ≡ labelTarget z (meaningOf same k y l r (p .callee))
-    unfolding calleeOf
-    target-is s g = callee-is ∙ ifEq-no _ _ (s g .1) ∙ ifEq-no _ _ (s g .0)
+      callee-sound : isCall kind (p .expr) ≡ true → none ≤ calleeFault t n k y (p .callee) (next - p .first) (meaningOf same k y l r (p .callee))
+      unfolding calleeFaults
+      callee-sound g = subst Clean (ifEq-no _ _ (s .named g .0)) callee-clean .0
 
-    callee-sound : Called → isCall kind (p .expr) ≡ true → none ≤ calleeFault t n k y (p .callee) (next - p .first) (meaningOf same k y l r (p .callee))
-    unfolding calleeFaults
-    callee-sound s g = subst Clean (ifEq-no _ _ (s g .0)) callee-clean .0
+      -- a call of a function: its parts are a call, and its name is not imported
+      calling : isCall (f r .kind) (f r .expr) ≡ true → (isCall kind (p .expr) ≡ true) × (isImported y (meaningOf same k y l r (p .callee)) ≡ false)
+      calling e =
+          let g = function-call same k y l r kind p (s .uncalled) (ap₂ isCall (sym kind-is) (sym expr-is) ∙ e) in (g .0, g .1 (s .named (g .0) .0))
 
-    -- "`call` and `tail-call` take a function label with its parameter count."
-    pub calls-pass : Called → next - p .first ≤ 8 → calls (viewing prog f c h l (prog .dataLength)) r ≡ true
-    unfolding calls all
-    calls-pass s few =
-        given-true (isCall (f r .kind) (f r .expr)) _ (λ e.
-        let g = calling e in
-        let m = callee-good same t k y l w z c f h q prog n r (p .callee) l₀ (next - p .first) (meaningOf same k y l r (p .callee)) (meaning-from same k y l r (p .callee)) (callee-sound s g) in
-        let a : f r .callee ≡ labelTarget z (meaningOf same k y l r (p .callee)) = target-is s g in
-        let b : f r .callee ≡ labelStatement y (m .0) = a ∙ m .3 in
-        let o = q .callees (m .0) (m .1) (m .2) in
-        let v : f (f r .callee) .kind ≡ 1 = q .alike .kinds (f r .callee) ∙ ap (λ (i : ℕ). rowAt k i .kind) b ∙ o .1 in
-        let u : f (f r .callee) .b ≡ f r .count = q .alike .counts (f r .callee) (λ d. absurd (omega (arith, v))) ∙ ap (λ (i : ℕ). rowAt k i .b) b ∙ m .4 ∙ sym count-is in
-        both-true _ _ (lt-ltb (f r .callee) c (omega (arith, b, o .0)))
-        (both-true _ _ (eq-eqb (f (f r .callee) .kind) 1 v)
-        (both-true _ _ (eq-eqb (f (f r .callee) .b) (f r .count) u)
-        (both-true _ _ (le-leb (f r .count) 8 (omega (arith, few, count-is)))
-        (both-true _ _ (ap (labelled h l isFunctionLabel) a ∙ m .5) refl)))))
+      -- "`call` and `tail-call` take a function label with its parameter count."
+      functions-pass : next - p .first ≤ 8 → functionCalls (viewing prog f c h l (prog .dataLength)) r ≡ true
+      unfolding functionCalls all
+      functions-pass few =
+          given-true (isCall (f r .kind) (f r .expr)) _ (λ e.
+          let g = calling e in
+          let m = callee-good same t k y l w z c f h q prog n r (p .callee) l₀ (next - p .first) (meaningOf same k y l r (p .callee)) (meaning-from same k y l r (p .callee)) (callee-sound (g .0)) (g .1) in
+          let a : f r .callee ≡ calleeTarget y z (meaningOf same k y l r (p .callee)) = target-is (g .0) in
+          let b : f r .callee ≡ labelStatement y (m .0) = a ∙ m .3 in
+          let o = q .callees (m .0) (m .1) (m .2) in
+          let v : f (f r .callee) .kind ≡ 1 = q .alike .kinds (f r .callee) ∙ ap (λ (i : ℕ). rowAt k i .kind) b ∙ o .1 in
+          let u : f (f r .callee) .b ≡ f r .count = q .alike .counts (f r .callee) (λ d. absurd (omega (arith, v))) ∙ ap (λ (i : ℕ). rowAt k i .b) b ∙ m .4 ∙ sym count-is in
+          both-true _ _ (lt-ltb (f r .callee) c (omega (arith, b, o .0)))
+          (both-true _ _ (eq-eqb (f (f r .callee) .kind) 1 v)
+          (both-true _ _ (eq-eqb (f (f r .callee) .b) (f r .count) u)
+          (both-true _ _ (le-leb (f r .count) 8 (omega (arith, few, count-is)))
+          (both-true _ _ (ap (labelled h l isFunctionLabel) a ∙ m .5) refl)))))
 
-    -- a forward call is by a label that is not exported
-    pub forward-passes : Called → forwardCalls (viewing prog f c h l (prog .dataLength)) r ≡ true
-    unfolding forwardCalls
-    forward-passes s =
-        given-true (both (isCall (f r .kind) (f r .expr)) (ltb r (f r .callee))) _ (λ e.
-        let g = calling (both-left (isCall (f r .kind) (f r .expr)) (ltb r (f r .callee)) e) in
-        let m = callee-good same t k y l w z c f h q prog n r (p .callee) l₀ (next - p .first) (meaningOf same k y l r (p .callee)) (meaning-from same k y l r (p .callee)) (callee-sound s g) in
-        let a : f r .callee ≡ labelStatement y (m .0) = target-is s g ∙ m .3 in
-        let b : r < labelStatement y (m .0) = omega (arith, a, ltb-true r (f r .callee) (both-right (isCall (f r .kind) (f r .expr)) (ltb r (f r .callee)) e)) in
-        let d : h (m .0) .kind ≡ 3 = q .forward r (m .0) l₀ (m .1) g (m .6) (m .2) b in
-        ap (labelled h l (λ v. eqb v 3)) (a ∙ sym (q .functions (m .0) (m .1) (m .2) .1)) ∙ label-named same t k y l w z c f h q (λ v. eqb v 3) (m .0) (m .1) (eq-eqb _ _ d))
+      -- "a call to such a name", with its argument count
+      imports-pass : next - p .first ≤ 8 → importCalls (viewing prog f c h l (prog .dataLength)) r ≡ true
+      unfolding importCalls all
+      imports-pass few =
+          given-true (isImport (f r .kind) (f r .expr)) _ (λ e.
+          let g = import-call same k y l r kind p (s .uncalled) (parts-plain t kind first next) (ap₂ isImport (sym kind-is) (sym expr-is) ∙ e) in
+          let m = import-good same t k y l w z c f h q prog n r (p .callee) l₀ (next - p .first) (meaningOf same k y l r (p .callee)) (meaning-from same k y l r (p .callee)) (callee-sound (g .1 .1)) (g .1 .0) in
+          let a : f r .callee ≡ m .0 = target-is (g .1 .1) ∙ m .2 in
+          both-true _ _ (lt-ltb (f r .callee) l (omega (arith, a, m .1)))
+          (both-true _ _ (eq-eqb (h (f r .callee) .kind) 6 (ap (λ (i : ℕ). h i .kind) a ∙ m .3))
+          (both-true _ _ (eq-eqb (h (f r .callee) .arguments) (f r .count) (ap (λ (i : ℕ). h i .arguments) a ∙ m .4 ∙ sym count-is))
+          (both-true _ _ (le-leb (f r .count) 8 (omega (arith, few, count-is))) refl))))
 
-    -- as many operands as the expression or statement takes
-    pub shape-passes : expressionFault kind (p .expr) ≡ false → (hasOperands kind ≡ true → usedBy kind (p .expr) (next - p .first) ≡ next - p .first)
-        → shaped f r ≡ true
-    unfolding shaped
-    shape-passes a b =
-        both-true _ _
-        (ap not (ap₂ (λ (k e : ℕ). expressionFault k e) kind-is expr-is ∙ a))
-        (given-true (hasOperands (f r .kind)) _ (λ e.
-        eq-eqb (f r .count) (usedBy (f r .kind) (f r .expr) (f r .count))
-        (count-is ∙ sym (b (ap hasOperands (sym kind-is) ∙ e)) ∙ sym (used-same (f r .kind) kind (f r .expr) (p .expr) (f r .count) (next - p .first) kind-is expr-is count-is))))
+      pub calls-pass : next - p .first ≤ 8 → calls (viewing prog f c h l (prog .dataLength)) r ≡ true
+      unfolding calls
+      calls-pass few = both-true _ _ (functions-pass few) (imports-pass few)
+
+      -- a forward call is by a label that is not exported
+      pub forward-passes : forwardCalls (viewing prog f c h l (prog .dataLength)) r ≡ true
+      unfolding forwardCalls
+      forward-passes =
+          given-true (both (isCall (f r .kind) (f r .expr)) (ltb r (f r .callee))) _ (λ e.
+          let g = calling (both-left (isCall (f r .kind) (f r .expr)) (ltb r (f r .callee)) e) in
+          let m = callee-good same t k y l w z c f h q prog n r (p .callee) l₀ (next - p .first) (meaningOf same k y l r (p .callee)) (meaning-from same k y l r (p .callee)) (callee-sound (g .0)) (g .1) in
+          let a : f r .callee ≡ labelStatement y (m .0) = target-is (g .0) ∙ m .3 in
+          let b : r < labelStatement y (m .0) = omega (arith, a, ltb-true r (f r .callee) (both-right (isCall (f r .kind) (f r .expr)) (ltb r (f r .callee)) e)) in
+          let d : h (m .0) .kind ≡ 3 = q .forward r (m .0) l₀ (m .1) (g .0) (m .6) (m .2) b in
+          ap (labelled h l (λ v. eqb v 3)) (a ∙ sym (q .functions (m .0) (m .1) (m .2) .1)) ∙ label-named same t k y l w z c f h q (λ v. eqb v 3) (m .0) (m .1) (eq-eqb _ _ d))
+
+      -- as many operands as the expression or statement takes
+      pub shape-passes : expressionFault kind (p .expr) ≡ false → (hasOperands kind ≡ true → usedBy kind (p .expr) (next - p .first) ≡ next - p .first)
+          → shaped f r ≡ true
+      unfolding shaped
+      shape-passes a b =
+          both-true _ _
+          (ap not (ap₂ (λ (k e : ℕ). expressionFault k e) kind-is expr-is ∙ fault-expr same k y l r kind p (s .uncalled) a))
+          (given-true (hasOperands (f r .kind)) _ (λ e.
+          eq-eqb (f r .count) (usedBy (f r .kind) (f r .expr) (f r .count))
+          (count-is ∙ sym (b (ap hasOperands (sym kind-is) ∙ e)) ∙ sym (used-expr same k y l r kind p (s .uncalled) (next - p .first))
+          ∙ sym (used-same (f r .kind) kind (f r .expr) (exprOf same k y l r (p .expr) (p .callee)) (f r .count) (next - p .first) kind-is expr-is count-is))))

@@ -87,7 +87,7 @@ module _ (t : List ℕ) (c : ℕ) (r : Machine) (st m : List ℕ) where
   module _ (b : Bool) (ws : List ℕ) (k : ℕ) (d : Calls (rowAt t (r .next)) c) (e : k ≡ min (rowAt t (r .next) .count) 8)
       (u : wordsIn b ws k ≡ readAll Bits32 st (r .frame) m (take k (slots t (r .next * 27)))) where
     v : wordsIn b ws k ≡ argumentsOf (rowsAlone t c) (world r st m)
-    v = arguments-are t c r st m b ws k d e u
+    v = arguments-are t c r st m b ws k (d .used) e u
 
     pub call-good : (o : Outcome) (st′ : List ℕ) → b ≡ true → left o st′ m ≡ after (callingWith (wordsIn true ws k)) t c r st m
         → left o st′ m ≡ after calling t c r st m

@@ -19,7 +19,7 @@ use Rattle.base_limits.specs.declared.Machine.{Machine}
 use Rattle.lang_words.specs.Words.{words, firstOf, isNumber, entryOf, leastOperands}
 use Rattle.prog_tables.specs.Layout.{plain, callExpression}
 use Rattle.prog_tables.specs.Tests.{given, allBelow}
-use Rattle.prog_tables.specs.Statement.{Row, hasExpression, isOperator, expressionUses, usedBy, operandAt, slots, rowFrom, rowAt}
+use Rattle.prog_tables.specs.Statement.{Row, hasExpression, isOperator, isCallExpression, expressionUses, usedBy, operandAt, slots, rowFrom, rowAt}
 use Rattle.prog_tables.specs.Program.{rowsAlone}
 use Rattle.prog_tables.specs.Faults.{expressionListed}
 use Rattle.prog_tables.proofs.Each.{below-at, given-then}
@@ -36,7 +36,7 @@ use Rattle.vm_definitions.specs.declared.Read.the-variants.{Got, Bad}
 use Rattle.vm_definitions.specs.declared.Worked.{Worked}
 use Rattle.vm_quick_operands.specs.Fast.{readEach}
 use Rattle.vm_quick_operands.proofs.Reading.{Reading, reading-none, reading-more, reading-stops, reading-done}
-use Rattle.vm_calls.specs.Outcomes.{slotRead, wordsIn, Expressed, Calls}
+use Rattle.vm_calls.specs.Outcomes.{slotRead, wordsIn, Expressed}
 use Rattle.prog_tables.proofs.Ranges.{operator-most}
 
 -- ---- the expression of a row
@@ -70,13 +70,18 @@ module _ (k e n : ℕ) (h : hasExpression k ≡ true) where
   unfolding usedBy expressionUses ifTrue ifEq
   used-plain d = rw (h, eq-eqb _ _ d)
 
-  used-operator : (e ≡ 1 → ⊥) → (e ≡ 2 → ⊥) → isOperator e ≡ true → usedBy k e n ≡ leastOperands e
-  unfolding usedBy expressionUses ifTrue ifEq
-  used-operator p q d = rw (h, ne-eqb _ _ p, ne-eqb _ _ q, d)
+  used-operator : (e ≡ 1 → ⊥) → isCallExpression e ≡ false → isOperator e ≡ true → usedBy k e n ≡ leastOperands e
+  unfolding usedBy expressionUses isCallExpression ifTrue ifEq
+  used-operator p q d = rw (h, ne-eqb _ _ p, d) (by (eqb e 2) (eqb e 3) q)
+    where
+      by : (a b : Bool) → pick a true b ≡ false → pick a n (pick b n (leastOperands e)) ≡ leastOperands e
+      by true b z = true-false z
+      by false true z = true-false z
+      by false false z = refl
 
-  is-operator : expressionListed k e ≡ true → (e ≡ 0 → ⊥) → (e ≡ 1 → ⊥) → (e ≡ 2 → ⊥) → isOperator e ≡ true
-  unfolding expressionListed ifEq
-  is-operator l p q r = rw (ne-eqb _ _ p, ne-eqb _ _ q, ne-eqb _ _ r) at l
+  is-operator : expressionListed k e ≡ true → (e ≡ 0 → ⊥) → (e ≡ 1 → ⊥) → isCallExpression e ≡ false → isOperator e ≡ true
+  unfolding expressionListed ifEq ifTrue
+  is-operator l p q r = rw (ne-eqb _ _ p, ne-eqb _ _ q, r) at l
 
 module _ (t st m : List ℕ) (c : ℕ) (r : Machine) where
   abbrev n : ℕ
@@ -134,13 +139,13 @@ module _ (t : List ℕ) (n k : ℕ) (st : List ℕ) (s : ℕ) (m ws : List ℕ) 
 pub ruleset reading = (reading-none, reading-more, arguments-stop, arguments-read)
 
 -- a call's operands are its arguments
-pub arguments-are : (t : List ℕ) (c : ℕ) (r : Machine) (st m : List ℕ) (b : Bool) (ws : List ℕ) (k : ℕ) → Calls (rowAt t (r .next)) c
-    → k ≡ min (rowAt t (r .next) .count) 8 → wordsIn b ws k ≡ readAll Bits32 st (r .frame) m (take k (slots t (r .next * 27)))
+pub arguments-are : (t : List ℕ) (c : ℕ) (r : Machine) (st m : List ℕ) (b : Bool) (ws : List ℕ) (k : ℕ)
+    → usedBy (rowAt t (r .next) .kind) (rowAt t (r .next) .expr) (rowAt t (r .next) .count) ≡ rowAt t (r .next) .count → k ≡ min (rowAt t (r .next) .count) 8 → wordsIn b ws k ≡ readAll Bits32 st (r .frame) m (take k (slots t (r .next * 27)))
     → wordsIn b ws k ≡ argumentsOf (rowsAlone t c) (world r st m)
 unfolding argumentsOf rowAt rowFrom
 arguments-are t c r st m b ws k h e w =
     w ∙ ap (λ (z : List Operand). readAll Bits32 st (r .frame) m z)
-    (ap (λ (j : ℕ). take j (slots t (r .next * 27))) e ∙ take-min (rowAt t (r .next) .count) (slots t (r .next * 27)) (slots-long t (r .next * 27)) ∙ ap (λ (j : ℕ). take j (slots t (r .next * 27))) (sym (h .used)))
+    (ap (λ (j : ℕ). take j (slots t (r .next * 27))) e ∙ take-min (rowAt t (r .next) .count) (slots t (r .next * 27)) (slots-long t (r .next * 27)) ∙ ap (λ (j : ℕ). take j (slots t (r .next * 27))) (sym h))
   where
     take-min : (j : ℕ) (l : List Operand) → length l ≡ 8 → take (min j 8) l ≡ take j l
     take-min j l q = elim (decLt j 8) [

@@ -2,16 +2,16 @@
 -- Assumes nothing.
 use Prim.Native.Nat.{ℕ, suc, _<_}
 use mathlib.Core.Path.{_≡_}
-use mathlib.Core.Bool.{Bool, true}
+use mathlib.Core.Bool.{Bool, true, false}
 use mathlib.Core.List.{List}
 use lib.ListN.{take, length}
 use Rattle.base_prelude.specs.Choice.{ifTrue}
 use Rattle.base_limits.specs.declared.Width.the-variants.{Bits32}
 use Rattle.base_limits.specs.declared.Machine.{Machine}
 use Rattle.base_limits.specs.Record.{stopped}
-use Rattle.prog_tables.specs.Layout.{noExpression, callExpression}
+use Rattle.prog_tables.specs.Layout.{noExpression}
 use Rattle.prog_tables.specs.Places.{slotAt}
-use Rattle.prog_tables.specs.Statement.{Row, rowAt, hasExpression, usedBy}
+use Rattle.prog_tables.specs.Statement.{Row, rowAt, hasExpression, isCallExpression, usedBy}
 use Rattle.prog_tables.specs.Program.{Program, rowsAlone}
 use Rattle.prog_tables.specs.Faults.{expressionListed}
 use Rattle.vm_definitions.specs.Operands.{Words, words, bad, readOf}
@@ -90,7 +90,7 @@ pub record Expressed (r : Row) : Type 0 where
   pub has : hasExpression (r .kind) ≡ true
   pub listed : expressionListed (r .kind) (r .expr) ≡ true
   pub some : r .expr ≡ noExpression → ⊥
-  pub plain : r .expr ≡ callExpression → ⊥
+  pub plain : isCallExpression (r .expr) ≡ false
 
 -- a call to one of c rows; its operands are its arguments
 pub record Calls (r : Row) (c : ℕ) : Type 0 where

@@ -98,7 +98,7 @@ fn read_slot(t: &[u32], n: u32, i: u32, st: &[u32], s: u32, m: &[u8]) -> Read
 }
 
 // The first k arguments of row n, left to right.
-fn read_arguments(t: &[u32], n: u32, k: u32, st: &[u32], s: u32, m: &[u8]) -> Arguments
+pub fn read_arguments(t: &[u32], n: u32, k: u32, st: &[u32], s: u32, m: &[u8]) -> Arguments
     requires { ⌜ k ≤ operandSlots ⌝ }
     ensures { λ a. ⌜ wordsIn (a .good) (a .words) k ≡ readAll Bits32 (now (st .entry)) s (now (m .entry)) (take k (slots (now (t .entry)) (placeOf n))) ⌝ }
 {
@@ -126,7 +126,7 @@ fn read_arguments(t: &[u32], n: u32, k: u32, st: &[u32], s: u32, m: &[u8]) -> Ar
 }
 
 // How many arguments a row has: at most as many as its slots.
-fn arguments_at(t: &[u32], n: u32) -> u32
+pub fn arguments_at(t: &[u32], n: u32) -> u32
     ensures { λ k. ⌜ (k ≡ min (rowAt (now (t .entry)) n .count) operandSlots) × (k ≤ operandSlots) ⌝ }
 {
     let k = prog_tables::count_at(t, n);
@@ -277,7 +277,7 @@ pub fn tail_call(t: &[u32], c: u32, r: Machine, st: &mut [u32], m: &[u8]) -> Out
 // ---- returns
 
 // A value for the call at row i, whose frame is at s; q is the record behind it.
-fn hand_to(
+pub fn hand_to(
     t: &[u32],
     c: u32,
     r: Machine,

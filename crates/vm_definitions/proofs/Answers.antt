@@ -661,7 +661,7 @@ arguments-first = refl
 
 -- the return of the last function of `return-chain` closes all three
 ledger-chain : ledgerOf (rows p7) [] (started 6 ∷ counted 7 ∷ counted 4 ∷ counted 1 ∷ []) ≡ []
-unfolding ledgerOf fed countedIn popped fromReturn m15.isCalling m15.isReturn m15.isReturnCall m10.hasExpression m10.rowAt m10.rowFrom m1.ifTrue m1.ifEq m1.ifLt
+unfolding ledgerOf fed countedIn popped fromReturn m15.isCalling m15.isReturn m15.isReturnCall m15.returnsImport m10.isImport m10.isCallExpression m10.hasExpression m10.rowAt m10.rowFrom m1.ifTrue m1.ifEq m1.ifLt
 ledger-chain = refl
 
 -- 8 words open, 5 of them the last function's; the tail call of `tail-calls` to a frame of 4

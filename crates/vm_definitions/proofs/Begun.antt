@@ -12,11 +12,12 @@ use lib.Dec.{eqb, ltb, leb}
 use lib.ListN.{getD, length, take}
 use Rattle.base_prelude.specs.Choice.{pick, ifLt, ifEq, ifTrue}
 use Rattle.base_prelude.specs.Lists.{sameList}
-use Rattle.base_prelude.proofs.Choice.{true-false, either, either-eq, either-true, ifTrue-yes, ifTrue-no}
-use Rattle.base_limits.specs.Limits.{stackWords}
+use Rattle.base_prelude.proofs.Choice.{true-false, either, either-eq, either-true, ifEq-no, ifTrue-yes, ifTrue-no}
+use Rattle.base_limits.specs.Limits.{parameters, stackWords}
 use Rattle.base_limits.specs.Width.{memoryLimit}
 use Rattle.base_limits.specs.declared.Width.{Width}
 use Rattle.base_limits.specs.Record.{freshOf, mark}
+use Rattle.prog_tables.specs.Layout.{importLabel}
 use Rattle.prog_tables.specs.Tests.{both, oneOf, all, firstFrom}
 use Rattle.prog_tables.specs.Label.{Tables, rows, labelsOf, isData, isFunctionLabel}
 use Rattle.prog_tables.specs.Program.{programFrom}
@@ -165,6 +166,7 @@ module _ (w : Width) (t : Tables) (good : WellFormed (programFrom w t)) (name : 
   export-tests =
       ap (both (ltb (labelsOf t (exportOf (programFrom w t) name) .number) (t .count)))
       (sym (ifTrue-yes (eqb (rows t (labelsOf t (exportOf (programFrom w t) name) .number) .kind) 1) (all line) (ap isFunctionLabel export-kind ∙ function-label)))
+      ∙ sym (ifEq-no (leb (labelsOf t (exportOf (programFrom w t) name) .arguments) parameters) _ (λ (z : labelsOf t (exportOf (programFrom w t) name) .kind ≡ importLabel). omega (arith, export-kind)))
       ∙ sym (ifTrue-no (leb (labelsOf t (exportOf (programFrom w t) name) .number) (t .dataLength)) _ (ap isData export-kind ∙ no-data))
       ∙ names-at w t good (exportOf (programFrom w t) name) h
 

@@ -14,7 +14,6 @@ use Rattle.base_prelude.specs.Choice.{ifLt, ifEq, ifTrue}
 use Rattle.base_prelude.proofs.Choice.{true-false, either, either-eq, either-true, ifEq-yes, ifEq-no, ifTrue-yes}
 use Rattle.base_limits.specs.declared.Width.{Width}
 use Rattle.base_limits.specs.Record.{movedTo}
-use Rattle.prog_tables.specs.Layout.{callExpression}
 use Rattle.prog_tables.specs.Tests.{both, oneOf}
 use Rattle.prog_tables.specs.Statement.{Row, hasExpression, isCall}
 use Rattle.prog_tables.specs.Label.{Tables, rows}
@@ -24,7 +23,7 @@ use Rattle.prog_tables.proofs.Each.{both-left, both-right}
 use Rattle.prog_laws.proofs.Rows.{Callee, callee-facts, few-rows, marks, size-at, address-words}
 use Rattle.vm_definitions.specs.Access.{asWord, wordGood, storeFrom}
 use Rattle.vm_definitions.specs.Operands.{Words, words, bad, numberIn}
-use Rattle.vm_definitions.specs.Frames.{frameWords, returnsTo, callerFrame, topAtEntry, isCalling}
+use Rattle.vm_definitions.specs.Frames.{frameWords, returnsTo, callerFrame, topAtEntry, isCalling, importing}
 use Rattle.vm_definitions.specs.Step.{World, Effect, stops, leaves, callBy, callOf, tailCallBy, argumentsOf, addressOf}
 use Rattle.vm_definitions.specs.Ledger.{Entry, Ledger}
 use Rattle.vm_definitions.proofs.Invariant.{FrameAt, Head, Under, Invariant}
@@ -33,26 +32,31 @@ use Rattle.vm_definitions.proofs.Words.{small-word, memory-word, mark-w
 use Rattle.vm_definitions.proofs.Carried.{Agree, number-same, frame-same, under-same}
 use Rattle.vm_definitions.proofs.Kept.{Kept}
 use Rattle.vm_definitions.proofs.Begun.{first-frame}
+use Rattle.vm_definitions.proofs.Importing.{callsBy, plain-calls, plain-calling}
 
 or-right : (a b : Bool) → a ≡ false → oneOf a b ≡ true → b ≡ true
 or-right true b e d = true-false e
 or-right false b e d = d
 
--- a call in any form goes to a function
-pub calling-call : (r : Row) → isCalling r ≡ true → isCall (r .kind) (r .expr) ≡ true
-unfolding isCalling isCall
-calling-call r h =
-    either-eq (λ (b : Bool). b ≡ true) (r .kind) 11 true (ifEq (r .kind) 12 true (ifTrue (hasExpression (r .kind)) (eqb (r .expr) callExpression) false)) (λ d. refl)
-    (λ q. either-eq (λ (b : Bool). b ≡ true) (r .kind) 12 true (ifTrue (hasExpression (r .kind)) (eqb (r .expr) callExpression) false) (λ d. refl)
-    (λ p.
-    let a : both (hasExpression (r .kind)) (eqb (r .expr) callExpression) ≡ true = or-right (eqb (r .kind) 11) (both (hasExpression (r .kind)) (eqb (r .expr) callExpression)) (ne-eqb (r .kind) 11 q) h in
-    ifTrue-yes (eqb (r .expr) callExpression) false (both-left (hasExpression (r .kind)) (eqb (r .expr) callExpression) a) ∙ both-right (hasExpression (r .kind)) (eqb (r .expr) callExpression) a))
+-- a call in any form goes to a function, where it goes to no imported one
+pub calling-call : (r : Row) → importing r ≡ false → isCalling r ≡ true → isCall (r .kind) (r .expr) ≡ true
+unfolding isCalling callsBy
+calling-call r n c = plain-calls (r .kind) (r .expr) n ∙ by (sym (plain-calling (r .kind) (r .expr) n) ∙ c)
+  where
+    by : oneOf (eqb (r .kind) 11) (both (hasExpression (r .kind)) (eqb (r .expr) 2)) ≡ true → callsBy (r .kind) (r .expr) ≡ true
+    by h =
+        either-eq (λ (b : Bool). b ≡ true) (r .kind) 11 true (ifEq (r .kind) 12 true (ifTrue (hasExpression (r .kind)) (eqb (r .expr) 2) false)) (λ d. refl)
+        (λ q. either-eq (λ (b : Bool). b ≡ true) (r .kind) 12 true (ifTrue (hasExpression (r .kind)) (eqb (r .expr) 2) false) (λ d. refl)
+        (λ p.
+        let a : both (hasExpression (r .kind)) (eqb (r .expr) 2) ≡ true = or-right (eqb (r .kind) 11) (both (hasExpression (r .kind)) (eqb (r .expr) 2)) (ne-eqb (r .kind) 11 q) h in
+        ifTrue-yes (eqb (r .expr) 2) false (both-left (hasExpression (r .kind)) (eqb (r .expr) 2) a) ∙ both-right (hasExpression (r .kind)) (eqb (r .expr) 2) a))
 
-pub tail-call : (r : Row) → r .kind ≡ 12 → isCall (r .kind) (r .expr) ≡ true
-unfolding isCall
-tail-call r k =
-    ifEq-no true (ifEq (r .kind) 12 true (ifTrue (hasExpression (r .kind)) (eqb (r .expr) callExpression) false)) (λ d. omega arith)
-    ∙ ifEq-yes true (ifTrue (hasExpression (r .kind)) (eqb (r .expr) callExpression) false) k
+pub tail-call : (r : Row) → importing r ≡ false → r .kind ≡ 12 → isCall (r .kind) (r .expr) ≡ true
+unfolding callsBy
+tail-call r n k =
+    plain-calls (r .kind) (r .expr) n
+    ∙ ifEq-no true (ifEq (r .kind) 12 true (ifTrue (hasExpression (r .kind)) (eqb (r .expr) 2) false)) (λ d. omega arith)
+    ∙ ifEq-yes true (ifTrue (hasExpression (r .kind)) (eqb (r .expr) 2) false) k
 
 -- the three words of a frame's head, written where they fit
 module _ (w : Width) (st : List ℕ) (s call frame top : ℕ) (vs : List ℕ) (size : ℕ) (h : s + 3 ≤ length st) where
@@ -95,13 +99,14 @@ head-words w t m st (some i) (d ∷ es) s c h u =
       caller = small-word w (callerFrame st s) (omega (arith, u .0 .ends));
     }
 
-module _ (w : Width) (t : Tables) (good : WellFormed (programFrom w t)) (e : Entry) (es : Ledger) (x : World) (i : Invariant w t e es x) where
+module _ (w : Width) (t : Tables) (good : WellFormed (programFrom w t)) (e : Entry) (es : Ledger) (x : World) (i : Invariant w t e es x)
+    (own-call : importing (rows t (x .machine .next)) ≡ false) where
   -- ---- calls
 
   module _ (c : isCalling (rows t (x .machine .next)) ≡ true)
       (address : rows t (x .machine .next) .kind ≡ 7 → wordGood w (length (x .memory)) (addressOf (programFrom w t) x) ≡ true) where
     callee : Callee w t good (x .machine .next) (i .frame .within)
-    callee = callee-facts w t good (x .machine .next) (i .frame .within) (calling-call (rows t (x .machine .next)) c)
+    callee = callee-facts w t good (x .machine .next) (i .frame .within) (calling-call (rows t (x .machine .next)) own-call c)
 
     size : 3 ≤ rows t (rows t (x .machine .next) .callee) .a
     size = omega (arith, marks w t good (rows t (x .machine .next) .callee) (callee .within) (callee .is-function) .head)
@@ -227,7 +232,7 @@ module _ (w : Width) (t : Tables) (good : WellFormed (programFrom w t)) (e : Ent
 
   module _ (k : rows t (x .machine .next) .kind ≡ 12) where
     tail-callee : Callee w t good (x .machine .next) (i .frame .within)
-    tail-callee = callee-facts w t good (x .machine .next) (i .frame .within) (tail-call (rows t (x .machine .next)) k)
+    tail-callee = callee-facts w t good (x .machine .next) (i .frame .within) (tail-call (rows t (x .machine .next)) own-call k)
 
     tail-size : 3 ≤ rows t (rows t (x .machine .next) .callee) .a
     tail-size = omega (arith, marks w t good (rows t (x .machine .next) .callee) (tail-callee .within) (tail-callee .is-function) .head)

@@ -1,4 +1,4 @@
--- A statement stops exactly with the number of the first cause it meets.
+-- A statement that calls no imported function stops exactly with the number of the first cause it meets.
 -- Assumes nothing.
 use mathlib.Core.Path.{_≡_, refl, sym, _∙_, ap, subst}
 use mathlib.Core.Bool.{Bool, true, false, not}
@@ -16,7 +16,7 @@ use Rattle.base_limits.specs.declared.Width.{Width}
 use Rattle.base_limits.specs.declared.Machine.{Machine}
 use Rattle.base_word.specs.Bytes.{wordBytes}
 use Rattle.prog_tables.specs.Tests.{both, oneOf}
-use Rattle.prog_tables.specs.Statement.{Row, hasExpression, isTest, isOperator, isCall, expressionUses, usedBy, slots, operandAt, rowFrom, rowAt}
+use Rattle.prog_tables.specs.Statement.{Row, hasExpression, isTest, isOperator, isCallExpression, expressionUses, usedBy, slots, operandAt, rowFrom, rowAt}
 use Rattle.prog_tables.specs.Label.{Tables, rows}
 use Rattle.prog_tables.specs.Program.{Program, programFrom}
 use Rattle.prog_tables.specs.Nesting.{isListed}
@@ -27,12 +27,13 @@ use Rattle.prog_tables.specs.declared.Operand.the-variants.{Unlisted}
 use Rattle.vm_definitions.specs.Access.{byteAddress, wordAddress, byteGood, wordGood}
 use Rattle.vm_definitions.specs.Operands.{Words, words, bad, isAt, numberIn, readOf, readAll, onRead}
 use Rattle.vm_definitions.specs.Expressions.{evalOf, operandNo, testHolds}
-use Rattle.vm_definitions.specs.Frames.{isReturn, isCalling, resumptionOf}
+use Rattle.vm_definitions.specs.Frames.{isReturn, isCalling, importing, resumptionOf}
 use Rattle.vm_definitions.specs.Step.{World, Effect, stops, leaves, effectStop, goesTo, keeps, stores, blockOf, endBlockOf, testOf, workedOf, assigned, assignedAt, setAtOf, setByteBy, setWordBy, argumentsOf, callBy, callOf, tailCallBy, handedBy, returned, returnOf, effectOf}
 use Rattle.vm_definitions.specs.Causes.{causeOf, firstOf, touched, wordOf, withFrame, behindOperands, readsOf, meetingsOf, firstCause}
 use Rattle.vm_definitions.specs.declared.Resumption.{Resumption}
 use Rattle.vm_definitions.specs.declared.Worked.{Worked}
 use Rattle.vm_definitions.specs.declared.Worked.the-variants.{Value, Stop}
+use Rattle.vm_definitions.proofs.Importing.{callsBy, plain-calls, plain-calling, plain-return, no-import}
 use Rattle.vm_definitions.proofs.Operators.{stopIn, next, first-here, first-later, first-one, word-good, word-bad, read-cause, all-cause, eval-cause}
 use Rattle.vm_definitions.specs.Operators.{Meeting, wordAt, byteAt, stacksTo, operators, lineIn, operatorOf, operatorMeets}
 
@@ -63,8 +64,8 @@ listed-not k h g = absurd (h (eqb-true k 13 g))
 listed-any : (k e : ℕ) → (e ≡ 0 → ⊥) → expressionListed k e ≡ true → expressionListed 13 e ≡ true
 unfolding expressionListed
 listed-any k e h g =
-    ifEq-no (eqb 13 13) (ifEq e 1 true (ifEq e 2 true (isOperator e))) h
-    ∙ sym (ifEq-no (eqb k 13) (ifEq e 1 true (ifEq e 2 true (isOperator e))) h)
+    ifEq-no (eqb 13 13) (ifEq e 1 true (ifTrue (isCallExpression e) true (isOperator e))) h
+    ∙ sym (ifEq-no (eqb k 13) (ifEq e 1 true (ifTrue (isCallExpression e) true (isOperator e))) h)
     ∙ g
 
 lent : (y : World) (b : Bool) → effectStop (pick b (stops 33) (leaves y)) ≡ pick b 33 0
@@ -87,7 +88,7 @@ unfolding ifTrue
 kept-first true b e = refl
 kept-first false b e = true-false e
 
-module _ (prog : Program) (x : World) (sum last : ℕ) where
+module _ (prog : Program) (x : World) (sum last : ℕ) (own : importing (prog .rows (x .machine .next)) ≡ false) where
   abbrev w : Width
   w = prog .width
 
@@ -124,7 +125,7 @@ module _ (prog : Program) (x : World) (sum last : ℕ) where
   -- what a row of kind k with expression kind e and some operands meets
   unfoldable behindBy : ℕ → ℕ → List Operand → List Meeting
   behindBy k e os =
-      ifTrue (isCall k e) (stacksTo (ifEq k 12 (sum - last + size) (sum + size)) ∷ [])
+      ifTrue (callsBy k e) (stacksTo (ifEq k 12 (sum - last + size) (sum + size)) ∷ [])
       (ifTrue (hasExpression k) (operatorMeets w (x .machine .top) e (valueOf os 0) (valueOf os 1))
       (ifEq k 8 (byteAt (byteAddress w (valueOf os 0) (valueOf os 1)) ∷ [])
       (ifEq k 9 (wordAt (wordAddress w (valueOf os 0) (valueOf os 1)) ∷ []) [])))
@@ -134,7 +135,7 @@ module _ (prog : Program) (x : World) (sum last : ℕ) where
 
   met-is : firstCause prog sum last x ≡ first (metBy (r .kind) (r .expr) (r .operands))
   unfolding firstCause meetingsOf readsOf behindOperands withFrame metBy behindBy
-  met-is = refl
+  met-is = rw (plain-calls (r .kind) (r .expr) own)
 
   cause-as : (k : ℕ) (os : List Operand) → r .kind ≡ k → r .operands ≡ os → firstCause prog sum last x ≡ first (metBy k (r .expr) os)
   cause-as k os h q =
@@ -145,7 +146,7 @@ module _ (prog : Program) (x : World) (sum last : ℕ) where
       (setAtOf prog x) (setByteBy prog x (argumentsOf prog x)) (setWordBy prog x (argumentsOf prog x)) (tailCallBy prog x (argumentsOf prog x))
       (goesTo prog x (suc (x .machine .next))) (goesTo prog x (r .a))
   unfolding effectOf dispatch isCalling isReturn
-  effect-is = refl
+  effect-is = rw (plain-calling (r .kind) (r .expr) own, plain-return (r .kind) (r .expr) own)
 
   doneBy : ℕ → ℕ → Effect
   doneBy k e =
@@ -261,27 +262,27 @@ module _ (prog : Program) (x : World) (sum last : ℕ) where
       -- ---- statements that meet nothing
 
       kind-3 : r .kind ≡ 3 → Caused
-      unfolding Caused doneBy dispatch hasExpression isTest ifTrue ifEq ifLt metBy behindBy isCall usedBy touched firstOf effectStop blockOf keeps
+      unfolding Caused doneBy dispatch hasExpression isTest ifTrue ifEq ifLt metBy behindBy callsBy usedBy touched firstOf effectStop blockOf keeps
       kind-3 h = ap effectStop (effect-as 3 h) ∙ sym (cause-as 3 [] h (operands-as 3 h))
 
       kind-4 : r .kind ≡ 4 → Caused
-      unfolding Caused doneBy dispatch hasExpression isTest ifTrue ifEq ifLt metBy behindBy isCall usedBy touched firstOf effectStop endBlockOf keeps
+      unfolding Caused doneBy dispatch hasExpression isTest ifTrue ifEq ifLt metBy behindBy callsBy usedBy touched firstOf effectStop endBlockOf keeps
       kind-4 h = ap effectStop (effect-as 4 h) ∙ sym (cause-as 4 [] h (operands-as 4 h))
 
       kind-10 : r .kind ≡ 10 → Caused
-      unfolding Caused doneBy dispatch hasExpression isTest ifTrue ifEq ifLt metBy behindBy isCall usedBy touched firstOf effectStop goesTo
+      unfolding Caused doneBy dispatch hasExpression isTest ifTrue ifEq ifLt metBy behindBy callsBy usedBy touched firstOf effectStop goesTo
       kind-10 h = ap effectStop (effect-as 10 h) ∙ sym (cause-as 10 [] h (operands-as 10 h))
 
       kind-20 : r .kind ≡ 20 → Caused
-      unfolding Caused doneBy dispatch hasExpression isTest ifTrue ifEq ifLt metBy behindBy isCall usedBy touched firstOf effectStop goesTo
+      unfolding Caused doneBy dispatch hasExpression isTest ifTrue ifEq ifLt metBy behindBy callsBy usedBy touched firstOf effectStop goesTo
       kind-20 h = ap effectStop (effect-as 20 h) ∙ sym (cause-as 20 [] h (operands-as 20 h))
 
       kind-21 : r .kind ≡ 21 → Caused
-      unfolding Caused doneBy dispatch hasExpression isTest ifTrue ifEq ifLt metBy behindBy isCall usedBy touched firstOf effectStop goesTo
+      unfolding Caused doneBy dispatch hasExpression isTest ifTrue ifEq ifLt metBy behindBy callsBy usedBy touched firstOf effectStop goesTo
       kind-21 h = ap effectStop (effect-as 21 h) ∙ sym (cause-as 21 [] h (operands-as 21 h))
 
       kind-22 : r .kind ≡ 22 → Caused
-      unfolding Caused doneBy dispatch hasExpression isTest ifTrue ifEq ifLt metBy behindBy isCall usedBy touched firstOf effectStop goesTo
+      unfolding Caused doneBy dispatch hasExpression isTest ifTrue ifEq ifLt metBy behindBy callsBy usedBy touched firstOf effectStop goesTo
       kind-22 h = ap effectStop (effect-as 22 h) ∙ sym (cause-as 22 [] h (operands-as 22 h))
 
       -- ---- tests
@@ -301,45 +302,45 @@ module _ (prog : Program) (x : World) (sum last : ℕ) where
           (read-cause w st s m effectStop (stops 32) (λ b. goesTo prog x (ifTrue (testHolds w (r .kind) (wordOf w st s m o) b) (suc (x .machine .next)) (r .a))) p [] [] (length st) refl refl)
 
       kind-14 : r .kind ≡ 14 → Caused
-      unfolding Caused doneBy dispatch hasExpression isTest ifTrue ifEq ifLt metBy behindBy isCall usedBy touched firstOf effectStop
+      unfolding Caused doneBy dispatch hasExpression isTest ifTrue ifEq ifLt metBy behindBy callsBy usedBy touched firstOf effectStop
       kind-14 h = ap effectStop (effect-as 14 h) ∙ test-stop (operands-as 14 h) ∙ sym (cause-as 14 (o ∷ p ∷ []) h (operands-as 14 h))
 
       kind-15 : r .kind ≡ 15 → Caused
-      unfolding Caused doneBy dispatch hasExpression isTest ifTrue ifEq ifLt metBy behindBy isCall usedBy touched firstOf effectStop
+      unfolding Caused doneBy dispatch hasExpression isTest ifTrue ifEq ifLt metBy behindBy callsBy usedBy touched firstOf effectStop
       kind-15 h = ap effectStop (effect-as 15 h) ∙ test-stop (operands-as 15 h) ∙ sym (cause-as 15 (o ∷ p ∷ []) h (operands-as 15 h))
 
       kind-16 : r .kind ≡ 16 → Caused
-      unfolding Caused doneBy dispatch hasExpression isTest ifTrue ifEq ifLt metBy behindBy isCall usedBy touched firstOf effectStop
+      unfolding Caused doneBy dispatch hasExpression isTest ifTrue ifEq ifLt metBy behindBy callsBy usedBy touched firstOf effectStop
       kind-16 h = ap effectStop (effect-as 16 h) ∙ test-stop (operands-as 16 h) ∙ sym (cause-as 16 (o ∷ p ∷ []) h (operands-as 16 h))
 
       kind-17 : r .kind ≡ 17 → Caused
-      unfolding Caused doneBy dispatch hasExpression isTest ifTrue ifEq ifLt metBy behindBy isCall usedBy touched firstOf effectStop
+      unfolding Caused doneBy dispatch hasExpression isTest ifTrue ifEq ifLt metBy behindBy callsBy usedBy touched firstOf effectStop
       kind-17 h = ap effectStop (effect-as 17 h) ∙ test-stop (operands-as 17 h) ∙ sym (cause-as 17 (o ∷ p ∷ []) h (operands-as 17 h))
 
       kind-18 : r .kind ≡ 18 → Caused
-      unfolding Caused doneBy dispatch hasExpression isTest ifTrue ifEq ifLt metBy behindBy isCall usedBy touched firstOf effectStop
+      unfolding Caused doneBy dispatch hasExpression isTest ifTrue ifEq ifLt metBy behindBy callsBy usedBy touched firstOf effectStop
       kind-18 h = ap effectStop (effect-as 18 h) ∙ test-stop (operands-as 18 h) ∙ sym (cause-as 18 (o ∷ p ∷ []) h (operands-as 18 h))
 
       kind-19 : r .kind ≡ 19 → Caused
-      unfolding Caused doneBy dispatch hasExpression isTest ifTrue ifEq ifLt metBy behindBy isCall usedBy touched firstOf effectStop
+      unfolding Caused doneBy dispatch hasExpression isTest ifTrue ifEq ifLt metBy behindBy callsBy usedBy touched firstOf effectStop
       kind-19 h = ap effectStop (effect-as 19 h) ∙ test-stop (operands-as 19 h) ∙ sym (cause-as 19 (o ∷ p ∷ []) h (operands-as 19 h))
 
       -- ---- stores, calls
 
       kind-8 : r .kind ≡ 8 → Caused
-      unfolding Caused doneBy dispatch hasExpression isTest ifTrue ifEq ifLt metBy behindBy isCall usedBy touched firstOf effectStop
+      unfolding Caused doneBy dispatch hasExpression isTest ifTrue ifEq ifLt metBy behindBy callsBy usedBy touched firstOf effectStop
       kind-8 h = ap effectStop (effect-as 8 h) ∙ byte-stop ∙ sym (cause-as 8 (r .operands) h refl)
 
       kind-9 : r .kind ≡ 9 → Caused
-      unfolding Caused doneBy dispatch hasExpression isTest ifTrue ifEq ifLt metBy behindBy isCall usedBy touched firstOf effectStop
+      unfolding Caused doneBy dispatch hasExpression isTest ifTrue ifEq ifLt metBy behindBy callsBy usedBy touched firstOf effectStop
       kind-9 h = ap effectStop (effect-as 9 h) ∙ word-stop ∙ sym (cause-as 9 (r .operands) h refl)
 
       kind-11 : r .kind ≡ 11 → Caused
-      unfolding Caused doneBy dispatch hasExpression isTest ifTrue ifEq ifLt metBy behindBy isCall usedBy touched firstOf effectStop
+      unfolding Caused doneBy dispatch hasExpression isTest ifTrue ifEq ifLt metBy behindBy callsBy usedBy touched firstOf effectStop
       kind-11 h = ap effectStop (effect-as 11 h) ∙ plain-call (λ q. omega (arith, q, h)) ∙ sym (cause-as 11 (r .operands) h refl)
 
       kind-12 : r .kind ≡ 12 → Caused
-      unfolding Caused doneBy dispatch hasExpression isTest ifTrue ifEq ifLt metBy behindBy isCall usedBy touched firstOf effectStop
+      unfolding Caused doneBy dispatch hasExpression isTest ifTrue ifEq ifLt metBy behindBy callsBy usedBy touched firstOf effectStop
       kind-12 h = ap effectStop (effect-as 12 h) ∙ tail-stop ∙ sym (cause-as 12 (r .operands) h refl)
 
       -- ---- expressions
@@ -348,7 +349,7 @@ module _ (prog : Program) (x : World) (sum last : ℕ) where
       operates = operatorMeets w (x .machine .top) (r .expr) (valueOf (r .operands) 0) (valueOf (r .operands) 1)
 
       call-5 : r .kind ≡ 5 → r .expr ≡ 2 → Caused
-      unfolding Caused doneBy dispatch hasExpression isTest ifTrue ifEq ifLt metBy behindBy isCall usedBy touched firstOf effectStop operates
+      unfolding Caused doneBy dispatch hasExpression isTest ifTrue ifEq ifLt metBy behindBy callsBy usedBy touched firstOf effectStop operates
       call-5 h q =
           ap effectStop (call-as 5 h q)
           ∙ plain-call (λ d. omega (arith, d, h))
@@ -356,7 +357,7 @@ module _ (prog : Program) (x : World) (sum last : ℕ) where
           ∙ sym (cause-as 5 (r .operands) h refl)
 
       call-6 : r .kind ≡ 6 → r .expr ≡ 2 → Caused
-      unfolding Caused doneBy dispatch hasExpression isTest ifTrue ifEq ifLt metBy behindBy isCall usedBy touched firstOf effectStop operates
+      unfolding Caused doneBy dispatch hasExpression isTest ifTrue ifEq ifLt metBy behindBy callsBy usedBy touched firstOf effectStop operates
       call-6 h q =
           ap effectStop (call-as 6 h q)
           ∙ plain-call (λ d. omega (arith, d, h))
@@ -364,7 +365,7 @@ module _ (prog : Program) (x : World) (sum last : ℕ) where
           ∙ sym (cause-as 6 (r .operands) h refl)
 
       call-13 : r .kind ≡ 13 → r .expr ≡ 2 → Caused
-      unfolding Caused doneBy dispatch hasExpression isTest ifTrue ifEq ifLt metBy behindBy isCall usedBy touched firstOf effectStop operates
+      unfolding Caused doneBy dispatch hasExpression isTest ifTrue ifEq ifLt metBy behindBy callsBy usedBy touched firstOf effectStop operates
       call-13 h q =
           ap effectStop (call-as 13 h q)
           ∙ plain-call (λ d. omega (arith, d, h))
@@ -372,23 +373,23 @@ module _ (prog : Program) (x : World) (sum last : ℕ) where
           ∙ sym (cause-as 13 (r .operands) h refl)
 
       call-7 : r .kind ≡ 7 → r .expr ≡ 2 → Caused
-      unfolding Caused doneBy dispatch hasExpression isTest ifTrue ifEq ifLt metBy behindBy isCall usedBy touched firstOf effectStop operates
+      unfolding Caused doneBy dispatch hasExpression isTest ifTrue ifEq ifLt metBy behindBy callsBy usedBy touched firstOf effectStop operates
       call-7 h q =
           ap effectStop (call-as 7 h q)
           ∙ at-call h
           ∙ ap (λ (i : List Meeting). first (wordAt addressAt ∷ (touched w st s (r .operands) ++ i))) (sym (ifTrue-yes (stacksTo (sum + size) ∷ []) operates (eq-eqb (r .expr) 2 q)))
           ∙ sym (cause-as 7 (r .operands) h refl)
 
-      module _ (h0 : r .expr ≡ 0 → ⊥) (h2 : r .expr ≡ 2 → ⊥) (g : expressionListed 13 (r .expr) ≡ true) where
+      module _ (h0 : r .expr ≡ 0 → ⊥) (h2 : r .expr ≡ 2 → ⊥) (h3 : r .expr ≡ 3 → ⊥) (g : expressionListed 13 (r .expr) ≡ true) where
         worked-stop : r .operands ≡ take (expressionUses (r .expr) (r .count)) (o ∷ p ∷ rest) → stopIn (workedOf prog x) ≡ first (touched w st s (r .operands) ++ operates)
         unfolding workedOf operates
-        worked-stop q = eval-cause w st s m (length st) (x .machine .top) (r .expr) (r .count) o p rest (r .operands) q h0 h2 g
+        worked-stop q = eval-cause w st s m (length st) (x .machine .top) (r .expr) (r .count) o p rest (r .operands) q h0 h2 h3 g
 
         behind-is : ifTrue (eqb (r .expr) 2) (stacksTo (sum + size) ∷ []) operates ≡ operates
         behind-is = ifTrue-no (stacksTo (sum + size) ∷ []) operates (ne-eqb (r .expr) 2 h2)
 
         value-5 : r .kind ≡ 5 → Caused
-        unfolding Caused doneBy dispatch hasExpression isTest ifTrue ifEq ifLt metBy behindBy isCall usedBy touched firstOf effectStop operates
+        unfolding Caused doneBy dispatch hasExpression isTest ifTrue ifEq ifLt metBy behindBy callsBy usedBy touched firstOf effectStop operates
         value-5 h =
             ap effectStop (effect-as 5 h ∙ ifTrue-no (callOf prog x) (assigned prog x (workedOf prog x)) (ne-eqb (r .expr) 2 h2))
             ∙ assigned-stop (workedOf prog x)
@@ -397,7 +398,7 @@ module _ (prog : Program) (x : World) (sum last : ℕ) where
             ∙ sym (cause-as 5 (r .operands) h refl)
 
         value-6 : r .kind ≡ 6 → Caused
-        unfolding Caused doneBy dispatch hasExpression isTest ifTrue ifEq ifLt metBy behindBy isCall usedBy touched firstOf effectStop operates
+        unfolding Caused doneBy dispatch hasExpression isTest ifTrue ifEq ifLt metBy behindBy callsBy usedBy touched firstOf effectStop operates
         value-6 h =
             ap effectStop (effect-as 6 h ∙ ifTrue-no (callOf prog x) (assigned prog x (workedOf prog x)) (ne-eqb (r .expr) 2 h2))
             ∙ assigned-stop (workedOf prog x)
@@ -406,7 +407,7 @@ module _ (prog : Program) (x : World) (sum last : ℕ) where
             ∙ sym (cause-as 6 (r .operands) h refl)
 
         value-7 : r .kind ≡ 7 → Caused
-        unfolding Caused doneBy dispatch hasExpression isTest ifTrue ifEq ifLt metBy behindBy isCall usedBy touched firstOf effectStop operates setAtOf
+        unfolding Caused doneBy dispatch hasExpression isTest ifTrue ifEq ifLt metBy behindBy callsBy usedBy touched firstOf effectStop operates setAtOf
         value-7 h =
             ap effectStop (effect-as 7 h ∙ ifTrue-no (callOf prog x) (setAtOf prog x) (ne-eqb (r .expr) 2 h2))
             ∙ at-first (assignedAt prog x (workedOf prog x)) (touched w st s (r .operands) ++ operates) (assigned-at-stop (workedOf prog x) ∙ worked-stop (operands-as 7 h))
@@ -418,10 +419,10 @@ module _ (prog : Program) (x : World) (sum last : ℕ) where
       module _ (home : (v : ℕ) → isReturn r ≡ true → effectStop (handedBy prog x v (resumptionOf w f c st (suc s) s)) ≡ 0) where
         end-returns : r .kind ≡ 2 → isReturn r ≡ true
         unfolding isReturn
-        end-returns h = ap (λ (i : ℕ). oneOf (eqb i 2) (both (eqb i 13) (ifTrue (eqb (r .expr) 2) false true))) h
+        end-returns h = ap (λ (i : ℕ). oneOf (eqb i 2) (both (eqb i 13) (ifTrue (isCallExpression (r .expr)) false true))) h
 
         kind-2 : r .kind ≡ 2 → Caused
-        unfolding Caused doneBy dispatch hasExpression isTest ifTrue ifEq ifLt metBy behindBy isCall usedBy touched firstOf effectStop returnOf returned
+        unfolding Caused doneBy dispatch hasExpression isTest ifTrue ifEq ifLt metBy behindBy callsBy usedBy touched firstOf effectStop returnOf returned
         kind-2 h =
             ap effectStop (effect-as 2 h ∙ ifEq-yes (returned prog x (Value 0 0)) (ifEq (r .expr) 0 (returned prog x (Value 0 0)) (returned prog x (workedOf prog x))) h)
             ∙ home 0 (end-returns h)
@@ -431,10 +432,11 @@ module _ (prog : Program) (x : World) (sum last : ℕ) where
           it-returns : isReturn r ≡ true
           unfolding isReturn
           it-returns =
-              ap (λ (i : ℕ). oneOf (eqb i 2) (both (eqb i 13) (ifTrue (eqb (r .expr) 2) false true))) h ∙ ifTrue-no false true (ne-eqb (r .expr) 2 h2)
+              plain-return (r .kind) (r .expr) own
+              ∙ ap (λ (i : ℕ). oneOf (eqb i 2) (both (eqb i 13) (ifTrue (eqb (r .expr) 2) false true))) h ∙ ifTrue-no false true (ne-eqb (r .expr) 2 h2)
 
           return-effect : effectOf prog x ≡ ifEq (r .expr) 0 (returned prog x (Value 0 0)) (returned prog x (workedOf prog x))
-          unfolding Caused doneBy dispatch hasExpression isTest ifTrue ifEq ifLt metBy behindBy isCall usedBy touched firstOf effectStop returnOf
+          unfolding Caused doneBy dispatch hasExpression isTest ifTrue ifEq ifLt metBy behindBy callsBy usedBy touched firstOf effectStop returnOf
           return-effect =
               effect-as 13 h
               ∙ ifTrue-no (callOf prog x) (ifTrue (ifTrue (eqb (r .expr) 2) false true) (returnOf prog x) (goesTo prog x (r .a))) (ne-eqb (r .expr) 2 h2)
@@ -442,7 +444,7 @@ module _ (prog : Program) (x : World) (sum last : ℕ) where
               ∙ ifEq-no {a = r .kind} {b = 2} (returned prog x (Value 0 0)) (ifEq (r .expr) 0 (returned prog x (Value 0 0)) (returned prog x (workedOf prog x))) (λ q. omega (arith, q, h))
 
           bare-13 : r .expr ≡ 0 → Caused
-          unfolding Caused doneBy dispatch hasExpression isTest ifTrue ifEq ifLt metBy behindBy isCall usedBy touched firstOf effectStop returned expressionUses isOperator operatorMeets operatorOf lineIn operators
+          unfolding Caused doneBy dispatch hasExpression isTest ifTrue ifEq ifLt metBy behindBy callsBy usedBy touched firstOf effectStop returned expressionUses isOperator operatorMeets operatorOf lineIn operators
           bare-13 q =
               ap effectStop (return-effect ∙ ifEq-yes (returned prog x (Value 0 0)) (returned prog x (workedOf prog x)) q)
               ∙ home 0 it-returns
@@ -450,13 +452,13 @@ module _ (prog : Program) (x : World) (sum last : ℕ) where
               (cause-as 13 [] h (operands-as 13 h ∙ ap (λ (e : ℕ). take (usedBy 13 e (r .count)) (o ∷ p ∷ rest)) q)
               ∙ ap (λ (e : ℕ). first (metBy 13 e [])) q)
 
-          value-13 : (r .expr ≡ 0 → ⊥) → expressionListed 13 (r .expr) ≡ true → Caused
-          unfolding Caused doneBy dispatch hasExpression isTest ifTrue ifEq ifLt metBy behindBy isCall usedBy touched firstOf effectStop operates
-          value-13 h0 g =
+          value-13 : (r .expr ≡ 0 → ⊥) → (r .expr ≡ 3 → ⊥) → expressionListed 13 (r .expr) ≡ true → Caused
+          unfolding Caused doneBy dispatch hasExpression isTest ifTrue ifEq ifLt metBy behindBy callsBy usedBy touched firstOf effectStop operates
+          value-13 h0 h3 g =
               ap effectStop (return-effect ∙ ifEq-no (returned prog x (Value 0 0)) (returned prog x (workedOf prog x)) h0)
               ∙ returned-stop (λ v. home v it-returns) (workedOf prog x)
-              ∙ worked-stop h0 h2 g (operands-as 13 h)
-              ∙ ap (λ (i : List Meeting). first (touched w st s (r .operands) ++ i)) (sym (behind-is h0 h2 g))
+              ∙ worked-stop h0 h2 h3 g (operands-as 13 h)
+              ∙ ap (λ (i : List Meeting). first (touched w st s (r .operands) ++ i)) (sym (behind-is h0 h2 h3 g))
               ∙ sym (cause-as 13 (r .operands) h refl)
 
         -- ---- all kinds
@@ -471,13 +473,16 @@ module _ (prog : Program) (x : World) (sum last : ℕ) where
           not-bare : (k : ℕ) → (k ≡ 13 → ⊥) → hasExpression k ≡ true → r .kind ≡ k → r .expr ≡ 0 → ⊥
           not-bare k d q h e = listed-not k d (subst (λ (i : ℕ). expressionListed k i ≡ true) e (listed k q h))
 
+          no-three : (k : ℕ) → hasExpression k ≡ true → r .kind ≡ k → r .expr ≡ 3 → ⊥
+          no-three k q h = no-import (r .kind) (r .expr) own (ap hasExpression h ∙ q)
+
           kind-5 : r .kind ≡ 5 → Caused
           unfolding hasExpression ifLt
           kind-5 h =
               let h0 : r .expr ≡ 0 → ⊥ = not-bare 5 (λ q. omega (arith, q)) refl h in
               elim (ℕ-discrete (r .expr) 2) [
                 | yes q ↦ call-5 h q
-                | no q ↦ value-5 h0 q (listed-any 5 (r .expr) h0 (listed 5 refl h)) h
+                | no q ↦ value-5 h0 q (no-three 5 refl h) (listed-any 5 (r .expr) h0 (listed 5 refl h)) h
               ]
 
           kind-6 : r .kind ≡ 6 → Caused
@@ -486,7 +491,7 @@ module _ (prog : Program) (x : World) (sum last : ℕ) where
               let h0 : r .expr ≡ 0 → ⊥ = not-bare 6 (λ q. omega (arith, q)) refl h in
               elim (ℕ-discrete (r .expr) 2) [
                 | yes q ↦ call-6 h q
-                | no q ↦ value-6 h0 q (listed-any 6 (r .expr) h0 (listed 6 refl h)) h
+                | no q ↦ value-6 h0 q (no-three 6 refl h) (listed-any 6 (r .expr) h0 (listed 6 refl h)) h
               ]
 
           kind-7 : r .kind ≡ 7 → Caused
@@ -495,7 +500,7 @@ module _ (prog : Program) (x : World) (sum last : ℕ) where
               let h0 : r .expr ≡ 0 → ⊥ = not-bare 7 (λ q. omega (arith, q)) refl h in
               elim (ℕ-discrete (r .expr) 2) [
                 | yes q ↦ call-7 h q
-                | no q ↦ value-7 h0 q (listed-any 7 (r .expr) h0 (listed 7 refl h)) h
+                | no q ↦ value-7 h0 q (no-three 7 refl h) (listed-any 7 (r .expr) h0 (listed 7 refl h)) h
               ]
 
           kind-13 : r .kind ≡ 13 → Caused
@@ -505,7 +510,7 @@ module _ (prog : Program) (x : World) (sum last : ℕ) where
                 | yes q ↦ call-13 h q
                 | no q ↦ elim (ℕ-discrete (r .expr) 0) [
                   | yes e ↦ bare-13 h q e
-                  | no e ↦ value-13 h q e (listed 13 refl h)
+                  | no e ↦ value-13 h q e (no-three 13 refl h) (listed 13 refl h)
                 ]
               ]
 
@@ -553,6 +558,7 @@ module _ (prog : Program) (x : World) (sum last : ℕ) where
 
 -- "A statement stops exactly when such a cause is there, with the number of the first it meets."
 pub effect-cause : (w : Width) (t : Tables) (x : World) (sum last : ℕ)
+    → importing (rows t (x .machine .next)) ≡ false
     → kindFault (programFrom w t) (x .machine .next) ≡ false
     → (rows t (x .machine .next) .kind ≡ 1 → ⊥)
     → x .machine .used ≡ sum
@@ -561,8 +567,8 @@ pub effect-cause : (w : Width) (t : Tables) (x : World) (sum last : ℕ)
     → effectStop (handedBy (programFrom w t) x v (resumptionOf w (rows t) (t .count) (x .stack) (suc (x .machine .frame)) (x .machine .frame))) ≡ 0)
     → effectStop (effectOf (programFrom w t) x) ≡ firstCause (programFrom w t) sum last x
 unfolding rowAt rowFrom slots Caused
-effect-cause w t x sum last sound h1 used-is frame-is home =
-    caused (programFrom w t) x sum last used-is frame-is
+effect-cause w t x sum last own sound h1 used-is frame-is home =
+    caused (programFrom w t) x sum last own used-is frame-is
     (operandAt (t .statements) (x .machine .next * 27 + 11)) (operandAt (t .statements) (x .machine .next * 27 + 13))
     (operandAt (t .statements) (x .machine .next * 27 + 15) ∷ operandAt (t .statements) (x .machine .next * 27 + 17)
     ∷ operandAt (t .statements) (x .machine .next * 27 + 19) ∷ operandAt (t .statements) (x .machine .next * 27 + 21)

@@ -168,7 +168,7 @@ module _ (prog : Program) (x : World) where
   abbrev c : ℕ
   c = prog .count
 
-  fine-stop : Fine x (stops 32)
+  pub fine-stop : Fine x (stops 32)
   unfolding Fine
   fine-stop = omega arith
 
@@ -246,7 +246,7 @@ module _ (prog : Program) (x : World) where
 
   -- ---- returns
 
-  numbered-to : (v : ℕ) (l : Resumption) → Numbered (handedBy prog x v l)
+  pub numbered-to : (v : ℕ) (l : Resumption) → Numbered (handedBy prog x v l)
   unfolding handedBy handedTo Numbered
   numbered-to v (Ends top) = tt
   numbered-to v (Caller call s used top) =

@@ -9,7 +9,7 @@ use borrow.Author.Tests.{eq-eqb, ne-eqb, eqb-true, ltb-true, le-leb, le-ltb, lt-
 use lib.Dec.{eqb, ltb, leb}
 use lib.ListN.{getD, length}
 use Rattle.base_prelude.specs.Choice.{ifTrue}
-use Rattle.base_prelude.proofs.Choice.{either, either-eq, either-true, ifTrue-yes, ifTrue-no}
+use Rattle.base_prelude.proofs.Choice.{either, either-eq, either-true, ifLt-yes, ifTrue-yes, ifTrue-no}
 use Rattle.base_limits.specs.declared.Width.{Width}
 use Rattle.base_limits.specs.declared.Machine.{Machine}
 use Rattle.prog_tables.specs.Tests.{both, oneOf, all, some}
@@ -25,9 +25,9 @@ use Rattle.prog_tables.proofs.Whole.{row-sound}
 use Rattle.prog_tables.proofs.Unbroken.{counts, not-true}
 use Rattle.prog_tables.proofs.Sound as sound
 use Rattle.prog_laws.proofs.Words.{end-facts, around-self}
-use Rattle.vm_definitions.specs.Frames.{returnsTo, callerFrame, isFirst, isReturn, isReturnCall, calledFrom, leavesGood, headsLeft, topsLeft, rowsLeft, resumptionOf}
+use Rattle.vm_definitions.specs.Frames.{returnsTo, callerFrame, isFirst, isReturnCall, importing, leavesFrame, calledFrom, leavesGood, headsLeft, topsLeft, rowsLeft, resumptionOf}
 use Rattle.vm_definitions.specs.Ledger.{Entry, Ledger, popped, sumOf}
-use Rattle.vm_definitions.specs.Broken.{lower, lowest, orElse, nextBad, frameEnds, rowsUsed, nextPast, frameFault, topFault, limitFault, headFault, recordFault, stepBroken}
+use Rattle.vm_definitions.specs.Broken.{lower, lowest, orElse, nextBad, frameEnds, rowsUsed, nextPast, frameFault, topFault, limitFault, headFault, recordFault, stepBroken, notImport, resumeBroken}
 use Rattle.vm_definitions.specs.Step.{World, Effect, stops, effectStop, handedTo, handedBy}
 use Rattle.vm_definitions.specs.declared.Broken.{Broken}
 use Rattle.vm_definitions.specs.declared.Broken.the-variants.{No, Somewhere}
@@ -116,9 +116,15 @@ module _ (prog : Program) where
       (low-both c _ _
       (either-true (Low c) (both (isCall (f (r .next) .kind) (f (r .next) .expr)) (ltb (f (r .next) .callee) c)) (f (r .next) .callee ∷ []) []
       (λ e. low-cons c _ [] (ltb-true _ _ (both-right (isCall (f (r .next) .kind) (f (r .next) .expr)) (ltb (f (r .next) .callee) c) e)) (low-none c)) (λ e. low-none c))
-      (either-true (Low c) (both (isReturn (f (r .next))) (frameEnds f c r (length st))) (rowsLeft w f c st (suc (r .frame)) (r .frame)) []
+      (either-true (Low c) (both (leavesFrame (f (r .next))) (frameEnds f c r (length st))) (rowsLeft w f c st (suc (r .frame)) (r .frame)) []
       (λ e. left-low st (suc (r .frame)) (r .frame)) (λ e. low-none c)))))
       (λ h. low-none c)
+
+-- going on at a call to an imported function is judged as a step
+pub resume-judged : (p : Program) (r : Machine) (st : List ℕ) (m : ℕ) → r .next < p .count → importing (p .rows (r .next)) ≡ true
+    → resumeBroken p r st m ≡ stepBroken p r st m
+unfolding resumeBroken notImport stepBroken
+resume-judged p r st m h im = rw (ifLt-yes _ _ h, ifTrue-yes _ _ im)
 
 module _ (w : Width) (t : Tables) (ok : WellFormed (programFrom w t)) where
   pub statements-sound : programFrom w t .statementsPast ≡ false
@@ -151,10 +157,10 @@ module _ (w : Width) (t : Tables) (ok : WellFormed (programFrom w t)) (e : Entry
       (i .frame .blocks (rows t (x .machine .next) .scope) (omega (arith, d .before, i .frame .within)) (d .is-block)
       (around-self (rows t) (t .count) (sound.ok w t ok) frameDepth (rows t (x .machine .next) .scope)))
 
-  leaves : isReturn (rows t (x .machine .next)) ≡ true → leavesGood w (rows t) (t .count) (length (x .memory)) (x .stack) (suc (x .machine .frame)) (x .machine .frame) ≡ true
+  leaves : leavesFrame (rows t (x .machine .next)) ≡ true → leavesGood w (rows t) (t .count) (length (x .memory)) (x .stack) (suc (x .machine .frame)) (x .machine .frame) ≡ true
   leaves k = leaves-good w t ok (length (x .memory)) (x .stack) (e .call) es (suc (x .machine .frame)) (x .machine .frame) (i .under) (i .frame .top) (omega arith)
 
-  parts : isReturn (rows t (x .machine .next)) ≡ true
+  parts : leavesFrame (rows t (x .machine .next)) ≡ true
       → both (headsLeft w (rows t) (t .count) (x .stack) (suc (x .machine .frame)) (x .machine .frame))
       (topsLeft w (rows t) (t .count) (length (x .memory)) (x .stack) (suc (x .machine .frame)) (x .machine .frame)) ≡ true
   parts k = sym (leaves-parts w (rows t) (t .count) (length (x .memory)) (x .stack) (suc (x .machine .frame)) (x .machine .frame)) ∙ leaves k
@@ -165,14 +171,14 @@ module _ (w : Width) (t : Tables) (ok : WellFormed (programFrom w t)) (e : Entry
       none-cons _ _ (le-ltb _ _ (i .top))
       (none-cons _ _ (both-false (eqb (rows t (x .machine .next) .kind) 4) _ (λ k. le-ltb _ _ (saved-top (eqb-true _ _ k))))
       (none-cons _ _ (both-false (eqb (rows t (x .machine .next) .kind) 12) _ (λ k. le-ltb _ _ (i .frame .top)))
-      (none-cons _ _ (both-false (isReturn (rows t (x .machine .next))) _ (λ k. ap not (both-right (headsLeft w (rows t) (t .count) (x .stack) (suc (x .machine .frame)) (x .machine .frame)) _ (parts k))))
+      (none-cons _ _ (both-false (leavesFrame (rows t (x .machine .next))) _ (λ k. ap not (both-right (headsLeft w (rows t) (t .count) (x .stack) (suc (x .machine .frame)) (x .machine .frame)) _ (parts k))))
       none-none)))
 
   heads-whole : headFault (programFrom w t) (length (x .memory)) (x .machine) (x .stack) ≡ false
   unfolding headFault
   heads-whole =
       neither _ _ (ap not (head-good w t ok (length (x .memory)) (x .stack) (e .call) es (x .machine .frame) (i .under)))
-      (both-false (isReturn (rows t (x .machine .next))) _ (λ k. ap not (both-left (headsLeft w (rows t) (t .count) (x .stack) (suc (x .machine .frame)) (x .machine .frame)) _ (parts k))))
+      (both-false (leavesFrame (rows t (x .machine .next))) _ (λ k. ap not (both-left (headsLeft w (rows t) (t .count) (x .stack) (suc (x .machine .frame)) (x .machine .frame)) _ (parts k))))
 
   pub record-whole : recordFault (programFrom w t) (length (x .memory)) (x .machine) (x .stack) ≡ false
   unfolding recordFault nextPast frameFault limitFault
@@ -198,6 +204,9 @@ module _ (w : Width) (t : Tables) (ok : WellFormed (programFrom w t)) (e : Entry
       (lowest-none (λ (n : ℕ). oneOf (rowFault (programFrom w t) n) (both (eqb n (x .machine .next)) (nextBad (rows t) (t .count) n))) (t .count) row-good
       (rowsUsed (programFrom w t) (x .machine) (x .stack)) (used-low (programFrom w t) (x .machine) (x .stack)))
       ∙ ifTrue-no Somewhere No (neither _ _ (labels-sound w t ok) record-whole)
+
+  pub resume-open : importing (rows t (x .machine .next)) ≡ true → resumeBroken (programFrom w t) (x .machine) (x .stack) (length (x .memory)) ≡ No
+  resume-open im = resume-judged (programFrom w t) (x .machine) (x .stack) (length (x .memory)) (i .frame .within) im ∙ gate-open
 
   -- ---- returns
 

@@ -236,7 +236,7 @@ module _ (w : Width) (t : Tables) (good : WellFormed (programFrom w t)) (e : Ent
 
   -- ---- `let` and `set`
 
-  kept-value : 5 ≤ rows t (x .machine .next) .kind → rows t (x .machine .next) .kind ≤ 6 → (v top : ℕ) → top ≤ length (x .memory)
+  pub kept-value : 5 ≤ rows t (x .machine .next) .kind → rows t (x .machine .next) .kind ≤ 6 → (v top : ℕ) → top ≤ length (x .memory)
       → Kept w t e es (assigned (programFrom w t) x (Value v top))
   unfolding Kept assigned keeps
   kept-value k l v top h =

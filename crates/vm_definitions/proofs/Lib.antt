@@ -1,8 +1,10 @@
 pub mod Opened
 pub mod Seen
 pub mod Answers
+pub mod Pauses
 pub mod Refused
 pub mod Named
+pub mod Importing
 pub mod Invariant
 pub mod Chain
 pub mod Guard
@@ -18,7 +20,9 @@ pub mod Begun
 pub mod Operators
 pub mod Causes
 pub mod Listed
+pub mod Paused
 pub mod Effects
+pub mod HandedIn
 pub mod Outcomes
 pub mod Lists
 pub mod Stepped

@@ -1,7 +1,7 @@
 -- Causes have the five listed numbers, and a full stack is the one cause with number 33.
 -- Assumes nothing.
 use mathlib.Core.Path.{_≡_, refl, sym, _∙_, ap, subst}
-use mathlib.Core.Bool.{Bool, true, false}
+use mathlib.Core.Bool.{Bool, true, false, not}
 use mathlib.Core.List.{List, [], _∷_, _++_}
 use Prim.Native.Nat.{ℕ, _+_, _-_, _*_, _%_, _^_, _<_, _≤_}
 use native.Mathlib.Decide.{ℕ-discrete}
@@ -14,7 +14,7 @@ use Rattle.base_prelude.proofs.Choice.{true-false, ifEq-yes, ifEq-no, ifTrue-ye
 use Rattle.base_limits.specs.Width.{bitsOf, bytesOf}
 use Rattle.base_limits.specs.declared.Width.{Width}
 use Rattle.prog_tables.specs.Tests.{both, oneOf}
-use Rattle.prog_tables.specs.Statement.{Row, hasExpression, isCall}
+use Rattle.prog_tables.specs.Statement.{Row, hasExpression, isCallRow, isCall, isImport}
 use Rattle.prog_tables.specs.Label.{Tables, rows}
 use Rattle.prog_tables.specs.Program.{Program, programFrom}
 use Rattle.prog_tables.specs.declared.Operand.{Operand}
@@ -23,12 +23,16 @@ use Rattle.vm_definitions.specs.Access.{byteAddress, wordAddress}
 use Rattle.vm_definitions.specs.Operands.{isAt, numberIn}
 use Rattle.vm_definitions.specs.Expressions.{operandNo}
 use Rattle.vm_definitions.specs.Step.{World}
-use Rattle.vm_definitions.specs.Causes.{causeOf, firstOf, touched, wordOf, withFrame, behindOperands, readsOf, meetingsOf, firstCause, argumentsRead, passesStack}
+use Rattle.vm_definitions.specs.Causes.{causeOf, firstOf, touched, wordOf, withFrame, behindOperands, readsOf, meetingsOf, firstCause, callsAtAll, argumentsRead, passesStack}
+use Rattle.vm_definitions.specs.Frames.{importing}
 use Rattle.vm_definitions.specs.Ledger.{Ledger, sumOf, lastOf}
 use Rattle.vm_definitions.specs.Claim.{causeIn, Listed, stackFull}
+use Rattle.prog_tables.proofs.CallRows.{import-apart}
+use Rattle.vm_definitions.proofs.Chain.{one-left}
+use Rattle.vm_definitions.proofs.Importing.{import-expression, import-kinds}
 use Rattle.vm_definitions.proofs.Operators.{first-one, first-both}
 use Rattle.vm_definitions.proofs.OperatorTable.{Every, each-operator}
-use Rattle.vm_definitions.specs.Operators.{Operator, operators, roundUp, Meeting, wordAt, byteAt, divides, leavesOver, shiftsBy, reservesTo, stacksTo, operatorMeets}
+use Rattle.vm_definitions.specs.Operators.{Operator, operators, roundUp, Meeting, wordAt, byteAt, divides, leavesOver, shiftsBy, reservesTo, stacksTo, operatorMeets, lineIn, operatorOf}
 
 pick-is : (P : ℕ → Type 0) (b : Bool) (x y : ℕ) → P x → P y → P (pick b x y)
 pick-is P true x y p q = p
@@ -209,6 +213,23 @@ module _ (w : Width) (m s : ℕ) where
   behind-call top sum last g r x y h =
       ap (firstOf w m s) (ifTrue-yes (stacksTo (withFrame sum last g r) ∷ []) _ h) ∙ first-one w m s (stacksTo (withFrame sum last g r))
 
+import-meets : (w : Width) (top x y : ℕ) → operatorMeets w top 3 x y ≡ []
+unfolding operatorMeets operatorOf lineIn operators ifEq
+import-meets w top x y = refl
+
+one-left-of : (a b : Bool) → oneOf a b ≡ true → not b ≡ true → a ≡ true
+one-left-of true b h n = refl
+one-left-of false true h n = true-false (sym n)
+one-left-of false false h n = true-false (sym h)
+
+-- a row that calls a function calls no imported one
+call-apart : (k e : ℕ) → isCall k e ≡ true → isImport k e ≡ false
+call-apart k e h = by (isImport k e) refl
+  where
+    by : (b : Bool) → isImport k e ≡ b → b ≡ false
+    by true q = true-false (sym h ∙ import-apart k e q)
+    by false q = refl
+
 pick-33 : (b : Bool) → pick {X = ℕ} b 33 0 ≡ 33 → b ≡ true
 pick-33 true q = refl
 pick-33 false q = absurd (omega (arith, q))
@@ -240,14 +261,15 @@ module _ (prog : Program) (sum last : ℕ) (x : World) where
   unfolding behind passesStack
   called h = behind-call w (length (x .memory)) (length (x .stack)) (x .machine .top) sum last (f (r .callee) .a) r _ _ h
 
-  pub stack-cause : both (argumentsRead prog x) (passesStack prog sum last x) ≡ true → firstCause prog sum last x ≡ 33
+  pub stack-cause : both (both (argumentsRead prog x) (not (importing r))) (passesStack prog sum last x) ≡ true → firstCause prog sum last x ≡ 33
   unfolding argumentsRead reads
   stack-cause h =
-      let a : argumentsRead prog x ≡ true = both-left (argumentsRead prog x) (passesStack prog sum last x) h in
+      let a : both (argumentsRead prog x) (not (importing r)) ≡ true = both-left (both (argumentsRead prog x) (not (importing r))) (passesStack prog sum last x) h in
+      let b : argumentsRead prog x ≡ true = both-left (argumentsRead prog x) (not (importing r)) a in
       parts
-      ∙ ifEq-yes behind reads (eqb-true reads 0 (both-right (isCall (r .kind) (r .expr)) (eqb reads 0) a))
-      ∙ called (both-left (isCall (r .kind) (r .expr)) (eqb reads 0) a)
-      ∙ ap (λ (b : Bool). pick b 33 0) (both-right (argumentsRead prog x) (passesStack prog sum last x) h)
+      ∙ ifEq-yes behind reads (eqb-true reads 0 (both-right (callsAtAll r) (eqb reads 0) b))
+      ∙ called (one-left-of (isCall (r .kind) (r .expr)) (importing r) (both-left (callsAtAll r) (eqb reads 0) b) (both-right (argumentsRead prog x) (not (importing r)) a))
+      ∙ ap (λ (b : Bool). pick b 33 0) (both-right (both (argumentsRead prog x) (not (importing r))) (passesStack prog sum last x) h)
 
   reads-other : reads ≡ 33 → ⊥
   unfolding reads NoStack
@@ -257,7 +279,7 @@ module _ (prog : Program) (sum last : ℕ) (x : World) where
   unfolding behind NoStack
   behind-other h = behind-no w (length (x .memory)) (length (x .stack)) (x .machine .top) sum last (f (r .callee) .a) r _ _ h
 
-  pub stack-only : firstCause prog sum last x ≡ 33 → both (argumentsRead prog x) (passesStack prog sum last x) ≡ true
+  pub stack-only : firstCause prog sum last x ≡ 33 → both (both (argumentsRead prog x) (not (importing r))) (passesStack prog sum last x) ≡ true
   unfolding argumentsRead reads
   stack-only h =
       elim (ℕ-discrete reads 0) [
@@ -265,11 +287,41 @@ module _ (prog : Program) (sum last : ℕ) (x : World) where
         | yes q ↦ by q (sym (parts ∙ ifEq-yes behind reads q) ∙ h) (isCall (r .kind) (r .expr)) refl
       ]
     where
-      by : reads ≡ 0 → behind ≡ 33 → (b : Bool) → isCall (r .kind) (r .expr) ≡ b → both (argumentsRead prog x) (passesStack prog sum last x) ≡ true
+      by : reads ≡ 0 → behind ≡ 33 → (b : Bool) → isCall (r .kind) (r .expr) ≡ b
+          → both (both (argumentsRead prog x) (not (importing r))) (passesStack prog sum last x) ≡ true
       by q d true e =
-          both-true (argumentsRead prog x) (passesStack prog sum last x) (both-true (isCall (r .kind) (r .expr)) (eqb reads 0) e (eq-eqb reads 0 q))
+          both-true (both (argumentsRead prog x) (not (importing r))) (passesStack prog sum last x)
+          (both-true (argumentsRead prog x) (not (importing r))
+          (both-true (callsAtAll r) (eqb reads 0) (one-left (isCall (r .kind) (r .expr)) (importing r) e) (eq-eqb reads 0 q))
+          (ap not (call-apart (r .kind) (r .expr) e)))
           (pick-33 (passesStack prog sum last x) (sym (called e) ∙ d))
       by q d false e = absurd (behind-other e d)
+
+  -- ---- a call to an imported function meets nothing behind its operands
+
+  module _ (im : importing r ≡ true) where
+    apart-from : (n : ℕ) → hasExpression (r .kind) ≡ false → (11 ≡ n → ⊥) → (12 ≡ n → ⊥) → r .kind ≡ n → ⊥
+    apart-from n d a b q = import-kinds (r .kind) (r .expr) im (λ h. a (sym h ∙ q)) (λ h. b (sym h ∙ q)) (λ h. true-false (sym h ∙ d))
+
+    behind-none : behind ≡ 0
+    unfolding behind behindOperands firstOf
+    behind-none =
+        either-true none (isCall (r .kind) (r .expr)) _ _ (λ d. true-false (sym d ∙ import-apart (r .kind) (r .expr) im))
+        (λ d. either-true none (hasExpression (r .kind)) _ _
+        (λ a. ap (λ (n : ℕ). firstOf w (length (x .memory)) (length (x .stack)) (operatorMeets w (x .machine .top) n (word 0) (word 1))) (import-expression (r .kind) (r .expr) im)
+        ∙ ap (firstOf w (length (x .memory)) (length (x .stack))) (import-meets w (x .machine .top) (word 0) (word 1)))
+        (λ a. either-eq none (r .kind) 8 _ _ (λ b. absurd (apart-from 8 a (λ q. omega (arith, q)) (λ q. omega (arith, q)) b))
+        (λ _. either-eq none (r .kind) 9 _ _ (λ b. absurd (apart-from 9 a (λ q. omega (arith, q)) (λ q. omega (arith, q)) b)) (λ _. refl))))
+      where
+        none : List Meeting → Type 0
+        none es = firstOf w (length (x .memory)) (length (x .stack)) es ≡ 0
+
+        word : ℕ → ℕ
+        word j = wordOf w (x .stack) (x .machine .frame) (x .memory) (operandNo (r .operands) j)
+
+    pub import-cause : firstCause prog sum last x ≡ firstOf w (length (x .memory)) (length (x .stack)) (readsOf w r x)
+    unfolding reads
+    import-cause = parts ∙ either-eq (λ (k : ℕ). k ≡ reads) reads 0 behind reads (λ h. behind-none ∙ sym h) (λ h. refl)
 
 -- of a world and its ledger: `listed`, `full` and `fullOnly` of specs/Claim
 module _ (w : Width) (t : Tables) (es : Ledger) (x : World) where

@@ -12,9 +12,8 @@ use Rattle.base_prelude.specs.Choice.{ifLt, ifEq, ifTrue}
 use Rattle.base_prelude.proofs.Choice.{true-false, ifLt-yes, ifLt-no, either-eq}
 use Rattle.base_limits.specs.declared.Machine.{Machine}
 use Rattle.lang_kinds.specs.Kinds as kind
-use Rattle.prog_tables.specs.Layout.{callExpression}
 use Rattle.prog_tables.specs.Tests.{both, oneOf, some}
-use Rattle.prog_tables.specs.Statement.{Row, hasExpression, isTest}
+use Rattle.prog_tables.specs.Statement.{Row, hasExpression, isTest, isCallExpression}
 use Rattle.prog_tables.specs.Nesting.{isListed}
 use Rattle.prog_tables.specs.Program.{Program}
 use Rattle.prog_tables.specs.Faults.{kindFault, rowFault}
@@ -121,9 +120,9 @@ no-end r e = eqb-false _ _ (one-no _ _ e)
 no-return : (r : Row) → isCalling r ≡ false → isReturn r ≡ false → r .kind ≡ kind.return → ⊥
 unfolding isCalling isReturn hasExpression ifLt ifTrue
 no-return r c e k =
-    step (eqb (r .expr) callExpression)
-    (subst (λ (i : ℕ). both (hasExpression i) (eqb (r .expr) callExpression) ≡ false) k (one-rest (eqb (r .kind) kind.call) _ c))
-    (subst (λ (i : ℕ). both (eqb i kind.return) (ifTrue (eqb (r .expr) callExpression) false true) ≡ false) k (one-rest (eqb (r .kind) kind.endFunction) _ e))
+    step (isCallExpression (r .expr))
+    (subst (λ (i : ℕ). both (hasExpression i) (isCallExpression (r .expr)) ≡ false) k (one-rest (eqb (r .kind) kind.call) _ c))
+    (subst (λ (i : ℕ). both (eqb i kind.return) (ifTrue (isCallExpression (r .expr)) false true) ≡ false) k (one-rest (eqb (r .kind) kind.endFunction) _ e))
   where
     step : (t : Bool) → t ≡ false → ifTrue t false true ≡ false → ⊥
     step true a b = true-false a

@@ -8,7 +8,7 @@ use native.Mathlib.Decide.{ℕ-discrete, decLt}
 use native.Mathlib.Omega.{arith}
 use lib.Dec.{ltb, leb, eqb}
 use lib.ListN.{getD, length, take}
-use borrow.Author.Tests.{eqb-true, lt-ltb, ltb-true}
+use borrow.Author.Tests.{eqb-true, ne-eqb, lt-ltb, ltb-true}
 use Rattle.base_prelude.specs.Choice.{pick, ifLt, ifEq, ifTrue}
 use Rattle.base_prelude.proofs.Choice.{true-false, ifEq-yes, ifEq-no, ifLt-yes, ifLt-no, ifTrue-yes, ifTrue-no}
 use Rattle.base_limits.specs.Width.{bitsOf, bytesOf}
@@ -20,7 +20,7 @@ use Rattle.base_word.specs.declared.Answer.{Answer}
 use Rattle.base_word.specs.declared.Answer.the-variants.{Word, Division, Shift}
 use Rattle.prog_tables.specs.Layout.{plain}
 use Rattle.prog_tables.specs.Tests.{both, oneOf, allBelow}
-use Rattle.prog_tables.specs.Statement.{isOperator, expressionUses}
+use Rattle.prog_tables.specs.Statement.{isOperator, isCallExpression, expressionUses}
 use Rattle.prog_tables.specs.Faults.{expressionListed}
 use Rattle.prog_tables.specs.declared.Operand.{Operand}
 use Rattle.prog_tables.specs.declared.Operand.the-variants.{Unlisted}
@@ -285,12 +285,17 @@ fetched-is top Bad = refl
 
 uses-plain : (n e : ℕ) → e ≡ 1 → expressionUses e n ≡ 1
 unfolding expressionUses
-uses-plain n e h = ifEq-yes 1 (ifEq e 2 n (ifTrue (isOperator e) (leastOperands e) 0)) h
+uses-plain n e h = ifEq-yes 1 (ifEq e 2 n (ifEq e 3 n (ifTrue (isOperator e) (leastOperands e) 0))) h
 
-module _ (e : ℕ) (h0 : e ≡ 0 → ⊥) (h1 : e ≡ 1 → ⊥) (h2 : e ≡ 2 → ⊥) (g : expressionListed 13 e ≡ true) where
+module _ (e : ℕ) (h0 : e ≡ 0 → ⊥) (h1 : e ≡ 1 → ⊥) (h2 : e ≡ 2 → ⊥) (h3 : e ≡ 3 → ⊥) (g : expressionListed 13 e ≡ true) where
+  no-call : isCallExpression e ≡ false
+  unfolding isCallExpression
+  no-call = ifEq-no true (eqb e 3) h2 ∙ ne-eqb e 3 h3
+
   operator-is : isOperator e ≡ true
   unfolding expressionListed
-  operator-is = sym (ifEq-no (eqb 13 13) (ifEq e 1 true (ifEq e 2 true (isOperator e))) h0 ∙ ifEq-no true (ifEq e 2 true (isOperator e)) h1 ∙ ifEq-no true (isOperator e) h2) ∙ g
+  operator-is =
+      sym (ifEq-no (eqb 13 13) (ifEq e 1 true (ifTrue (isCallExpression e) true (isOperator e))) h0 ∙ ifEq-no true (ifTrue (isCallExpression e) true (isOperator e)) h1 ∙ ifTrue-no true (isOperator e) no-call) ∙ g
 
   operator-low : 33 ≤ e
   unfolding isOperator
@@ -341,20 +346,21 @@ module _ (w : Width) (st : List ℕ) (s : ℕ) (m : List ℕ) (l top : ℕ) wher
     uses-operator : (n : ℕ) → expressionUses e n ≡ leastOperands e
     unfolding expressionUses isOperator
     uses-operator n =
-        ifEq-no 1 (ifEq e 2 n (ifTrue (isOperator e) (leastOperands e) 0)) (λ q. omega (arith, q))
+        ifEq-no 1 (ifEq e 2 n (ifEq e 3 n (ifTrue (isOperator e) (leastOperands e) 0))) (λ q. omega (arith, q))
+        ∙ ifEq-no n (ifEq e 3 n (ifTrue (isOperator e) (leastOperands e) 0)) (λ q. omega (arith, q))
         ∙ ifEq-no n (ifTrue (isOperator e) (leastOperands e) 0) (λ q. omega (arith, q))
         ∙ ifTrue-yes (leastOperands e) 0 (ifLt-no false (ltb e 52) a ∙ lt-ltb e 52 b)
 
   -- an operand, or an operator with as many operands as it takes
   pub eval-cause : (e n : ℕ) (o p : Operand) (rest os : List Operand) → os ≡ take (expressionUses e n) (o ∷ p ∷ rest)
-      → (e ≡ 0 → ⊥) → (e ≡ 2 → ⊥) → expressionListed 13 e ≡ true
+      → (e ≡ 0 → ⊥) → (e ≡ 2 → ⊥) → (e ≡ 3 → ⊥) → expressionListed 13 e ≡ true
       → stopIn (evalOf w st s m top e os)
       ≡ firstOf w (length m) l (touched w st s os ++ operatorMeets w top e (wordOf w st s m (operandNo os 0)) (wordOf w st s m (operandNo os 1)))
   unfolding EvalAgrees
-  eval-cause e n o p rest os q h0 h2 g =
+  eval-cause e n o p rest os q h0 h2 h3 g =
       elim (ℕ-discrete e 1) [
         | yes h ↦ subst (λ (k : ℕ). EvalAgrees k os) (sym h) (subst (EvalAgrees 1) (sym (q ∙ ap (λ (k : ℕ). take k (o ∷ p ∷ rest)) (uses-plain n e h))) (eval-plain o))
-        | no h1 ↦ let a : 33 ≤ e = operator-low e h0 h1 h2 g in let b : e < 52 = operator-high e h0 h1 h2 g in
+        | no h1 ↦ let a : 33 ≤ e = operator-low e h0 h1 h2 h3 g in let b : e < 52 = operator-high e h0 h1 h2 h3 g in
             least-either e a b
             (λ h. subst (EvalAgrees e) (sym (q ∙ ap (λ (k : ℕ). take k (o ∷ p ∷ rest)) (uses-operator e a b n ∙ h))) (eval-one e a b o h))
             (λ h. subst (EvalAgrees e) (sym (q ∙ ap (λ (k : ℕ). take k (o ∷ p ∷ rest)) (uses-operator e a b n ∙ h))) (eval-two e a b o p h))

@@ -1,14 +1,15 @@
 -- Whatever the rows and the record are: a statement that stops has a listed number, and one that does not leaves its record in
 -- the state it had or finished. Said of any property N of numbers and S of states.
 -- Assumes nothing.
+use mathlib.Core.Bool.{true, false}
 use mathlib.Core.List.{List, [], _∷_}
 use Prim.Native.Nat.{ℕ}
 use Rattle.base_prelude.specs.Choice.{ifLt, ifEq, ifTrue}
 use Rattle.base_prelude.proofs.Choice.{either, either-eq, either-true}
-use Rattle.base_limits.specs.Record.{goingOn, movedTo, ended}
+use Rattle.base_limits.specs.Record.{goingOn, movedTo, ended, pauseOf}
 use Rattle.base_limits.specs.declared.Width.{Width}
 use Rattle.base_limits.specs.declared.State.{State}
-use Rattle.base_limits.specs.declared.State.the-variants.{Finished}
+use Rattle.base_limits.specs.declared.State.the-variants.{Running, Finished, Stopped, Paused}
 use Rattle.base_limits.specs.declared.Machine.{Machine}
 use Rattle.base_word.specs.Word.{stopOf}
 use Rattle.base_word.specs.declared.Answer.{Answer}
@@ -19,7 +20,9 @@ use Rattle.prog_tables.specs.declared.Operand.{Operand}
 use Rattle.vm_definitions.specs.Operands.{Words, words, bad, onRead}
 use Rattle.vm_definitions.specs.Operators.{reserved, answered, fetched, byteOf, Operator, operators, lineIn, operatorOf, applied}
 use Rattle.vm_definitions.specs.Expressions.{evalOf}
-use Rattle.vm_definitions.specs.Step.{World, Effect, stops, leaves, goesTo, keeps, stores, blockOf, endBlockOf, testOf, workedOf, assigned, assignedAt, setAtOf, setByteBy, setWordBy, callBy, callOf, tailCallBy, handedTo, handedBy, returned, returnOf, effectOf}
+use Rattle.vm_definitions.specs.Step.{World, Effect, stops, leaves, goesTo, keeps, stores, blockOf, endBlockOf, testOf, workedOf, assigned, assignedAt, setAtOf, setByteBy, setWordBy, callBy, callOf, tailCallBy, handedTo, handedBy, returned, returnOf, effectOf, After, idle, effected, inStateOf, importNumber, pausedBy, pausing, statementOf, guarded, handedIn, Continued, onPause, resumeOf}
+use Rattle.vm_definitions.specs.declared.Broken.{Broken}
+use Rattle.vm_definitions.specs.declared.Broken.the-variants.{No, At, Somewhere}
 use Rattle.vm_definitions.specs.declared.Read.{Read}
 use Rattle.vm_definitions.specs.declared.Read.the-variants.{Got, Bad}
 use Rattle.vm_definitions.specs.declared.Worked.{Worked}
@@ -287,3 +290,53 @@ module _ (N : ℕ → Type 0) (n30 : N 30) (n31 : N 31) (n32 : N 32) (n33 : N 33
           (λ _. either-eq Fine _ _ _ _ (λ _. goes-fine _)
           (λ _. either-eq Fine _ _ _ _ (λ _. goes-fine _)
           (λ _. either-eq Fine _ _ _ _ (λ _. goes-fine _) (λ _. goes-fine _)))))))))))))))
+
+      going-listed : (n top : ℕ) → S (goingOn (x .machine) n top .state)
+      unfolding goingOn
+      going-listed n top = l
+
+      -- what the host hands in
+      pub handed-in-fine : (v : ℕ) → Fine (handedIn p v x)
+      unfolding handedIn
+      handed-in-fine v =
+          either-true Fine _ _ _ (λ _. handed-by-fine _ _) (λ _. handed-fine _ _ _ _ (going-listed _ _))
+
+-- a call to an imported function stops with 32, or pauses with some words
+module _ (P : After → Type 0) (p : Program) (x : World) (stop : P (effected x (stops 32)))
+    (pause : (vs : List ℕ) → P (idle (inStateOf (Paused (pauseOf (importNumber p x) vs)) x) No)) where
+  paused-by-cases : (vs : Words) → P (pausedBy p x vs)
+  unfolding pausedBy
+  paused-by-cases (words vs) = pause vs
+  paused-by-cases bad = stop
+
+  pub pausing-cases : P (pausing p x)
+  unfolding pausing
+  pausing-cases =
+      either-eq P _ _ _ _ (λ _. either-true P _ _ _ (λ _. paused-by-cases _) (λ _. stop)) (λ _. paused-by-cases _)
+
+  -- any statement
+  pub statement-cases : P (effected x (effectOf p x)) → P (statementOf p x)
+  unfolding statementOf
+  statement-cases own = either-true P _ _ _ (λ _. pausing-cases) (λ _. own)
+
+-- going on is 37 or 35, or what the host hands in takes effect
+module _ (P : Continued → Type 0) (p : Program) (v : ℕ) (x : World)
+    (refused : P (record { after = idle x No; unpaused = true }))
+    (broken : (b : Broken) → P (record { after = idle x b; unpaused = false }))
+    (taken : P (record { after = effected (inStateOf Running x) (handedIn p v (inStateOf Running x)); unpaused = false })) where
+  judged-cases : (b : Broken) → P (record { after = guarded x (effected (inStateOf Running x) (handedIn p v (inStateOf Running x))) b; unpaused = false })
+  unfolding guarded
+  judged-cases No = taken
+  judged-cases (At i) = broken (At i)
+  judged-cases Somewhere = broken Somewhere
+
+  state-cases : (s : State) (b : Broken) → P (onPause s (guarded x (effected (inStateOf Running x) (handedIn p v (inStateOf Running x))) b) x)
+  unfolding onPause
+  state-cases Running b = refused
+  state-cases (Finished u) b = refused
+  state-cases (Stopped k i) b = refused
+  state-cases (Paused q) b = judged-cases b
+
+  pub resume-cases : P (resumeOf p v x)
+  unfolding resumeOf
+  resume-cases = state-cases (x .machine .state) _

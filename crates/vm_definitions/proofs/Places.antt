@@ -10,7 +10,9 @@ use borrow.Author.Tests.{eqb-true, eq-eqb, eqb-false, not-true}
 use lib.Dec.{eqb, ltb, leb}
 use Rattle.base_prelude.specs.Choice.{pick, ifEq, ifTrue}
 use Rattle.base_prelude.proofs.Choice.{true-false, either-eq, either-true, ifEq-yes, ifEq-no, ifTrue-no}
+use Rattle.base_limits.specs.Limits.{parameters}
 use Rattle.base_limits.specs.declared.Width.{Width}
+use Rattle.prog_tables.specs.Layout.{importLabel}
 use Rattle.prog_tables.specs.Tests.{both, given, all, firstFrom, someBelow}
 use Rattle.prog_tables.specs.Statement.{Row, isTest}
 use Rattle.prog_tables.specs.Label.{Tables, rows, labelsOf, isData, isFunctionLabel}
@@ -91,7 +93,8 @@ module _ (w : Width) (t : Tables) (good : WellFormed (programFrom w t)) (n : ℕ
           let k : labelsOf t (x .i) .kind ≡ 5 = eqb-true _ _ (both-left (eqb (labelsOf t (x .i) .kind) 5) (eqb (labelsOf t (x .i) .number) (rows t n .a)) (x .passes)) in
           let v : labelsOf t (x .i) .number ≡ rows t n .a = eqb-true _ _ (both-right (eqb (labelsOf t (x .i) .kind) 5) (eqb (labelsOf t (x .i) .number) (rows t n .a)) (x .passes)) in
           let a : both (ltb (labelsOf t (x .i) .number) (t .count)) (ifTrue (isFunctionLabel (labelsOf t (x .i) .kind)) (eqb (rows t (labelsOf t (x .i) .number) .kind) 1) (all (line (x .i)))) ≡ true =
-          sym (ifTrue-no (leb (labelsOf t (x .i) .number) (t .dataLength)) _ (ap isData k ∙ no-data)) ∙ names-at w t good (x .i) (x .below) in
+          sym (ifEq-no (leb (labelsOf t (x .i) .arguments) parameters) _ (λ (z : labelsOf t (x .i) .kind ≡ importLabel). omega arith))
+          ∙ sym (ifTrue-no (leb (labelsOf t (x .i) .number) (t .dataLength)) _ (ap isData k ∙ no-data)) ∙ names-at w t good (x .i) (x .below) in
           let b : all (line (x .i)) ≡ true =
           sym (ifTrue-no (eqb (rows t (labelsOf t (x .i) .number) .kind) 1) (all (line (x .i))) (ap isFunctionLabel k ∙ no-function-label))
           ∙ both-right (ltb (labelsOf t (x .i) .number) (t .count)) (ifTrue (isFunctionLabel (labelsOf t (x .i) .kind)) (eqb (rows t (labelsOf t (x .i) .number) .kind) 1) (all (line (x .i)))) a in

@@ -1,4 +1,4 @@
--- What 35 is given for in a step, beside broken rows, and its place: for each cause of 01 a record on which it computes.
+-- What 35 is given for in a step and in going on, beside broken rows, and its place: for each cause of 01 a record on which it computes.
 -- Assumes nothing.
 use mathlib.Core.Path.{_≡_, refl}
 use Prim.Native.Nat.{ℕ, suc, _-_}
@@ -7,9 +7,10 @@ use lib.ListN.{length, replicate}
 use Rattle.base_limits.specs.Limits.{stackWords}
 use Rattle.base_limits.specs.declared.Width.the-variants.{Bits32}
 use Rattle.base_limits.specs.declared.State.the-variants.{Running}
+use Rattle.base_limits.specs.declared.Machine.{Machine}
 use Rattle.prog_tables.specs.Label.{Tables}
 use Rattle.prog_tables.specs.Program.{Program, programFrom}
-use Rattle.vm_definitions.specs.Broken.{stepBroken, startBroken}
+use Rattle.vm_definitions.specs.Broken.{stepBroken, resumeBroken, startBroken}
 use Rattle.vm_definitions.specs.declared.Broken.{Broken}
 use Rattle.vm_definitions.specs.declared.Broken.the-variants.{No, At, Somewhere}
 use Rattle.prog_tables.proofs.Samples.{program}
@@ -134,3 +135,62 @@ start-places :
     ≡ (No ∷ Somewhere ∷ Somewhere ∷ At 5 ∷ At 5 ∷ Somewhere ∷ [])
 unfolding opened
 start-places = refl
+
+-- ---- calls to imported functions, and going on
+
+-- f: function, call g, return call b, end function; g: function, return call g, tail-call b, return call b, end function; b is
+-- imported; the parameters of f are given, for which its frame has no room
+abbrev importer : ℕ → Program
+importer parameters =
+    programFrom Bits32
+    (program
+    ((1 ∷ 0 ∷ 0 ∷ 0 ∷ 3 ∷ parameters ∷ [])
+    ∷ (11 ∷ 0 ∷ 0 ∷ 1 ∷ 0 ∷ 0 ∷ 2 ∷ 4 ∷ [])
+    ∷ (13 ∷ 0 ∷ 0 ∷ 1 ∷ 0 ∷ 0 ∷ 3 ∷ [])
+    ∷ (2 ∷ [])
+    ∷ (1 ∷ 4 ∷ 4 ∷ 0 ∷ 3 ∷ [])
+    ∷ (13 ∷ 4 ∷ 4 ∷ 5 ∷ 0 ∷ 0 ∷ 2 ∷ 4 ∷ [])
+    ∷ (12 ∷ 4 ∷ 4 ∷ 5 ∷ 0 ∷ 0 ∷ 3 ∷ [])
+    ∷ (13 ∷ 4 ∷ 4 ∷ 5 ∷ 0 ∷ 0 ∷ 3 ∷ [])
+    ∷ (2 ∷ 4 ∷ 4 ∷ [])
+    ∷ [])
+    ((6 ∷ 0 ∷ 0 ∷ 1 ∷ []) ∷ (4 ∷ 0 ∷ 0 ∷ 1 ∷ []) ∷ [])
+    ((98 ∷ []) ∷ (102 ∷ []) ∷ []) 0)
+
+abbrev at : ℕ → ℕ → ℕ → Machine
+at next frame used = record { state = Running; next = next; frame = frame; used = used; top = 0 }
+
+-- a frame of f, behind it one of g with a place to return to and an auto top of entry, behind it another of g, called by `return call g`
+abbrev frames : ℕ → ℕ → List ℕ
+frames place top = 4294967295 ∷ 4294967295 ∷ 0 ∷ place ∷ 0 ∷ top ∷ 5 ∷ 3 ∷ 0 ∷ []
+
+-- what the host hands in is returned: a step at `return call b` or `tail-call b` tests all frames that it will leave, at a call to a
+-- function the frame in use alone; a call to an imported function is a call too
+import-chain :
+    (stepBroken (importer 0) (at 7 6 9) (frames 1 0) 8
+    ∷ stepBroken (importer 0) (at 7 6 9) (frames 3 0) 8
+    ∷ stepBroken (importer 0) (at 7 6 9) (frames 1 9) 8
+    ∷ stepBroken (importer 0) (at 6 6 9) (frames 3 0) 8
+    ∷ stepBroken (importer 0) (at 6 6 9) (frames 1 9) 8
+    ∷ stepBroken (importer 0) (at 5 6 9) (frames 3 9) 8
+    ∷ stepBroken (importer 0) (at 7 6 9) (frames 2 0) 8
+    ∷ [])
+    ≡ (No ∷ Somewhere ∷ Somewhere ∷ Somewhere ∷ Somewhere ∷ No ∷ No ∷ [])
+unfolding opened
+import-chain = refl
+
+-- "35 [..] checks going on as a step, also for a next statement that is no call or `tail-call` to one" (02, 3): a call to a function,
+-- `end function`, past the rows; the lowest broken row, that statement included
+resume-places :
+    (resumeBroken (importer 0) (at 2 0 3) (frames 1 0) 8
+    ∷ resumeBroken (importer 0) (at 7 6 9) (frames 1 0) 8
+    ∷ resumeBroken (importer 0) (at 6 6 9) (frames 3 0) 8
+    ∷ resumeBroken (importer 0) (at 1 0 3) (frames 1 0) 8
+    ∷ resumeBroken (importer 0) (at 3 0 3) (frames 1 0) 8
+    ∷ resumeBroken (importer 0) (at 9 0 3) (frames 1 0) 8
+    ∷ resumeBroken (importer 1) (at 8 3 6) (frames 1 0) 8
+    ∷ resumeBroken (importer 1) (at 2 0 3) (frames 1 0) 8
+    ∷ [])
+    ≡ (No ∷ No ∷ Somewhere ∷ At 1 ∷ At 3 ∷ Somewhere ∷ At 0 ∷ At 0 ∷ [])
+unfolding opened
+resume-places = refl

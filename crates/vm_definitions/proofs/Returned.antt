@@ -16,9 +16,9 @@ use Rattle.base_limits.specs.declared.Width.{Width}
 use Rattle.base_limits.specs.declared.State.the-variants.{Finished}
 use Rattle.base_limits.specs.Record.{ended, movedTo}
 use Rattle.base_word.specs.Bytes.{wordBytes}
-use Rattle.prog_tables.specs.Layout.{callExpression, noExpression}
+use Rattle.prog_tables.specs.Layout.{noExpression}
 use Rattle.prog_tables.specs.Tests.{both, oneOf}
-use Rattle.prog_tables.specs.Statement.{Row, hasExpression}
+use Rattle.prog_tables.specs.Statement.{Row, hasExpression, isCallExpression}
 use Rattle.prog_tables.specs.Label.{Tables, rows}
 use Rattle.prog_tables.specs.Program.{programFrom}
 use Rattle.prog_tables.specs.WellFormed.{WellFormed}
@@ -28,7 +28,7 @@ use Rattle.prog_laws.proofs.Next.{next-in, next-other}
 use Rattle.prog_laws.proofs.Words.{Apart, destination-apart}
 use Rattle.vm_definitions.specs.Access.{wordGood, storeFrom}
 use Rattle.vm_definitions.specs.Operands.{numberIn}
-use Rattle.vm_definitions.specs.Frames.{isReturn, isReturnCall, isCalling}
+use Rattle.vm_definitions.specs.Frames.{isReturn, isReturnCall, isCalling, importing, resumptionOf}
 use Rattle.vm_definitions.specs.Ledger.{Entry, Ledger, popped, countedIn, sumOf}
 use Rattle.vm_definitions.specs.Step.{World, Effect, stops, leaves, workedOf, handedTo, handedBy, returned, returnOf, effectOf}
 use Rattle.vm_definitions.specs.declared.Worked.{Worked}
@@ -73,33 +73,33 @@ unfolding isCalling isReturnCall hasExpression
 takes r e p =
     elim (ℕ-discrete (r .kind) 11) [
       | yes k ↦ record { low = omega arith; high = λ q. absurd (q k) }
-      | no k ↦ by (ap (λ (b : Bool). oneOf b (both (hasExpression (r .kind)) (eqb (r .expr) callExpression))) (sym (ne-eqb _ _ k)) ∙ e)
+      | no k ↦ by (ap (λ (b : Bool). oneOf b (both (hasExpression (r .kind)) (isCallExpression (r .expr)))) (sym (ne-eqb _ _ k)) ∙ e)
     ]
   where
-    by : both (hasExpression (r .kind)) (eqb (r .expr) callExpression) ≡ true → Takes r
+    by : both (hasExpression (r .kind)) (isCallExpression (r .expr)) ≡ true → Takes r
     by d =
         either (λ (b : Bool). b ≡ true → Takes r) (r .kind) 5 false (ifLt (r .kind) 8 true (eqb (r .kind) 13)) (λ l q. true-false (sym q))
         (λ l. either (λ (b : Bool). b ≡ true → Takes r) (r .kind) 8 true (eqb (r .kind) 13) (λ g q. record { low = l; high = λ z. omega arith })
-        (λ g q. true-false (sym (both-true (eqb (r .kind) 13) (eqb (r .expr) callExpression) q (both-right (hasExpression (r .kind)) (eqb (r .expr) callExpression) d)) ∙ p)))
-        (both-left (hasExpression (r .kind)) (eqb (r .expr) callExpression) d)
+        (λ g q. true-false (sym (both-true (eqb (r .kind) 13) (isCallExpression (r .expr)) q (both-right (hasExpression (r .kind)) (isCallExpression (r .expr)) d)) ∙ p)))
+        (both-left (hasExpression (r .kind)) (isCallExpression (r .expr)) d)
 
 -- a row that returns calls nothing
 pub return-no-call : (r : Row) → isReturn r ≡ true → isCalling r ≡ false
 unfolding isReturn isCalling hasExpression ifLt
 return-no-call r e =
     elim (ℕ-discrete (r .kind) 2) [
-      | yes k ↦ quiet (λ z. omega arith) (both-false (hasExpression (r .kind)) (eqb (r .expr) callExpression) (λ a. true-false (sym a ∙ ap hasExpression k)))
-      | no k ↦ thirteen (ap (λ (b : Bool). oneOf b (both (eqb (r .kind) 13) (ifTrue (eqb (r .expr) callExpression) false true))) (sym (ne-eqb _ _ k)) ∙ e)
+      | yes k ↦ quiet (λ z. omega arith) (both-false (hasExpression (r .kind)) (isCallExpression (r .expr)) (λ a. true-false (sym a ∙ ap hasExpression k)))
+      | no k ↦ thirteen (ap (λ (b : Bool). oneOf b (both (eqb (r .kind) 13) (ifTrue (isCallExpression (r .expr)) false true))) (sym (ne-eqb _ _ k)) ∙ e)
     ]
   where
-    quiet : (r .kind ≡ 11 → ⊥) → both (hasExpression (r .kind)) (eqb (r .expr) callExpression) ≡ false → isCalling r ≡ false
-    quiet q d = ap (λ (b : Bool). oneOf b (both (hasExpression (r .kind)) (eqb (r .expr) callExpression))) (ne-eqb (r .kind) 11 q) ∙ d
+    quiet : (r .kind ≡ 11 → ⊥) → both (hasExpression (r .kind)) (isCallExpression (r .expr)) ≡ false → isCalling r ≡ false
+    quiet q d = ap (λ (b : Bool). oneOf b (both (hasExpression (r .kind)) (isCallExpression (r .expr)))) (ne-eqb (r .kind) 11 q) ∙ d
 
-    thirteen : both (eqb (r .kind) 13) (ifTrue (eqb (r .expr) callExpression) false true) ≡ true → isCalling r ≡ false
+    thirteen : both (eqb (r .kind) 13) (ifTrue (isCallExpression (r .expr)) false true) ≡ true → isCalling r ≡ false
     thirteen a =
-        let k : r .kind ≡ 13 = eqb-true _ _ (both-left (eqb (r .kind) 13) (ifTrue (eqb (r .expr) callExpression) false true) a) in
+        let k : r .kind ≡ 13 = eqb-true _ _ (both-left (eqb (r .kind) 13) (ifTrue (isCallExpression (r .expr)) false true) a) in
         quiet (λ z. omega arith)
-        (both-false (hasExpression (r .kind)) (eqb (r .expr) callExpression) (λ b. other (eqb (r .expr) callExpression) (both-right (eqb (r .kind) 13) (ifTrue (eqb (r .expr) callExpression) false true) a)))
+        (both-false (hasExpression (r .kind)) (isCallExpression (r .expr)) (λ b. other (isCallExpression (r .expr)) (both-right (eqb (r .kind) 13) (ifTrue (isCallExpression (r .expr)) false true) a)))
       where
         other : (b : Bool) → ifTrue b false true ≡ true → b ≡ false
         other true d = true-false (sym d ∙ ifTrue-yes false true refl)
@@ -108,12 +108,12 @@ return-no-call r e =
 return-no-tail : (r : Row) → isReturn r ≡ true → r .kind ≡ 12 → ⊥
 unfolding isReturn
 return-no-tail r e k =
-    true-false (sym e ∙ ap (λ (n : ℕ). oneOf (eqb n 2) (both (eqb n 13) (ifTrue (eqb (r .expr) callExpression) false true))) k)
+    true-false (sym e ∙ ap (λ (n : ℕ). oneOf (eqb n 2) (both (eqb n 13) (ifTrue (isCallExpression (r .expr)) false true))) k)
 
 -- the ledger after a row that returns
-pub return-ledger : (f : ℕ → Row) (n : ℕ) (es : Ledger) → isReturn (f n) ≡ true → countedIn f n es ≡ popped f es
+pub return-ledger : (f : ℕ → Row) (n : ℕ) (es : Ledger) → importing (f n) ≡ false → isReturn (f n) ≡ true → countedIn f n es ≡ popped f es
 unfolding countedIn
-return-ledger f n es e = ifTrue-no _ _ (return-no-call (f n) e) ∙ ifEq-no _ _ (return-no-tail (f n) e) ∙ ifTrue-yes _ _ e
+return-ledger f n es h e = ifTrue-no _ _ h ∙ ifTrue-no _ _ (return-no-call (f n) e) ∙ ifEq-no _ _ (return-no-tail (f n) e) ∙ ifTrue-yes _ _ e
 
 -- ---- back in a frame
 
@@ -195,9 +195,14 @@ module _ (w : Width) (t : Tables) (good : WellFormed (programFrom w t)) (e : Ent
   handed-by z p l o (to-caller d ds c v u top y q g) =
       subst (λ (k : Resumption). Returns w t (popped (rows t) (e ∷ es)) x (handedBy (programFrom w t) x z k)) (sym q) (handed-to d ds c v u top y (o ∙ g) z)
 
+  -- a value handed out of the frame in use
+  pub returns-value : (z : ℕ) → Returns w t (popped (rows t) (e ∷ es)) x
+      (handedBy (programFrom w t) x z (resumptionOf w (rows t) (t .count) (x .stack) (suc (x .machine .frame)) (x .machine .frame)))
+  returns-value z = handed-by z (popped (rows t) (e ∷ es)) _ refl (invariant-resumed w t good e es x i)
+
   returns-by : (r : Worked) → Returns w t (popped (rows t) (e ∷ es)) x (returned (programFrom w t) x r)
   unfolding Returns returned
-  returns-by (Value z top) = handed-by z (popped (rows t) (e ∷ es)) _ refl (invariant-resumed w t good e es x i)
+  returns-by (Value z top) = returns-value z
   returns-by (Stop k) = tt
 
   pub returns-of : Returns w t (popped (rows t) (e ∷ es)) x (returnOf (programFrom w t) x)

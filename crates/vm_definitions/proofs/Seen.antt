@@ -1,5 +1,5 @@
--- What a statement's effect looks at: the width and the rows of the program, not its labels, data or counts. What a row's faults look at. The parts
--- of a good way out.
+-- What a statement's effect looks at: the width and the rows of the program, not its labels, data or counts; a pause looks at one
+-- label's number too. What a row's faults look at. The parts of a good way out.
 -- Assumes nothing.
 use mathlib.Core.Path.{_≡_, refl, ap, _∙_}
 use mathlib.Core.Bool.{Bool, true, false}
@@ -9,16 +9,19 @@ use lib.Dec.{leb}
 use Rattle.base_prelude.specs.Choice.{ifTrue}
 use Rattle.base_limits.specs.declared.Width.{Width}
 use Rattle.base_limits.specs.declared.Width.the-variants.{Bits32}
+use Rattle.base_limits.specs.declared.State.the-variants.{Paused}
+use Rattle.base_limits.specs.Record.{pauseOf}
 use Rattle.prog_tables.specs.Tests.{both}
 use Rattle.prog_tables.specs.Statement.{Row}
-use Rattle.prog_tables.specs.Label.{Label}
+use Rattle.prog_tables.specs.Label.{Label, labelAt}
 use Rattle.prog_tables.specs.Program.{Program, programFrom, lentProgram}
-use Rattle.prog_tables.specs.Faults.{kindFault, targetFault, calleeFault, sizeFault, wordFault, operandsFault, addressFault, rowFault}
+use Rattle.prog_tables.specs.Faults.{kindFault, targetFault, functionFault, importFault, calleeFault, sizeFault, wordFault, operandsFault, addressFault, rowFault}
 use Rattle.vm_definitions.specs.Lent.{tablesOf}
 use Rattle.vm_definitions.specs.Broken.{lowest}
 use Rattle.vm_definitions.specs.Frames.{callerFrame, topAtEntry, headGood, passesOn, leavesGood, headsLeft, topsLeft}
 use Rattle.vm_definitions.specs.Operands.{Words, words, bad}
-use Rattle.vm_definitions.specs.Step.{World, goesTo, keeps, stores, blockOf, endBlockOf, testOf, workedOf, assigned, assignedAt, setAtOf, setByteBy, setWordBy, argumentsOf, callBy, callOf, tailCallBy, handedTo, handedBy, returned, returnOf, effectOf}
+use Rattle.vm_definitions.specs.declared.Broken.the-variants.{No}
+use Rattle.vm_definitions.specs.Step.{World, rowOf, goesTo, keeps, stores, blockOf, endBlockOf, testOf, workedOf, assigned, assignedAt, setAtOf, setByteBy, setWordBy, argumentsOf, callBy, callOf, tailCallBy, handedTo, handedBy, returned, returnOf, effectOf, idle, inStateOf, pausedBy, pausing, statementOf, handedIn}
 use Rattle.vm_definitions.specs.declared.Worked.{Worked}
 use Rattle.vm_definitions.specs.declared.Worked.the-variants.{Value, Stop}
 use Rattle.vm_definitions.specs.declared.Resumption.{Resumption}
@@ -96,6 +99,27 @@ module _ (p : Program) (g : ℕ → Label) (k d : ℕ) (a b : Bool) (x : World) 
         returned-seen (Value 0 0),
       )
 
+  -- what the host hands in
+  pub handed-in-seen : (v : ℕ) → handedIn p v x ≡ handedIn q v x
+  unfolding handedIn handedTo
+  handed-in-seen v = rw (handed-seen _ _)
+
+  -- ---- a pause: the number of the label that the row calls is the same
+
+  module _ (h : p .labels (rowOf p x .callee) .number ≡ g (rowOf p x .callee) .number) where
+    paused-seen : (vs : Words) → pausedBy p x vs ≡ pausedBy q x vs
+    unfolding pausedBy
+    paused-seen (words vs) = ap (λ (n : ℕ). idle (inStateOf (Paused (pauseOf n vs)) x) No) h
+    paused-seen bad = refl
+
+    pub pausing-seen : pausing p x ≡ pausing q x
+    unfolding pausing argumentsOf
+    pausing-seen = rw (paused-seen (argumentsOf p x))
+
+    pub statement-seen : statementOf p x ≡ statementOf q x
+    unfolding statementOf
+    statement-seen = rw (pausing-seen, effect-seen)
+
 -- ---- rows
 
 pub lowest-same : (p q : ℕ → Bool) → ((i : ℕ) → p i ≡ q i) → (is : List ℕ) → lowest p is ≡ lowest q is
@@ -106,11 +130,27 @@ lowest-same p q h (i ∷ is) = rw (h i, lowest-same p q h is)
 -- a row's faults look at neither names nor counts
 module _ (t : List ℕ) (c : ℕ) (l : List ℕ) (k : ℕ) (names : List ℕ) (d : ℕ) where
   pub row-seen : (n : ℕ) → rowFault (programFrom Bits32 (tablesOf t c l k names d)) n ≡ rowFault (lentProgram t c l k d) n
-  unfolding rowFault kindFault targetFault calleeFault sizeFault wordFault operandsFault addressFault
+  unfolding rowFault kindFault targetFault calleeFault functionFault importFault sizeFault wordFault operandsFault addressFault labelAt
   row-seen n = refl
 
   pub lowest-seen : (is : List ℕ) → lowest (rowFault (programFrom Bits32 (tablesOf t c l k names d))) is ≡ lowest (rowFault (lentProgram t c l k d)) is
   lowest-seen is = lowest-same _ _ row-seen is
+
+  -- nor does a statement, nor what the host hands in
+  module _ (x : World) where
+    pub effect-lent : effectOf (programFrom Bits32 (tablesOf t c l k names d)) x ≡ effectOf (lentProgram t c l k d) x
+    effect-lent = effect-seen (programFrom Bits32 (tablesOf t c l k names d)) (labelAt l []) k d false false x
+
+    pub pausing-lent : pausing (programFrom Bits32 (tablesOf t c l k names d)) x ≡ pausing (lentProgram t c l k d) x
+    unfolding labelAt
+    pausing-lent = pausing-seen (programFrom Bits32 (tablesOf t c l k names d)) (labelAt l []) k d false false x refl
+
+    pub statement-lent : statementOf (programFrom Bits32 (tablesOf t c l k names d)) x ≡ statementOf (lentProgram t c l k d) x
+    unfolding labelAt
+    statement-lent = statement-seen (programFrom Bits32 (tablesOf t c l k names d)) (labelAt l []) k d false false x refl
+
+    pub handed-in-lent : (v : ℕ) → handedIn (programFrom Bits32 (tablesOf t c l k names d)) v x ≡ handedIn (lentProgram t c l k d) v x
+    handed-in-lent v = handed-in-seen (programFrom Bits32 (tablesOf t c l k names d)) (labelAt l []) k d false false x v
 
 -- ---- the frames that a return leaves: heads and auto tops
 

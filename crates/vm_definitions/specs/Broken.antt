@@ -14,7 +14,7 @@ use Rattle.prog_tables.specs.Tests.{both, oneOf, some, someBelow}
 use Rattle.prog_tables.specs.Statement.{Row, isCall}
 use Rattle.prog_tables.specs.Program.{Program}
 use Rattle.prog_tables.specs.Faults.{inFunction, sizeAt, rowFault, labelFault}
-use Rattle.vm_definitions.specs.Frames.{topAtEntry, isReturn, headGood, headsLeft, topsLeft, rowsLeft}
+use Rattle.vm_definitions.specs.Frames.{topAtEntry, importing, leavesFrame, headGood, headsLeft, topsLeft, rowsLeft}
 use Rattle.vm_definitions.specs.declared.Broken.{Broken}
 use Rattle.vm_definitions.specs.declared.Broken.the-variants.{No, At, Somewhere}
 
@@ -54,7 +54,7 @@ rowsUsed p r st =
     ∷ (ifTrue (inFunction (p .rows) (p .count) (r .next)) (p .rows (r .next) .func ∷ []) []
     ++ (ifTrue (both (isCall (p .rows (r .next) .kind) (p .rows (r .next) .expr)) (ltb (p .rows (r .next) .callee) (p .count)))
     (p .rows (r .next) .callee ∷ []) []
-    ++ ifTrue (both (isReturn (p .rows (r .next))) (frameEnds (p .rows) (p .count) r (length st)))
+    ++ ifTrue (both (leavesFrame (p .rows (r .next))) (frameEnds (p .rows) (p .count) r (length st)))
     (rowsLeft (p .width) (p .rows) (p .count) st (suc (r .frame)) (r .frame)) [])))
     []
 
@@ -72,14 +72,14 @@ module _ (p : Program) (m : ℕ) (r : Machine) (st : List ℕ) where
   frameFault = not (frameEnds (p .rows) (p .count) r (length st))
 
   -- "an auto top (held or about to be restored) above the memory's length": m bytes; restored by `end block`, by `tail-call`, and
-  -- by a return from each frame it leaves
+  -- by a return from each frame it leaves, what the host hands in being returned too
   unfoldable pub topFault : Bool
   topFault =
       some
       (ltb m (r .top)
       ∷ both (eqb (nextRow .kind) kind.endBlock) (ltb m (getD st (r .frame + nextRow .a) 0))
       ∷ both (eqb (nextRow .kind) kind.tailCall) (ltb m (topAtEntry st (r .frame)))
-      ∷ both (isReturn nextRow) (not (topsLeft (p .width) (p .rows) (p .count) m st (suc (r .frame)) (r .frame)))
+      ∷ both (leavesFrame nextRow) (not (topsLeft (p .width) (p .rows) (p .count) m st (suc (r .frame)) (r .frame)))
       ∷ [])
 
   -- "a memory or stack over the limits"
@@ -93,18 +93,31 @@ module _ (p : Program) (m : ℕ) (r : Machine) (st : List ℕ) where
   unfoldable pub headFault : Bool
   headFault =
       oneOf (not (headGood (p .width) (p .rows) (p .count) st (r .frame)))
-      (both (isReturn nextRow) (not (headsLeft (p .width) (p .rows) (p .count) st (suc (r .frame)) (r .frame))))
+      (both (leavesFrame nextRow) (not (headsLeft (p .width) (p .rows) (p .count) st (suc (r .frame)) (r .frame))))
 
   -- the record is broken
   unfoldable pub recordFault : Bool
   recordFault = some (nextPast ∷ frameFault ∷ topFault ∷ limitFault ∷ headFault ∷ [])
 
+-- the lowest broken row of those that a step uses
+abbrev pub rowBroken : Program → Machine → List ℕ → Broken
+rowBroken p r st = lowest (λ i. oneOf (rowFault p i) (both (eqb i (r .next)) (nextBad (p .rows) (p .count) i))) (rowsUsed p r st)
+
+-- what is broken with no place: the count of labels, the record
+abbrev pub placeless : Program → Machine → List ℕ → ℕ → Broken
+placeless p r st m = ifTrue (oneOf (p .labelsPast) (recordFault p m r st)) Somewhere No
+
 -- 35 of a step: "a label row or count past its table" too, and where that is the count of statements no row can be judged
 unfoldable pub stepBroken : Program → Machine → List ℕ → ℕ → Broken
-stepBroken p r st m =
-    ifTrue (p .statementsPast) Somewhere
-    (orElse (lowest (λ i. oneOf (rowFault p i) (both (eqb i (r .next)) (nextBad (p .rows) (p .count) i))) (rowsUsed p r st))
-    (ifTrue (oneOf (p .labelsPast) (recordFault p m r st)) Somewhere No))
+stepBroken p r st m = ifTrue (p .statementsPast) Somewhere (orElse (rowBroken p r st) (placeless p r st m))
+
+-- 35 of going on: "checks going on as a step, also for a next statement that is no call or `tail-call` to one" (02, 3): its place is that
+-- statement
+unfoldable pub notImport : Program → Machine → Broken → Broken
+notImport p r b = ifLt (r .next) (p .count) (ifTrue (importing (p .rows (r .next))) b (lower (r .next) b)) b
+
+unfoldable pub resumeBroken : Program → Machine → List ℕ → ℕ → Broken
+resumeBroken p r st m = ifTrue (p .statementsPast) Somewhere (orElse (notImport p r (rowBroken p r st)) (placeless p r st m))
 
 -- ---- a start: "Start reads all rows"
 

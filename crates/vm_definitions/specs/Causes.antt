@@ -11,7 +11,7 @@ use Rattle.base_limits.specs.Width.{bitsOf, bytesOf}
 use Rattle.base_limits.specs.declared.Width.{Width}
 use Rattle.lang_kinds.specs.Kinds as kind
 use Rattle.prog_tables.specs.Tests.{both, oneOf}
-use Rattle.prog_tables.specs.Statement.{Row, hasExpression, isCall}
+use Rattle.prog_tables.specs.Statement.{Row, hasExpression, isCall, isImport}
 use Rattle.prog_tables.specs.Program.{Program}
 use Rattle.prog_tables.specs.declared.Operand.{Operand}
 use Rattle.vm_definitions.specs.Access.{byteAddress, wordAddress, loadOf}
@@ -56,7 +56,7 @@ wordOf w st s m o = ifTrue (isAt o) (loadOf w m (numberIn w st s o)) (numberIn w
 unfoldable pub withFrame : ℕ → ℕ → ℕ → Row → ℕ
 withFrame sum last g r = ifEq (r .kind) kind.tailCall (sum - last + g) (sum + g)
 
--- behind its operands
+-- behind its operands; a call to an imported function has no frame and meets nothing there
 unfoldable pub behindOperands : Width → ℕ → ℕ → ℕ → ℕ → Row → ℕ → ℕ → List Meeting
 behindOperands w top sum last g r x y =
     ifTrue (isCall (r .kind) (r .expr)) (stacksTo (withFrame sum last g r) ∷ [])
@@ -82,10 +82,14 @@ meetingsOf p sum last x =
 unfoldable pub firstCause : Program → ℕ → ℕ → World → ℕ
 firstCause p sum last x = firstOf (p .width) (length (x .memory)) (length (x .stack)) (meetingsOf p sum last x)
 
+-- the next statement calls or tail-calls, a function or an imported one
+abbrev pub callsAtAll : Row → Bool
+callsAtAll r = oneOf (isCall (r .kind) (r .expr)) (isImport (r .kind) (r .expr))
+
 -- "a call's or tail call's arguments are read": the next statement calls, and nothing it reads is a cause
 unfoldable pub argumentsRead : Program → World → Bool
 argumentsRead p x =
-    both (isCall (p .rows (x .machine .next) .kind) (p .rows (x .machine .next) .expr))
+    both (callsAtAll (p .rows (x .machine .next)))
     (eqb (firstOf (p .width) (length (x .memory)) (length (x .stack)) (readsOf (p .width) (p .rows (x .machine .next)) x)) 0)
 
 -- "and that sum with the new frame, for a tail call less the old one, passes the words lent"

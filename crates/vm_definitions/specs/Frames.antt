@@ -9,9 +9,9 @@ use Rattle.base_prelude.specs.Choice.{ifTrue}
 use Rattle.base_limits.specs.declared.Width.{Width}
 use Rattle.base_limits.specs.Record.{mark}
 use Rattle.lang_kinds.specs.Kinds as kind
-use Rattle.prog_tables.specs.Layout.{frameHead, callExpression}
+use Rattle.prog_tables.specs.Layout.{frameHead}
 use Rattle.prog_tables.specs.Tests.{both, oneOf}
-use Rattle.prog_tables.specs.Statement.{Row, hasExpression}
+use Rattle.prog_tables.specs.Statement.{Row, hasExpression, isImport, isCallExpression}
 use Rattle.prog_tables.specs.Faults.{inFunction, sizeAt}
 use Rattle.vm_definitions.specs.Access.{asWord}
 use Rattle.vm_definitions.specs.declared.Resumption.{Resumption}
@@ -41,15 +41,27 @@ isFirst w st s = both (eqb s 0) (both (eqb (returnsTo st s) (mark w)) (eqb (call
 
 -- "`return call`"
 unfoldable pub isReturnCall : Row → Bool
-isReturnCall r = both (eqb (r .kind) kind.return) (eqb (r .expr) callExpression)
+isReturnCall r = both (eqb (r .kind) kind.return) (isCallExpression (r .expr))
 
 -- "a `return` without `call`, or `end function`"
 unfoldable pub isReturn : Row → Bool
-isReturn r = oneOf (eqb (r .kind) kind.endFunction) (both (eqb (r .kind) kind.return) (ifTrue (eqb (r .expr) callExpression) false true))
+isReturn r = oneOf (eqb (r .kind) kind.endFunction) (both (eqb (r .kind) kind.return) (ifTrue (isCallExpression (r .expr)) false true))
 
--- "A call in any form": not the tail call, to which nothing returns
+-- "A call in any form", of a function or an imported one: not the tail call, to which nothing returns
 unfoldable pub isCalling : Row → Bool
-isCalling r = oneOf (eqb (r .kind) kind.call) (both (hasExpression (r .kind)) (eqb (r .expr) callExpression))
+isCalling r = oneOf (eqb (r .kind) kind.call) (both (hasExpression (r .kind)) (isCallExpression (r .expr)))
+
+-- a call or tail call to an imported function
+abbrev pub importing : Row → Bool
+importing r = isImport (r .kind) (r .expr)
+
+-- `tail-call` or `return call` to an imported function: what the host hands in is returned
+unfoldable pub returnsImport : Row → Bool
+returnsImport r = both (importing r) (oneOf (eqb (r .kind) kind.tailCall) (eqb (r .kind) kind.return))
+
+-- a statement that leaves its frame: a return, or one that returns what the host hands in
+unfoldable pub leavesFrame : Row → Bool
+leavesFrame r = oneOf (isReturn r) (returnsImport r)
 
 -- ---- the way out
 

@@ -8,7 +8,7 @@ use mathlib.Core.List.{List, [], _∷_}
 use Rattle.base_prelude.specs.Choice.{ifEq, ifTrue}
 use Rattle.lang_kinds.specs.Kinds as kind
 use Rattle.prog_tables.specs.Statement.{Row}
-use Rattle.vm_definitions.specs.Frames.{isReturn, isCalling, isReturnCall}
+use Rattle.vm_definitions.specs.Frames.{isReturn, isCalling, isReturnCall, importing, returnsImport}
 
 pub data Event : Type 0 where
   -- an accepted start of the function at a row
@@ -41,12 +41,14 @@ replaced g [] = []
 replaced g (e ∷ es) = record { func = g; call = e .call } ∷ es
 
 -- "A call in any form adds its function; a tail call changes only the last one's function; a `return` without `call`, or `end
--- function`, removes the last [..]. Else it stays."
+-- function`, removes the last [..]. Else it stays." "An imported function has no frame: in the ledger its `tail-call` or `return call`
+-- is as a return, any other call to it changes nothing" (02, 3)
 unfoldable pub countedIn : (ℕ → Row) → ℕ → Ledger → Ledger
 countedIn f n es =
-    ifTrue (isCalling (f n)) (record { func = f n .callee; call = some n } ∷ es)
+    ifTrue (importing (f n)) (ifTrue (returnsImport (f n)) (popped f es) es)
+    (ifTrue (isCalling (f n)) (record { func = f n .callee; call = some n } ∷ es)
     (ifEq (f n .kind) kind.tailCall (replaced (f n .callee) es)
-    (ifTrue (isReturn (f n)) (popped f es) es))
+    (ifTrue (isReturn (f n)) (popped f es) es)))
 
 -- "An accepted start puts the started function alone in it."
 unfoldable pub fed : (ℕ → Row) → Event → Ledger → Ledger

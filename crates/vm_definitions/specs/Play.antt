@@ -1,10 +1,11 @@
--- Any list of starts, steps and runs: "between calls the memory's bytes may become anything, its length stays".
+-- Any list of starts, steps, runs and goings on: "between calls the memory's bytes may become anything, its length stays".
 -- Assumes nothing.
 use Prim.Native.Nat.{ℕ, zero, suc}
+use mathlib.Core.Bool.{Bool, true, false}
 use mathlib.Core.List.{List, [], _∷_, _++_}
 use Rattle.base_prelude.specs.Choice.{ifEq}
 use Rattle.prog_tables.specs.Program.{Program}
-use Rattle.vm_definitions.specs.Step.{World, After, stepOf, runOf}
+use Rattle.vm_definitions.specs.Step.{World, After, stepOf, runOf, Continued, resumeOf}
 use Rattle.vm_definitions.specs.Start.{startOf, startLeaves, startedFunction}
 use Rattle.vm_definitions.specs.Ledger.{Event, started, counted}
 use Rattle.vm_definitions.specs.declared.Broken.{Broken}
@@ -18,6 +19,8 @@ pub data Call : Type 0 where
   step : Call
   -- with a budget
   run : ℕ → Call
+  -- with the word handed in
+  resume : ℕ → Call
 
 -- a call, and the memory it finds
 pub record Invocation : Type 0 where
@@ -29,12 +32,19 @@ pub record CallResult : Type 0 where
   pub world : World
   pub events : List Event
   pub broken : Broken
+  -- 37
+  pub unpaused : Bool
 
 -- the statements that a run counts
 unfoldable pub eventsOf : Program → ℕ → World → List Event
 eventsOf p zero x = []
 eventsOf p (suc b) x =
     ifEq (stepOf p x .count) 0 [] (counted (x .machine .next) ∷ eventsOf p b (stepOf p x .world))
+
+-- the statement that going on counts
+unfoldable pub resumeEvents : ℕ → ℕ → List Event
+resumeEvents n zero = []
+resumeEvents n (suc k) = counted n ∷ []
 
 unfoldable pub startEvents : ℕ → Started → List Event
 startEvents g Begun = started g ∷ []
@@ -53,9 +63,17 @@ module _ (p : Program) (bytes : List ℕ) where
         world = startLeaves p bytes name args x;
         events = startEvents (startedFunction p bytes name args x) (startOf p bytes name args x);
         broken = startBroke (startOf p bytes name args x);
+        unpaused = false;
       }
-  calledOn step x = record { world = stepOf p x .world; events = eventsOf p 1 x; broken = stepOf p x .broken }
-  calledOn (run b) x = record { world = runOf p b x .world; events = eventsOf p b x; broken = runOf p b x .broken }
+  calledOn step x = record { world = stepOf p x .world; events = eventsOf p 1 x; broken = stepOf p x .broken; unpaused = false }
+  calledOn (run b) x = record { world = runOf p b x .world; events = eventsOf p b x; broken = runOf p b x .broken; unpaused = false }
+  calledOn (resume v) x =
+      record {
+        world = resumeOf p v x .after .world;
+        events = resumeEvents (x .machine .next) (resumeOf p v x .after .count);
+        broken = resumeOf p v x .after .broken;
+        unpaused = resumeOf p v x .unpaused;
+      }
 
   -- one invocation
   unfoldable pub invokedOn : Invocation → World → CallResult

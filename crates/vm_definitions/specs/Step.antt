@@ -10,9 +10,9 @@ use Rattle.base_prelude.specs.Choice.{ifLt, ifEq, ifTrue}
 use Rattle.base_limits.specs.Width.{bytesOf}
 use Rattle.base_limits.specs.declared.Width.{Width}
 use Rattle.base_limits.specs.declared.State.{State}
-use Rattle.base_limits.specs.declared.State.the-variants.{Running, Finished, Stopped}
+use Rattle.base_limits.specs.declared.State.the-variants.{Running, Finished, Stopped, Paused}
 use Rattle.base_limits.specs.declared.Machine.{Machine}
-use Rattle.base_limits.specs.Record.{goingOn, movedTo, ended, stopped}
+use Rattle.base_limits.specs.Record.{goingOn, movedTo, ended, stopped, withState, pauseOf}
 use Rattle.base_word.specs.Bytes.{wordBytes}
 use Rattle.lang_kinds.specs.Kinds as kind
 use Rattle.prog_tables.specs.Layout.{noExpression}
@@ -22,8 +22,8 @@ use Rattle.prog_tables.specs.Program.{Program}
 use Rattle.vm_definitions.specs.Access.{asWord, byteAddress, wordAddress, byteGood, wordGood, storeFrom}
 use Rattle.vm_definitions.specs.Operands.{Words, words, bad, numberIn, readOf, readAll, onRead}
 use Rattle.vm_definitions.specs.Expressions.{evalOf, operandNo, testHolds}
-use Rattle.vm_definitions.specs.Frames.{frameWords, returnsTo, callerFrame, topAtEntry, isReturn, isCalling, resumptionOf}
-use Rattle.vm_definitions.specs.Broken.{stepBroken}
+use Rattle.vm_definitions.specs.Frames.{frameWords, returnsTo, callerFrame, topAtEntry, isReturn, isCalling, importing, returnsImport, resumptionOf}
+use Rattle.vm_definitions.specs.Broken.{stepBroken, resumeBroken}
 use Rattle.vm_definitions.specs.declared.Worked.{Worked}
 use Rattle.vm_definitions.specs.declared.Worked.the-variants.{Value, Stop}
 use Rattle.vm_definitions.specs.declared.Resumption.{Resumption}
@@ -213,7 +213,7 @@ module _ (p : Program) (x : World) where
 
   -- ---- the statement
 
-  -- the row's effect by its kind; `other` for a kind that is not named
+  -- the row's effect by its kind, where it calls no imported function; `other` for a kind that is not named
   abbrev pub effectElse : Effect → Effect
   effectElse other =
       -- "A call in any form": `call`, and `let`, `set`, `set @` and `return` with one
@@ -272,20 +272,47 @@ effected x (stops k) = record { world = record { machine = stopped (x .machine) 
 effected x (leaves y) = record { world = y; count = 1; broken = No }
 
 -- "A step refused so changes nothing."
-unfoldable pub guarded : World → Effect → Broken → After
-guarded x e No = effected x e
-guarded x e (At i) = idle x (At i)
-guarded x e Somewhere = idle x Somewhere
+unfoldable pub guarded : World → After → Broken → After
+guarded x y No = y
+guarded x y (At i) = idle x (At i)
+guarded x y Somewhere = idle x Somewhere
 
--- "Stepping a finished or stopped record gives it back with count 0, before any 35."
+-- the world with its record in another state
+unfoldable pub inStateOf : State → World → World
+inStateOf s x = record { machine = withState s (x .machine); stack = x .stack; memory = x .memory }
+
+module _ (p : Program) (x : World) where
+  -- the number of the imported name that the row calls
+  abbrev pub importNumber : ℕ
+  importNumber = p .labels (rowOf p x .callee) .number
+
+  -- "A call to such a name pauses the run with the name's number and its arguments" (02, 3); nothing else changes
+  unfoldable pub pausedBy : Words → After
+  pausedBy (words vs) = idle (inStateOf (Paused (pauseOf importNumber vs)) x) No
+  pausedBy bad = effected x (stops 32)
+
+  -- a call to an imported function in any form: that of `set @` judges its address first
+  unfoldable pub pausing : After
+  pausing =
+      ifEq (rowOf p x .kind) kind.setAt
+      (ifTrue (wordGood (p .width) (length (x .memory)) (addressOf p x)) (pausedBy (argumentsOf p x)) (effected x (stops 32)))
+      (pausedBy (argumentsOf p x))
+
+  -- what the statement comes to, where it is not refused
+  unfoldable pub statementOf : After
+  statementOf = ifTrue (importing (rowOf p x)) pausing (effected x (effectOf p x))
+
+-- "Stepping a finished or stopped record gives it back with count 0, before any 35"; "a step or run gives a paused one back with count
+-- 0, before any 35" (02, 3)
 unfoldable pub inState : State → After → After → After
 inState Running y z = y
 inState (Finished v) y z = z
 inState (Stopped k i) y z = z
+inState (Paused q) y z = z
 
 unfoldable pub stepOf : Program → World → After
 stepOf p x =
-    inState (x .machine .state) (guarded x (effectOf p x) (stepBroken p (x .machine) (x .stack) (length (x .memory)))) (idle x No)
+    inState (x .machine .state) (guarded x (statementOf p x) (stepBroken p (x .machine) (x .stack) (length (x .memory)))) (idle x No)
 
 -- ---- a run
 
@@ -293,7 +320,39 @@ stepOf p x =
 unfoldable pub counting : ℕ → After → After
 counting n y = record { world = y .world; count = n + y .count; broken = y .broken }
 
--- "A run steps until its count is the budget, the record has finished or stopped, or a 35 ends it with the count so far."
+-- "A run steps until its count is the budget, the record has finished or stopped, or a 35 ends it with the count so far"; a pause ends it
+-- too
 unfoldable pub runOf : Program → ℕ → World → After
 runOf p zero x = idle x No
 runOf p (suc b) x = ifEq (stepOf p x .count) 0 (stepOf p x) (counting 1 (runOf p b (stepOf p x .world)))
+
+-- ---- going on
+
+module _ (p : Program) (v : ℕ) (x : World) where
+  -- "The host hands in one word as the function's result; the whole call is one step, counted when it goes on. A `tail-call` to one [..]
+  -- returns the word" (02, 3), and so does `return call`; a bare `call` drops it, `let` and `set` store it. Arguments are not read again
+  unfoldable pub handedIn : Effect
+  handedIn =
+      ifTrue (returnsImport (rowOf p x))
+      (handedBy p x (asWord (p .width) v) (resumptionOf (p .width) (p .rows) (p .count) (x .stack) (suc (frameOf p x)) (frameOf p x)))
+      (handedTo p x (asWord (p .width) v) (rowOf p x) (frameOf p x) (goingOn (x .machine) (suc (x .machine .next)) (x .machine .top)))
+
+-- what going on comes to: 37, or as a step
+pub record Continued : Type 0 where
+  pub after : After
+  -- "37 [..] for going on with a record that isn't paused, which changes nothing"
+  pub unpaused : Bool
+
+unfoldable pub onPause : State → After → World → Continued
+onPause Running y x = record { after = idle x No; unpaused = true }
+onPause (Finished v) y x = record { after = idle x No; unpaused = true }
+onPause (Stopped k i) y x = record { after = idle x No; unpaused = true }
+onPause (Paused q) y x = record { after = y; unpaused = false }
+
+-- "37, before 35"; the paused record runs from its call on
+unfoldable pub resumeOf : Program → ℕ → World → Continued
+resumeOf p v x =
+    onPause (x .machine .state)
+    (guarded x (effected (inStateOf Running x) (handedIn p v (inStateOf Running x)))
+    (resumeBroken p (x .machine) (x .stack) (length (x .memory))))
+    x

@@ -47,6 +47,12 @@ pub struct Outcome {
     pub broken: Broken,
 }
 
+// What going on gives back: as a step, or 37 for a record that is not paused.
+pub struct Resumed {
+    pub outcome: Outcome,
+    pub unpaused: bool,
+}
+
 // What a start gives back: the record and the answer.
 pub struct Opening {
     pub machine: Machine,

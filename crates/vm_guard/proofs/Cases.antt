@@ -15,16 +15,16 @@ use Rattle.base_limits.specs.Width.{memoryLimit}
 use Rattle.base_limits.specs.declared.Machine.{Machine}
 use Rattle.base_limits.specs.declared.Width.the-variants.{Bits32}
 use Rattle.base_limits.specs.Record.{mark}
-use Rattle.prog_tables.specs.Tests.{both, all}
-use Rattle.prog_tables.specs.Statement.{Row, hasExpression, isCall}
+use Rattle.prog_tables.specs.Tests.{both, oneOf, given, all}
+use Rattle.prog_tables.specs.Statement.{Row, hasExpression, isCall, isImport, isCallExpression}
 use Rattle.prog_tables.specs.Program.{Program}
 use Rattle.prog_tables.specs.Faults.{inFunction, sizeAt, rowFault}
-use Rattle.vm_definitions.specs.Frames.{isFirst, isReturnCall, isReturn, isCalling, calledFrom, headGood, passesOn, leavesGood, rowsLeft, resumptionOf}
-use Rattle.vm_definitions.specs.Broken.{lower, lowest, orElse, nextBad, frameEnds, rowsUsed}
+use Rattle.vm_definitions.specs.Frames.{isFirst, isReturnCall, isReturn, isCalling, importing, returnsImport, leavesFrame, calledFrom, headGood, passesOn, leavesGood, rowsLeft, resumptionOf}
+use Rattle.vm_definitions.specs.Broken.{lower, lowest, orElse, nextBad, frameEnds, rowsUsed, notImport}
 use Rattle.vm_definitions.specs.declared.Resumption.the-variants.{Ends, Caller}
 use Rattle.vm_definitions.specs.declared.Broken.{Broken}
 use Rattle.vm_definitions.specs.declared.Broken.the-variants.{No, At, Somewhere}
-use Rattle.vm_guard.specs.Guard.{rowBad, recordGood, withinBroken, marked, callMarked, leftBroken, calleeMarked, functionMarked, shapeGood, keptGood}
+use Rattle.vm_guard.specs.Guard.{rowBad, recordGood, withRecord, withinBroken, withinResume, marked, callMarked, leftBroken, calleeMarked, functionMarked, shapeGood, keptGood}
 
 both-no : (p : Bool) → both p false ≡ false
 both-no true = refl
@@ -41,9 +41,9 @@ module _ (r : Row) (k : ℕ) (e : k ≡ r .kind) where
   unfolding isReturnCall
   through-no h = rw (← e, ne-eqb _ _ h)
 
-  pub through-expression : (x : ℕ) → k ≡ 13 → x ≡ r .expr → eqb x 2 ≡ isReturnCall r
+  pub through-expression : (x : ℕ) (v : Bool) → k ≡ 13 → x ≡ r .expr → v ≡ isCallExpression x → v ≡ isReturnCall r
   unfolding isReturnCall
-  through-expression x h d = rw (← e, eq-eqb _ _ h, ← d)
+  through-expression x v h d q = rw (← e, eq-eqb _ _ h, ← d) q
 
   pub return-end : k ≡ 2 → true ≡ isReturn r
   unfolding isReturn
@@ -54,26 +54,69 @@ module _ (r : Row) (k : ℕ) (e : k ≡ r .kind) where
     unfolding isReturn
     return-other h = rw (← e, ne-eqb _ _ g, ne-eqb _ _ h)
 
-    pub return-call : (x : ℕ) → k ≡ 13 → x ≡ r .expr → x ≡ 2 → false ≡ isReturn r
+    pub return-call : (x : ℕ) (v : Bool) → k ≡ 13 → x ≡ r .expr → v ≡ isCallExpression x → v ≡ true → false ≡ isReturn r
     unfolding isReturn ifTrue
-    return-call x h d q = rw (← e, ne-eqb _ _ g, eq-eqb _ _ h, ← d, eq-eqb _ _ q)
+    return-call x v h d q o = rw (← e, ne-eqb _ _ g, eq-eqb _ _ h, ← d, ← q, o)
 
-    pub return-plain : (x : ℕ) → k ≡ 13 → x ≡ r .expr → (x ≡ 2 → ⊥) → true ≡ isReturn r
+    pub return-plain : (x : ℕ) (v : Bool) → k ≡ 13 → x ≡ r .expr → v ≡ isCallExpression x → v ≡ false → true ≡ isReturn r
     unfolding isReturn ifTrue
-    return-plain x h d q = rw (← e, ne-eqb _ _ g, eq-eqb _ _ h, ← d, ne-eqb _ _ q)
+    return-plain x v h d q o = rw (← e, ne-eqb _ _ g, eq-eqb _ _ h, ← d, ← q, o)
 
   pub calling-bare : k ≡ 11 → true ≡ isCalling r
   unfolding isCalling
   calling-bare h = rw (← e, eq-eqb _ _ h)
 
   module _ (b : Bool) (h : k ≡ 11 → ⊥) (d : b ≡ hasExpression k) where
-    pub calling-expression : (x : ℕ) → b ≡ true → x ≡ r .expr → eqb x 2 ≡ isCalling r
+    pub calling-expression : (x : ℕ) (v : Bool) → b ≡ true → x ≡ r .expr → v ≡ isCallExpression x → v ≡ isCalling r
     unfolding isCalling
-    calling-expression x q o = rw (← e, ne-eqb _ _ h, ← d, q, ← o)
+    calling-expression x v q o p = rw (← e, ne-eqb _ _ h, ← d, q, ← o) p
 
     pub calling-none : b ≡ false → false ≡ isCalling r
     unfolding isCalling
     calling-none q = rw (← e, ne-eqb _ _ h, ← d, q)
+
+-- ---- calls to imported functions
+
+module _ (r : Row) (v : Bool) (e : v ≡ importing r) where
+  pub import-none : v ≡ false → false ≡ returnsImport r
+  unfolding returnsImport
+  import-none h = rw (← e, h)
+
+  module _ (k : ℕ) (h : v ≡ true) (d : k ≡ r .kind) where
+    pub import-tail : k ≡ 12 → true ≡ returnsImport r
+    unfolding returnsImport
+    import-tail q = rw (← e, h, ← d, eq-eqb _ _ q)
+
+    pub import-return : (k ≡ 12 → ⊥) → eqb k 13 ≡ returnsImport r
+    unfolding returnsImport
+    import-return q = rw (← e, h, ← d, ne-eqb _ _ q)
+
+module _ (r : Row) (v : Bool) (e : v ≡ isReturn r) where
+  pub leaves-return : v ≡ true → true ≡ leavesFrame r
+  unfolding leavesFrame
+  leaves-return h = rw (← e, h)
+
+  pub leaves-import : (x : Bool) → v ≡ false → x ≡ returnsImport r → x ≡ leavesFrame r
+  unfolding leavesFrame
+  leaves-import x h q = rw (← e, h) q
+
+pub ruleset import-ways = (import-none, import-tail, import-return, leaves-return, leaves-import)
+
+module _ (prog : Program) (r : Machine) (b : Broken) where
+  pub asks-past : prog .count ≤ r .next → b ≡ notImport prog r b
+  unfolding notImport ifLt
+  asks-past h = rw (le-ltb _ _ h)
+
+  module _ (v : Bool) (h : r .next < prog .count) (e : v ≡ importing (prog .rows (r .next))) where
+    pub asks-import : v ≡ true → b ≡ notImport prog r b
+    unfolding notImport ifLt ifTrue
+    asks-import q = rw (lt-ltb _ _ h, ← e, q)
+
+    pub asks-other : (x : Broken) → v ≡ false → x ≡ lower (r .next) b → x ≡ notImport prog r b
+    unfolding notImport ifLt ifTrue
+    asks-other x q o = rw (lt-ltb _ _ h, ← e, q) o
+
+pub ruleset asks-ways = (asks-past, asks-import, asks-other)
 
 pub ruleset through-ways = (through-no, through-expression)
 
@@ -435,7 +478,7 @@ module _ (f : ℕ → Row) (c : ℕ) (r : Machine) (s n : ℕ) (e : n ≡ sizeAt
 
 pub ruleset ends-ways = (ends-at, ends-else)
 
-module _ (prog : Program) (r : Machine) (st : List ℕ) (v : Bool) (e : v ≡ isReturn (prog .rows (r .next))) where
+module _ (prog : Program) (r : Machine) (st : List ℕ) (v : Bool) (e : v ≡ leavesFrame (prog .rows (r .next))) where
   pub frames-none : v ≡ false → No ≡ leftBroken prog r st
   unfolding leftBroken ifTrue lowest
   frames-none h = rw (← e, h)
@@ -500,23 +543,36 @@ module _ (f : ℕ → Row) (c m : ℕ) (r : Machine) (st : List ℕ) where
 
 pub ruleset shape-ways = (shape-next, shape-top, shape-memory, shape-stack, shape-ends)
 
+-- a good way out restores a good auto top
+leaves-top : (f : ℕ → Row) (c m : ℕ) (st : List ℕ) (s : ℕ) (b : Bool) → b ≡ leavesGood Bits32 f c m st (suc s) s → (q : Bool)
+    → both (given q (leb (getD st (s + 2) 0) m)) b ≡ b
+unfolding leavesGood
+leaves-top f c m st s b e q = by (headGood Bits32 f c st s) (leb (getD st (s + 2) 0) m) _ b e q
+  where
+    by : (x y z b : Bool) → b ≡ both x (both y z) → (q : Bool) → both (given q y) b ≡ b
+    by x true z b e true = refl
+    by x true z b e false = refl
+    by true false z b e true = sym e
+    by false false z b e true = sym e
+    by x false z b e false = refl
+
 module _ (f : ℕ → Row) (c m next : ℕ) (st : List ℕ) (s k : ℕ) (e : k ≡ f next .kind) where
   pub kept-block : (a x : ℕ) → k ≡ 4 → a ≡ f next .a → x ≡ getD st (s + a) 0 → leb x m ≡ keptGood Bits32 f c m next st s
-  unfolding keptGood all isReturn
-  kept-block a x h q o = rw (← e, h, ← q, ← o) (sym (both-yes (leb x m)))
+  unfolding keptGood all leavesFrame isReturn returnsImport
+  kept-block a x h q o = rw (← e, h, ← q, ← o, both-no) (sym (both-yes (leb x m)))
 
-  pub kept-tail : (x : ℕ) → k ≡ 12 → x ≡ getD st (s + 2) 0 → leb x m ≡ keptGood Bits32 f c m next st s
-  unfolding keptGood all isReturn
-  kept-tail x h o = rw (← e, h, ← o) (sym (both-yes (leb x m)))
-
-  module _ (h : k ≡ 4 → ⊥) (q : k ≡ 12 → ⊥) (v : Bool) (g : v ≡ isReturn (f next)) where
+  module _ (h : k ≡ 4 → ⊥) (v : Bool) (g : v ≡ leavesFrame (f next)) where
     pub kept-return : (b : Bool) → v ≡ true → b ≡ leavesGood Bits32 f c m st (suc s) s → b ≡ keptGood Bits32 f c m next st s
     unfolding keptGood all
-    kept-return b o i = rw (← g, o, ← e, ne-eqb _ _ h, ne-eqb _ _ q, both-yes) i
+    kept-return b o i = rw (← g, o, ← e, ne-eqb _ _ h, both-yes, ← i, leaves-top f c m st s b i)
 
-    pub kept-other : v ≡ false → true ≡ keptGood Bits32 f c m next st s
+    pub kept-tail : (x : ℕ) → v ≡ false → k ≡ 12 → x ≡ getD st (s + 2) 0 → leb x m ≡ keptGood Bits32 f c m next st s
     unfolding keptGood all
-    kept-other o = rw (← g, o, ← e, ne-eqb _ _ h, ne-eqb _ _ q)
+    kept-tail x o q i = rw (← g, o, ← e, ne-eqb _ _ h, eq-eqb _ _ q, ← i) (sym (both-yes (leb x m)))
+
+    pub kept-other : v ≡ false → (k ≡ 12 → ⊥) → true ≡ keptGood Bits32 f c m next st s
+    unfolding keptGood all
+    kept-other o q = rw (← g, o, ← e, ne-eqb _ _ h, ne-eqb _ _ q)
 
 pub ruleset kept-ways = (kept-block, kept-tail, kept-return, kept-other)
 
@@ -548,22 +604,32 @@ module _ (prog : Program) (m : ℕ) (r : Machine) (st : List ℕ) (v : Bool) (e 
 
 pub ruleset record-ways = (record-shape, record-head, record-kept)
 
-module _ (prog : Program) (r : Machine) (st : List ℕ) (m : ℕ) (b : Broken) (e : b ≡ lowest (rowBad prog (r .next)) (rowsUsed prog r st)) where
-  pub broken-at : (i : ℕ) → b ≡ At i → At i ≡ withinBroken prog r st m
-  unfolding withinBroken orElse
-  broken-at i h = rw (← e, h)
+module _ (prog : Program) (r : Machine) (st : List ℕ) (m : ℕ) (b : Broken) where
+  pub broken-at : (i : ℕ) → b ≡ At i → At i ≡ withRecord prog r st m b
+  unfolding withRecord orElse
+  broken-at i h = rw h
 
-  pub broken-some : b ≡ Somewhere → Somewhere ≡ withinBroken prog r st m
-  unfolding withinBroken orElse
-  broken-some h = rw (← e, h)
+  pub broken-some : b ≡ Somewhere → Somewhere ≡ withRecord prog r st m b
+  unfolding withRecord orElse
+  broken-some h = rw h
 
   module _ (v : Bool) (h : b ≡ No) (q : v ≡ recordGood prog m r st) where
-    pub broken-none : v ≡ true → No ≡ withinBroken prog r st m
-    unfolding withinBroken orElse ifTrue
-    broken-none o = rw (← e, h, ← q, o)
+    pub broken-none : v ≡ true → No ≡ withRecord prog r st m b
+    unfolding withRecord orElse ifTrue
+    broken-none o = rw (h, ← q, o)
 
-    pub broken-record : v ≡ false → Somewhere ≡ withinBroken prog r st m
-    unfolding withinBroken orElse ifTrue
-    broken-record o = rw (← e, h, ← q, o)
+    pub broken-record : v ≡ false → Somewhere ≡ withRecord prog r st m b
+    unfolding withRecord orElse ifTrue
+    broken-record o = rw (h, ← q, o)
 
 pub ruleset broken-ways = (broken-at, broken-some, broken-none, broken-record)
+
+pub within-row : (prog : Program) (r : Machine) (st : List ℕ) (m : ℕ) (b x : Broken) → b ≡ lowest (rowBad prog (r .next)) (rowsUsed prog r st)
+    → x ≡ withRecord prog r st m b → x ≡ withinBroken prog r st m
+unfolding withinBroken
+within-row prog r st m b x e q = rw (← e) q
+
+pub within-resume : (prog : Program) (r : Machine) (st : List ℕ) (m : ℕ) (b y x : Broken) → b ≡ lowest (rowBad prog (r .next)) (rowsUsed prog r st)
+    → y ≡ notImport prog r b → x ≡ withRecord prog r st m y → x ≡ withinResume prog r st m
+unfolding withinResume
+within-resume prog r st m b y x e d q = rw (← e, ← d) q

@@ -9,7 +9,7 @@ use native.Mathlib.Omega.{arith}
 use lib.ListN.{length, getD}
 use lib.Dec.{eqb, ltb, leb}
 use borrow.Author.Tests.{eqb-true, ltb-true, leb-true, lt-ltb, le-ltb, le-leb, lt-leb}
-use Rattle.base_prelude.specs.Choice.{ifLt, ifTrue}
+use Rattle.base_prelude.specs.Choice.{pick, ifLt, ifTrue}
 use Rattle.base_prelude.proofs.Choice.{true-false}
 use Rattle.base_limits.specs.Limits.{stackWords}
 use Rattle.base_limits.specs.Width.{memoryLimit}
@@ -19,18 +19,19 @@ use Rattle.base_limits.specs.declared.Machine.{Machine}
 use Rattle.lang_kinds.specs.Kinds as kind
 use Rattle.prog_tables.specs.Tests.{both, oneOf, given, all, some}
 use Rattle.prog_tables.specs.Statement.{Row, rowAt, hasExpression, isCall}
+use Rattle.prog_tables.specs.Label.{labelAt}
 use Rattle.prog_tables.specs.Program.{Program, programFrom, lentProgram}
 use Rattle.prog_tables.specs.Nesting.{isListed}
-use Rattle.prog_tables.specs.Faults.{expressionListed, expressionFault, inFunction, sizeAt, kindFault, targetFault, calleeFault, sizeFault, wordFault, operandsFault, addressFault, rowFault}
+use Rattle.prog_tables.specs.Faults.{expressionListed, expressionFault, inFunction, sizeAt, kindFault, targetFault, functionFault, importFault, calleeFault, sizeFault, wordFault, operandsFault, addressFault, rowFault}
 use Rattle.prog_tables.proofs.Each.{both-left, both-right, given-then, all-at}
-use Rattle.vm_definitions.specs.Frames.{returnsTo, callerFrame, topAtEntry, isFirst, isReturn, isCalling, calledFrom, headGood, passesOn, leavesGood, headsLeft, topsLeft, resumptionOf}
+use Rattle.vm_definitions.specs.Frames.{returnsTo, callerFrame, topAtEntry, isFirst, isCalling, importing, leavesFrame, calledFrom, headGood, passesOn, leavesGood, headsLeft, topsLeft, resumptionOf}
 use Rattle.vm_definitions.specs.Lent.{tablesOf}
-use Rattle.vm_definitions.specs.Broken.{lower, lowest, orElse, frameEnds, rowsUsed, nextPast, frameFault, topFault, limitFault, headFault, recordFault, stepBroken}
+use Rattle.vm_definitions.specs.Broken.{lower, lowest, orElse, frameEnds, rowsUsed, nextPast, frameFault, topFault, limitFault, headFault, recordFault, stepBroken, notImport, resumeBroken}
 use Rattle.vm_definitions.specs.declared.Resumption.the-variants.{Ends, Caller}
 use Rattle.vm_definitions.specs.declared.Broken.{Broken}
 use Rattle.vm_definitions.specs.declared.Broken.the-variants.{No, At, Somewhere}
 use Rattle.vm_definitions.proofs.Seen.{leaves-parts}
-use Rattle.vm_guard.specs.Guard.{rowBad, recordGood, withinBroken}
+use Rattle.vm_guard.specs.Guard.{rowBad, recordGood, withRecord, withinBroken, withinResume}
 use Rattle.vm_guard.specs.Passed.{Passed}
 use Rattle.prog_tables.proofs.Each.{one-no, one-rest}
 use Rattle.prog_tables.proofs.CallRows.{expression-listed}
@@ -108,14 +109,14 @@ module _ (p : Program) (m : ℕ) (r : Machine) (st : List ℕ) where
         at-most (length st) stackWords,
         where-asked (eqb (row .kind) kind.endBlock) (leb (getD st (r .frame + row .a) 0) m),
         where-asked (eqb (row .kind) kind.tailCall) (leb (topAtEntry st (r .frame)) m),
-        where-asked (isReturn row) tops,
-        where-asked (isReturn row) heads,
+        where-asked (leavesFrame row) tops,
+        where-asked (leavesFrame row) heads,
         leaves-parts (p .width) (p .rows) (p .count) m st (suc (r .frame)) (r .frame),
-        given-both (isReturn row) heads tops,
+        given-both (leavesFrame row) heads tops,
       )
       (record-tests (ltb (r .next) (p .count)) (frameEnds (p .rows) (p .count) r (length st)) (leb (r .top) m)
       (given (eqb (row .kind) kind.endBlock) (leb (getD st (r .frame + row .a) 0) m)) (given (eqb (row .kind) kind.tailCall) (leb (topAtEntry st (r .frame)) m))
-      (given (isReturn row) tops) (leb m (memoryLimit (p .width))) (leb (length st) stackWords) (headGood (p .width) (p .rows) (p .count) st (r .frame)) (given (isReturn row) heads))
+      (given (leavesFrame row) tops) (leb m (memoryLimit (p .width))) (leb (length st) stackWords) (headGood (p .width) (p .rows) (p .count) st (r .frame)) (given (leavesFrame row) heads))
 
 then-labels : (x : Broken) (a b : Bool) → orElse x (ifTrue (oneOf a (not b)) Somewhere No) ≡ orElse (orElse x (ifTrue b No Somewhere)) (ifTrue a Somewhere No)
 unfolding orElse ifTrue
@@ -126,19 +127,33 @@ then-labels No false false = refl
 then-labels (At i) a b = refl
 then-labels Somewhere a b = refl
 
-pub step-broken : (p : Program) (r : Machine) (st : List ℕ) (m : ℕ)
-    → stepBroken p r st m ≡ ifTrue (p .statementsPast) Somewhere (orElse (withinBroken p r st m) (ifTrue (p .labelsPast) Somewhere No))
-unfolding stepBroken withinBroken rowBad
-step-broken p r st m =
-    ap (λ (b : Bool). ifTrue (p .statementsPast) Somewhere (orElse (lowest (rowBad p (r .next)) (rowsUsed p r st)) (ifTrue (oneOf (p .labelsPast) b) Somewhere No)))
-    (record-fault p m r st)
-    ∙ ap (ifTrue (p .statementsPast) Somewhere) (then-labels (lowest (rowBad p (r .next)) (rowsUsed p r st)) (p .labelsPast) (recordGood p m r st))
+module _ (p : Program) (r : Machine) (st : List ℕ) (m : ℕ) where
+  -- a place, then the record, then the counts of labels
+  broken-parts : (b : Broken)
+      → ifTrue (p .statementsPast) Somewhere (orElse b (ifTrue (oneOf (p .labelsPast) (recordFault p m r st)) Somewhere No))
+      ≡ ifTrue (p .statementsPast) Somewhere (orElse (withRecord p r st m b) (ifTrue (p .labelsPast) Somewhere No))
+  unfolding withRecord
+  broken-parts b =
+      ap (λ (x : Bool). ifTrue (p .statementsPast) Somewhere (orElse b (ifTrue (oneOf (p .labelsPast) x) Somewhere No))) (record-fault p m r st)
+      ∙ ap (ifTrue (p .statementsPast) Somewhere) (then-labels b (p .labelsPast) (recordGood p m r st))
+
+  pub step-broken : stepBroken p r st m ≡ ifTrue (p .statementsPast) Somewhere (orElse (withinBroken p r st m) (ifTrue (p .labelsPast) Somewhere No))
+  unfolding stepBroken withinBroken rowBad
+  step-broken = broken-parts _
+
+  pub resume-broken : resumeBroken p r st m ≡ ifTrue (p .statementsPast) Somewhere (orElse (withinResume p r st m) (ifTrue (p .labelsPast) Somewhere No))
+  unfolding resumeBroken withinResume rowBad
+  resume-broken = broken-parts _
 
 -- the names of the labels and the counts do not matter to the rest
-pub within-lent : (t : List ℕ) (c : ℕ) (l : List ℕ) (k : ℕ) (names : List ℕ) (d : ℕ) (r : Machine) (st : List ℕ) (m : ℕ)
-    → withinBroken (programFrom Bits32 (tablesOf t c l k names d)) r st m ≡ withinBroken (lentProgram t c l k d) r st m
-unfolding withinBroken rowBad rowFault kindFault targetFault calleeFault sizeFault wordFault operandsFault addressFault rowsUsed recordGood
-within-lent t c l k names d r st m = refl
+module _ (t : List ℕ) (c : ℕ) (l : List ℕ) (k : ℕ) (names : List ℕ) (d : ℕ) (r : Machine) (st : List ℕ) (m : ℕ) where
+  pub within-lent : withinBroken (programFrom Bits32 (tablesOf t c l k names d)) r st m ≡ withinBroken (lentProgram t c l k d) r st m
+  unfolding withRecord withinBroken rowBad rowFault kindFault targetFault functionFault importFault calleeFault labelAt sizeFault wordFault operandsFault addressFault rowsUsed recordGood
+  within-lent = refl
+
+  pub resume-lent : withinResume (programFrom Bits32 (tablesOf t c l k names d)) r st m ≡ withinResume (lentProgram t c l k d) r st m
+  unfolding withRecord withinResume notImport rowBad rowFault kindFault targetFault functionFault importFault calleeFault labelAt sizeFault wordFault operandsFault addressFault rowsUsed recordGood
+  resume-lent = refl
 
 -- ---- tests
 
@@ -204,20 +219,32 @@ module _ (prog : Program) (n : ℕ) (e : rowFault prog n ≡ false) where
       by true g = expression-listed (prog .rows n .kind) (prog .rows n .expr) g h
       by false g = true-false g
 
-  pub row-callee : isCall (prog .rows n .kind) (prog .rows n .expr) ≡ true → prog .rows n .callee < prog .count
+  function-good : functionFault prog n ≡ false
   unfolding calleeFault
+  function-good = one-no (functionFault prog n) (importFault prog n) callee-good
+
+  pub import-good : importFault prog n ≡ false
+  unfolding calleeFault
+  import-good = one-rest (functionFault prog n) (importFault prog n) callee-good
+
+  pub row-callee : isCall (prog .rows n .kind) (prog .rows n .expr) ≡ true → prog .rows n .callee < prog .count
+  unfolding functionFault
   row-callee h =
-      ltb-true _ _ (both-left (ltb (prog .rows n .callee) (prog .count)) _ (not-both (isCall (prog .rows n .kind) (prog .rows n .expr)) (both (ltb (prog .rows n .callee) (prog .count)) _) callee-good h))
+      ltb-true _ _ (both-left (ltb (prog .rows n .callee) (prog .count)) _ (not-both (isCall (prog .rows n .kind) (prog .rows n .expr)) (both (ltb (prog .rows n .callee) (prog .count)) _) function-good h))
 
-module _ (t : List ℕ) (c : ℕ) (l : List ℕ) (k d : ℕ) (r : Machine) (st : List ℕ) (m : ℕ) (e : withinBroken (lentProgram t c l k d) r st m ≡ No) where
-  record-passed : recordGood (lentProgram t c l k d) m r st ≡ true
-  unfolding withinBroken
-  record-passed = good-then (recordGood (lentProgram t c l k d) m r st) (broken-then (lowest (rowBad (lentProgram t c l k d) (r .next)) (rowsUsed (lentProgram t c l k d) r st)) _ e)
+lower-all : (prog : Program) (r : Machine) (b : Broken) → notImport prog r b ≡ No → b ≡ No
+unfolding notImport ifLt ifTrue
+lower-all prog r b = by (ltb (r .next) (prog .count)) (importing (prog .rows (r .next)))
+  where
+    by : (p q : Bool) → pick p (pick q b (lower (r .next) b)) b ≡ No → b ≡ No
+    by true true e = e
+    by true false e = lower-some (r .next) b (b ≡ No) e
+    by false q e = e
 
-  rows-passed : lowest (rowBad (lentProgram t c l k d) (r .next)) (rowsUsed (lentProgram t c l k d) r st) ≡ No
-  unfolding withinBroken
-  rows-passed = broken-no _ _ e
-
+-- what is known where no used row is bad and the record is good
+module _ (t : List ℕ) (c : ℕ) (l : List ℕ) (k d : ℕ) (r : Machine) (st : List ℕ) (m : ℕ)
+    (rows-passed : lowest (rowBad (lentProgram t c l k d) (r .next)) (rowsUsed (lentProgram t c l k d) r st) ≡ No)
+    (record-passed : recordGood (lentProgram t c l k d) m r st ≡ true) where
   next-within : r .next < c
   unfolding recordGood all
   next-within = ltb-true _ _ (both-left (ltb (r .next) c) _ record-passed)
@@ -236,22 +263,47 @@ module _ (t : List ℕ) (c : ℕ) (l : List ℕ) (k d : ℕ) (r : Machine) (st :
       ∷ headGood Bits32 (rowAt t) c st (r .frame)
       ∷ given (eqb (rowAt t (r .next) .kind) 4) (leb (getD st (r .frame + rowAt t (r .next) .a) 0) m)
       ∷ given (eqb (rowAt t (r .next) .kind) 12) (leb (topAtEntry st (r .frame)) m)
-      ∷ given (isReturn (rowAt t (r .next))) (leavesGood Bits32 (rowAt t) c m st (suc (r .frame)) (r .frame))
+      ∷ given (leavesFrame (rowAt t (r .next))) (leavesGood Bits32 (rowAt t) c m st (suc (r .frame)) (r .frame))
       ∷ []) j true ≡ true
   unfolding recordGood
   tested j h = all-at _ j record-passed h
 
-  pub passed : Passed (lentProgram t c l k d) r st m
-  passed =
+  known : Passed (lentProgram t c l k d) r st m
+  known =
       record {
         within = next-within;
         row = row-passed;
         callee = row-callee (lentProgram t c l k d) (r .next) row-passed;
         stack = leb-true _ _ (tested 4 (omega arith));
         memory = leb-true _ _ (tested 3 (omega arith));
-        leaves = given-then (isReturn (rowAt t (r .next))) _ (tested 8 (omega arith));
+        leaves = given-then (leavesFrame (rowAt t (r .next))) _ (tested 8 (omega arith));
         listed = row-listed (lentProgram t c l k d) (r .next) row-passed;
       }
+
+module _ (t : List ℕ) (c : ℕ) (l : List ℕ) (k d : ℕ) (r : Machine) (st : List ℕ) (m : ℕ) where
+  abbrev prog : Program
+  prog = lentProgram t c l k d
+
+  abbrev used : Broken
+  used = lowest (rowBad prog (r .next)) (rowsUsed prog r st)
+
+  pub passed : withinBroken prog r st m ≡ No → Passed prog r st m
+  unfolding withinBroken withRecord
+  passed e = known t c l k d r st m (broken-no _ _ e) (good-then (recordGood prog m r st) (broken-then used _ e))
+
+  pub resumable : withinResume prog r st m ≡ No → Passed prog r st m
+  unfolding withinResume withRecord
+  resumable e =
+      known t c l k d r st m (lower-all prog r used (broken-no _ _ e)) (good-then (recordGood prog m r st) (broken-then (notImport prog r used) _ e))
+
+  -- the next statement calls an imported function
+  pub resumes-import : withinResume prog r st m ≡ No → importing (rowAt t (r .next)) ≡ true
+  unfolding withinResume withRecord notImport ifLt ifTrue
+  resumes-import e = by (importing (rowAt t (r .next))) refl
+    where
+      by : (q : Bool) → importing (rowAt t (r .next)) ≡ q → q ≡ true
+      by true h = refl
+      by false h = lower-some (r .next) used (false ≡ true) (rw (lt-ltb _ _ (resumable e .within), h) at (broken-no _ _ e))
 
 -- ---- a good way out
 

@@ -15,8 +15,8 @@ use Rattle.prog_tables.specs.Tests.{both, oneOf, given, all}
 use Rattle.prog_tables.specs.Statement.{Row, isCall}
 use Rattle.prog_tables.specs.Program.{Program}
 use Rattle.prog_tables.specs.Faults.{inFunction, rowFault}
-use Rattle.vm_definitions.specs.Frames.{topAtEntry, isReturn, headGood, leavesGood, rowsLeft}
-use Rattle.vm_definitions.specs.Broken.{lower, lowest, orElse, nextBad, frameEnds, rowsUsed}
+use Rattle.vm_definitions.specs.Frames.{topAtEntry, leavesFrame, headGood, leavesGood, rowsLeft}
+use Rattle.vm_definitions.specs.Broken.{lower, lowest, orElse, nextBad, frameEnds, rowsUsed, notImport}
 use Rattle.vm_definitions.specs.declared.Broken.{Broken}
 use Rattle.vm_definitions.specs.declared.Broken.the-variants.{No, Somewhere}
 
@@ -36,12 +36,20 @@ recordGood p m r st =
     ∷ headGood (p .width) (p .rows) (p .count) st (r .frame)
     ∷ given (eqb (p .rows (r .next) .kind) kind.endBlock) (leb (getD st (r .frame + p .rows (r .next) .a) 0) m)
     ∷ given (eqb (p .rows (r .next) .kind) kind.tailCall) (leb (topAtEntry st (r .frame)) m)
-    ∷ given (isReturn (p .rows (r .next))) (leavesGood (p .width) (p .rows) (p .count) m st (suc (r .frame)) (r .frame))
+    ∷ given (leavesFrame (p .rows (r .next))) (leavesGood (p .width) (p .rows) (p .count) m st (suc (r .frame)) (r .frame))
     ∷ [])
+
+-- a broken row, else a broken record
+unfoldable pub withRecord : Program → Machine → List ℕ → ℕ → Broken → Broken
+withRecord p r st m b = orElse b (ifTrue (recordGood p m r st) No Somewhere)
 
 -- 35 of a step, the counts of the tables being good
 unfoldable pub withinBroken : Program → Machine → List ℕ → ℕ → Broken
-withinBroken p r st m = orElse (lowest (rowBad p (r .next)) (rowsUsed p r st)) (ifTrue (recordGood p m r st) No Somewhere)
+withinBroken p r st m = withRecord p r st m (lowest (rowBad p (r .next)) (rowsUsed p r st))
+
+-- 35 of going on, the counts of the tables being good
+unfoldable pub withinResume : Program → Machine → List ℕ → ℕ → Broken
+withinResume p r st m = withRecord p r st m (notImport p r (lowest (rowBad p (r .next)) (rowsUsed p r st)))
 
 -- ---- the place, found row by row
 
@@ -57,7 +65,7 @@ callMarked p next i b = marked (rowBad p next) (p .rows i .func) (marked (rowBad
 unfoldable pub leftBroken : Program → Machine → List ℕ → Broken
 leftBroken p r st =
     lowest (rowBad p (r .next))
-    (ifTrue (both (isReturn (p .rows (r .next))) (frameEnds (p .rows) (p .count) r (length st)))
+    (ifTrue (both (leavesFrame (p .rows (r .next))) (frameEnds (p .rows) (p .count) r (length st)))
     (rowsLeft (p .width) (p .rows) (p .count) st (suc (r .frame)) (r .frame)) [])
 
 -- the place with the function that the next statement calls
@@ -83,5 +91,5 @@ keptGood w f c m next st s =
     all
     (given (eqb (f next .kind) kind.endBlock) (leb (getD st (s + f next .a) 0) m)
     ∷ given (eqb (f next .kind) kind.tailCall) (leb (topAtEntry st s) m)
-    ∷ given (isReturn (f next)) (leavesGood w f c m st (suc s) s)
+    ∷ given (leavesFrame (f next)) (leavesGood w f c m st (suc s) s)
     ∷ [])

@@ -11,7 +11,7 @@ use Rattle.base_limits.specs.declared.Machine.{Machine}
 use Rattle.prog_tables.specs.Statement.{hasExpression, isCall}
 use Rattle.prog_tables.specs.Program.{Program}
 use Rattle.prog_tables.specs.Faults.{expressionListed, rowFault}
-use Rattle.vm_definitions.specs.Frames.{isReturn, leavesGood}
+use Rattle.vm_definitions.specs.Frames.{leavesFrame, leavesGood}
 
 pub record Passed (p : Program) (r : Machine) (st : List ℕ) (m : ℕ) : Type 0 where
   pub within : r .next < p .count
@@ -19,5 +19,5 @@ pub record Passed (p : Program) (r : Machine) (st : List ℕ) (m : ℕ) : Type 0
   pub callee : isCall (p .rows (r .next) .kind) (p .rows (r .next) .expr) ≡ true → p .rows (r .next) .callee < p .count
   pub stack : length st ≤ stackWords
   pub memory : m ≤ memoryBytes
-  pub leaves : isReturn (p .rows (r .next)) ≡ true → leavesGood Bits32 (p .rows) (p .count) m st (suc (r .frame)) (r .frame) ≡ true
+  pub leaves : leavesFrame (p .rows (r .next)) ≡ true → leavesGood Bits32 (p .rows) (p .count) m st (suc (r .frame)) (r .frame) ≡ true
   pub listed : hasExpression (p .rows (r .next) .kind) ≡ true → expressionListed (p .rows (r .next) .kind) (p .rows (r .next) .expr) ≡ true

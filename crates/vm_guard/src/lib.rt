@@ -1,7 +1,6 @@
 // Refusal 35 of a step, decided before an operand is read; and the way out of the frames that a return leaves.
 use base_limits::Machine;
 use lang_kinds::Kind;
-use prog_tables::ExpressionKind;
 use vm_definitions::Broken;
 use vm_definitions::Resumption;
 ghost use mathlib.Core.Path.{_≡_};
@@ -13,10 +12,10 @@ ghost use Rattle.prog_tables.specs.Statement.{rowAt};
 ghost use Rattle.prog_tables.specs.Program.{lentProgram};
 ghost use Rattle.prog_tables.specs.Faults.{sizeAt};
 ghost use Rattle.prog_tables.specs.Layout.{statementRow};
-ghost use Rattle.vm_definitions.specs.Frames.{isFirst, isReturnCall, isReturn, isCalling, calledFrom, headGood, passesOn, leavesGood, rowsLeft, resumptionOf, returnsTo, callerFrame, topAtEntry};
-ghost use Rattle.vm_definitions.specs.Broken.{lower, lowest, nextBad, frameEnds, rowsUsed};
+ghost use Rattle.vm_definitions.specs.Frames.{isFirst, isReturnCall, isReturn, isCalling, importing, returnsImport, leavesFrame, calledFrom, headGood, passesOn, leavesGood, rowsLeft, resumptionOf, returnsTo, callerFrame, topAtEntry};
+ghost use Rattle.vm_definitions.specs.Broken.{lower, lowest, nextBad, frameEnds, rowsUsed, notImport};
 ghost use Rattle.vm_guard.specs.FrameInUse.{frameGood, goodFrameSize};
-ghost use Rattle.vm_guard.specs.Guard.{rowBad, recordGood, withinBroken, marked, callMarked, leftBroken, calleeMarked, functionMarked, shapeGood, keptGood};
+ghost use Rattle.vm_guard.specs.Guard.{rowBad, recordGood, withRecord, withinBroken, withinResume, marked, callMarked, leftBroken, calleeMarked, functionMarked, shapeGood, keptGood};
 
 // Whether row n is `return call`.
 pub fn is_return_call(t: &[u32], n: u32) -> bool
@@ -24,7 +23,7 @@ pub fn is_return_call(t: &[u32], n: u32) -> bool
 {
     let k = prog_tables::kind_at(t, n);
     if k == Kind::RETURN {
-        return prog_tables::expression_at(t, n) == ExpressionKind::CALL;
+        return prog_tables::is_call_expression(prog_tables::expression_at(t, n));
     }
     false
 }
@@ -39,7 +38,7 @@ pub fn is_return(t: &[u32], n: u32) -> bool
     }
     if k == Kind::RETURN {
         let e = prog_tables::expression_at(t, n);
-        if e == ExpressionKind::CALL {
+        if prog_tables::is_call_expression(e) {
             return false;
         }
         return true;
@@ -56,9 +55,40 @@ pub fn is_calling(t: &[u32], n: u32) -> bool
         return true;
     }
     if prog_tables::has_expression(k) {
-        return prog_tables::expression_at(t, n) == ExpressionKind::CALL;
+        return prog_tables::is_call_expression(prog_tables::expression_at(t, n));
     }
     false
+}
+
+// Whether row n calls an imported function.
+pub fn is_importing(t: &[u32], n: u32) -> bool
+    ensures { λ r. ⌜ r ≡ importing (rowAt (now (t .entry)) n) ⌝ }
+{
+    prog_tables::is_import(prog_tables::kind_at(t, n), prog_tables::expression_at(t, n))
+}
+
+// Whether row n returns what the host hands in.
+pub fn returns_import(t: &[u32], n: u32) -> bool
+    ensures { λ r. ⌜ r ≡ returnsImport (rowAt (now (t .entry)) n) ⌝ }
+{
+    if is_importing(t, n) {
+        let k = prog_tables::kind_at(t, n);
+        if k == Kind::TAIL_CALL {
+            return true;
+        }
+        return k == Kind::RETURN;
+    }
+    false
+}
+
+// Whether row n leaves its frame: it returns, or returns what the host hands in.
+fn leaves_frame(t: &[u32], n: u32) -> bool
+    ensures { λ r. ⌜ r ≡ leavesFrame (rowAt (now (t .entry)) n) ⌝ }
+{
+    if is_return(t, n) {
+        return true;
+    }
+    returns_import(t, n)
 }
 
 // The row that the frame at s returns to.
@@ -308,7 +338,7 @@ fn find_frames(t: &[u32], c: u32, l: &[u32], lc: u32, d: u32, r: Machine, st: &[
     ensures { λ x. ⌜ x ≡ leftBroken (lentProgram (now (t .entry)) c (now (l .entry)) lc d) r (now (st .entry)) ⌝ }
 {
     let next = r.next;
-    if is_return(t, next) {
+    if leaves_frame(t, next) {
         if frame_ends(t, c, r, st.len()) {
             let frame = r.frame;
             return find_left(t, c, l, lc, d, next, st, frame);
@@ -389,12 +419,12 @@ fn has_kept(t: &[u32], c: u32, m: usize, next: u32, st: &[u32], s: u32) -> bool
         let saved = prog_tables::word_at(st, s as usize + a as usize);
         return saved as usize <= m;
     }
+    if leaves_frame(t, next) {
+        return leaves_good(t, c, m, st, s);
+    }
     if k == Kind::TAIL_CALL {
         let top = top_at(st, s);
         return top as usize <= m;
-    }
-    if is_return(t, next) {
-        return leaves_good(t, c, m, st, s);
     }
     true
 }
@@ -423,6 +453,32 @@ fn record_good(
     false
 }
 
+// A broken row, else whether the record is broken.
+fn with_record(
+    t: &[u32],
+    c: u32,
+    l: &[u32],
+    lc: u32,
+    d: u32,
+    r: Machine,
+    st: &[u32],
+    m: usize,
+    b: Broken,
+) -> Broken
+    ensures { λ x. ⌜ x ≡ withRecord (lentProgram (now (t .entry)) c (now (l .entry)) lc d) r (now (st .entry)) m b ⌝ }
+{
+    match b {
+        Broken::No => {
+            if record_good(t, c, l, lc, d, m, r, st) {
+                return Broken::No;
+            }
+            Broken::Somewhere
+        }
+        Broken::At(i) => Broken::At(i),
+        Broken::Somewhere => Broken::Somewhere,
+    }
+}
+
 // 35 of a step but for the counts of the tables.
 pub fn find_broken(
     t: &[u32],
@@ -437,16 +493,39 @@ pub fn find_broken(
     ensures { λ x. ⌜ x ≡ withinBroken (lentProgram (now (t .entry)) c (now (l .entry)) lc d) r (now (st .entry)) m ⌝ }
 {
     let b = find_used(t, c, l, lc, d, r, st);
-    match b {
-        Broken::No => {
-            if record_good(t, c, l, lc, d, m, r, st) {
-                return Broken::No;
-            }
-            Broken::Somewhere
-        }
-        Broken::At(i) => Broken::At(i),
-        Broken::Somewhere => Broken::Somewhere,
+    with_record(t, c, l, lc, d, r, st, m, b)
+}
+
+// The place with the next statement, where it calls no imported function.
+fn mark_import(t: &[u32], c: u32, l: &[u32], lc: u32, d: u32, r: Machine, b: Broken) -> Broken
+    ensures { λ x. ⌜ x ≡ notImport (lentProgram (now (t .entry)) c (now (l .entry)) lc d) r b ⌝ }
+{
+    let next = r.next;
+    if c <= next {
+        return b;
     }
+    if is_importing(t, next) {
+        return b;
+    }
+    lower_to(next, b)
+}
+
+// 35 of going on but for the counts of the tables.
+pub fn find_unresumable(
+    t: &[u32],
+    c: u32,
+    l: &[u32],
+    lc: u32,
+    d: u32,
+    r: Machine,
+    st: &[u32],
+    m: usize,
+) -> Broken
+    ensures { λ x. ⌜ x ≡ withinResume (lentProgram (now (t .entry)) c (now (l .entry)) lc d) r (now (st .entry)) m ⌝ }
+{
+    let b = find_used(t, c, l, lc, d, r, st);
+    let marked = mark_import(t, c, l, lc, d, r, b);
+    with_record(t, c, l, lc, d, r, st, m, marked)
 }
 
 // ---- the frame in use

@@ -274,17 +274,18 @@ pub ruleset apply-ways = (apply-add, apply-and, apply-asr, apply-auto-bytes, app
 
 -- ---- expressions
 
-no-operator : (isOperator 1 ≡ false) × (isOperator 2 ≡ false)
+no-operator : (isOperator 1 ≡ false) × ((isOperator 2 ≡ false) × (isOperator 3 ≡ false))
 unfolding isOperator ifLt
-no-operator = (refl, refl)
+no-operator = (refl, (refl, refl))
 
 -- an operator's operands
 pub least-operator : (e n : ℕ) (b : Bool) → b ≡ isOperator e → b ≡ true → n ≡ expressionUses e 0 → n ≡ leastOperands e
 unfolding expressionUses ifTrue
 least-operator e n b d h q =
     q
-    ∙ ifEq-no 1 (ifEq e 2 0 (pick (isOperator e) (leastOperands e) 0)) (other 1 (no-operator .0))
-    ∙ ifEq-no 0 (pick (isOperator e) (leastOperands e) 0) (other 2 (no-operator .1))
+    ∙ ifEq-no 1 (ifEq e 2 0 (ifEq e 3 0 (pick (isOperator e) (leastOperands e) 0))) (other 1 (no-operator .0))
+    ∙ ifEq-no 0 (ifEq e 3 0 (pick (isOperator e) (leastOperands e) 0)) (other 2 (no-operator .1 .0))
+    ∙ ifEq-no 0 (pick (isOperator e) (leastOperands e) 0) (other 3 (no-operator .1 .1))
     ∙ ap (λ (t : Bool). pick t (leastOperands e) 0) (sym d ∙ h)
   where
     other : (k : ℕ) → isOperator k ≡ false → e ≡ k → ⊥

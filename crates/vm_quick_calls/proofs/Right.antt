@@ -14,16 +14,16 @@ use Rattle.base_limits.specs.declared.Width.the-variants.{Bits32}
 use Rattle.base_limits.specs.declared.Machine.{Machine}
 use Rattle.base_limits.specs.Record.{mark, movedTo}
 use Rattle.prog_tables.specs.Tests.{both, oneOf, given, someOf}
-use Rattle.prog_tables.specs.Statement.{Row, hasExpression, isTest, isOperator, isCall, expressionUses, usedBy, operandAt, slots, rowFrom, rowAt}
+use Rattle.prog_tables.specs.Statement.{Row, hasExpression, isTest, isOperator, isCallRow, isCall, isImport, isCallExpression, expressionUses, usedBy, operandAt, slots, rowFrom, rowAt}
 use Rattle.prog_tables.specs.Program.{Program, lentProgram}
 use Rattle.prog_tables.specs.Nesting.{isListed, hasTarget}
-use Rattle.prog_tables.specs.Faults.{expressionListed, inFunction, sizeAt, operandFault, kindFault, targetFault, calleeFault, sizeFault, ownWord, hasWord, wordFault, operandsFault, addressFault, rowFault}
+use Rattle.prog_tables.specs.Faults.{expressionListed, inFunction, sizeAt, operandFault, kindFault, targetFault, functionFault, importFault, calleeFault, sizeFault, ownWord, hasWord, wordFault, operandsFault, addressFault, rowFault}
 use Rattle.prog_tables.specs.declared.Operand.{Operand}
 use Rattle.vm_definitions.specs.Access.{storeFrom}
 use Rattle.vm_definitions.specs.Operands as machine
 use Rattle.vm_definitions.specs.Operands.{Words, bad, withWord, readAll, onRead}
 use Rattle.vm_definitions.specs.Expressions.{evalOf}
-use Rattle.vm_definitions.specs.Frames.{frameWords, isFirst, isReturnCall, isReturn, isCalling, calledFrom, headGood, passesOn, leavesGood, rowsLeft, resumptionOf}
+use Rattle.vm_definitions.specs.Frames.{frameWords, isFirst, isReturnCall, isReturn, isCalling, importing, leavesFrame, calledFrom, headGood, passesOn, leavesGood, rowsLeft, resumptionOf}
 use Rattle.vm_definitions.specs.Step.{Effect, leaves, argumentsOf, callBy, callOf, tailCallBy, handedTo, handedBy, returned, returnOf, workedOf, effectOf}
 use Rattle.vm_definitions.specs.Lent.{world}
 use Rattle.vm_definitions.specs.declared.Resumption.the-variants.{Caller}
@@ -38,12 +38,13 @@ use Rattle.vm_quick_operands.specs.Fast.{goodRead, readEach, goodWork, sizeOf}
 use Rattle.vm_quick_operands.proofs.Good.{good-read, Valued, good-work, stop-value, no-fault, Function, function-good, row-within, row-size, size-function}
 use Rattle.vm_quick_operands.proofs.Reading.{next-slot, no-slots}
 use Rattle.vm_quick_statements.proofs.Right.{InFrame}
-use Rattle.vm_quick_statements.proofs.ByKind.{Sets, let-sets, set-sets}
+use Rattle.vm_quick_statements.proofs.ByKind.{Sets, let-sets, set-sets, plain-call, plain-import, leaves-not}
 use Rattle.vm_quick_statements.proofs.Unbroken.{frame-fine, record-fine, call-fine, return-fine}
 use Rattle.vm_quick_calls.specs.declared.Transfer.{Transfer}
 use Rattle.vm_quick_calls.specs.declared.Transfer.the-variants.{To, Stays}
 use Rattle.vm_quick_calls.specs.Transfers.{Transferred, transferred, goodFrom, calleeSize, callsLocal, callsAny, callGood, goodAll, pushed, enteredBy, entered, callTransfer, tailTransfer, resultOf, resumed, handTo, handTransfer, returnBy, returnTransfer, transferOf}
 use Rattle.prog_tables.proofs.Each.{both-false}
+use Rattle.prog_tables.proofs.CallRows.{bare-call, bare-import}
 
 -- ---- operands
 
@@ -104,6 +105,7 @@ module _ (t : List ℕ) (c : ℕ) (lw : List ℕ) (lc d n size : ℕ) (sized : s
     words : wordFault (lentProgram t c lw lc d) n ≡ false
     address : addressFault (lentProgram t c lw lc d) n ≡ false
     calls : isCall (row .kind) (row .expr) ≡ true
+    imports : importing row ≡ false
     used : usedBy (row .kind) (row .expr) (row .count) ≡ row .count
     line : eqb (row .kind) 1 ≡ false
     block : eqb (row .kind) 4 ≡ false
@@ -117,7 +119,7 @@ module _ (t : List ℕ) (c : ℕ) (lw : List ℕ) (lc d n size : ℕ) (sized : s
     tail : eqb (row .kind) 12 ≡ false
 
   row-11 : row .kind ≡ 11 → row .expr ≡ 2 → Calling
-  unfolding kindFault targetFault hasTarget sizeFault wordFault addressFault isListed hasExpression isTest isCall isReturn isCalling hasWord usedBy ifLt ifEq ifTrue
+  unfolding kindFault targetFault hasTarget sizeFault wordFault addressFault isListed hasExpression isTest isCall isImport isCallExpression isReturn isCalling hasWord usedBy ifLt ifEq ifTrue
   row-11 q e =
       record {
         call =
@@ -127,7 +129,8 @@ module _ (t : List ℕ) (c : ℕ) (lw : List ℕ) (lc d n size : ℕ) (sized : s
               sizes = rw q;
               words = rw q;
               address = rw q;
-              calls = rw q;
+              calls = rw (q, e);
+              imports = rw e;
               used = rw q;
               line = rw q;
               block = rw q;
@@ -139,7 +142,7 @@ module _ (t : List ℕ) (c : ℕ) (lw : List ℕ) (lc d n size : ℕ) (sized : s
       }
 
   row-set : (k : ℕ) → Sets k → row .kind ≡ k → row .expr ≡ 2 → row .a < size → Calling
-  unfolding kindFault targetFault sizeFault wordFault addressFault expressionListed expressionUses isCall isReturn isCalling ownWord usedBy ifLt ifEq ifTrue
+  unfolding kindFault targetFault sizeFault wordFault addressFault expressionListed expressionUses isCall isImport isCallExpression isReturn isCalling ownWord usedBy ifLt ifEq ifTrue
   row-set k y q e l =
       let i = y .inner in
       record {
@@ -151,6 +154,7 @@ module _ (t : List ℕ) (c : ℕ) (lw : List ℕ) (lc d n size : ℕ) (sized : s
               words = rw (q, i .own, i .block, sized) (lt-leb size (row .a) l);
               address = rw (q, i .at);
               calls = rw (q, e, i .bare, i .tail, i .has);
+              imports = rw e;
               used = rw (q, e, i .has);
               line = rw (q, i .function);
               block = rw (q, i .leaves);
@@ -162,7 +166,7 @@ module _ (t : List ℕ) (c : ℕ) (lw : List ℕ) (lc d n size : ℕ) (sized : s
       }
 
   row-13 : row .kind ≡ 13 → row .expr ≡ 2 → Calling
-  unfolding kindFault targetFault hasTarget sizeFault wordFault addressFault isListed hasExpression expressionListed expressionUses isTest isCall isReturn isCalling hasWord ownWord usedBy ifLt ifEq ifTrue
+  unfolding kindFault targetFault hasTarget sizeFault wordFault addressFault isListed hasExpression expressionListed expressionUses isTest isCall isImport isCallExpression isReturn isCalling hasWord ownWord usedBy ifLt ifEq ifTrue
   row-13 q e =
       record {
         call =
@@ -173,6 +177,7 @@ module _ (t : List ℕ) (c : ℕ) (lw : List ℕ) (lc d n size : ℕ) (sized : s
               words = rw q;
               address = rw q;
               calls = rw (q, e);
+              imports = rw e;
               used = rw (q, e);
               line = rw q;
               block = rw q;
@@ -184,7 +189,7 @@ module _ (t : List ℕ) (c : ℕ) (lw : List ℕ) (lc d n size : ℕ) (sized : s
       }
 
   row-12 : row .kind ≡ 12 → row .expr ≡ 2 → CallRow
-  unfolding kindFault targetFault hasTarget sizeFault wordFault addressFault isListed hasExpression isTest isCall isReturn isCalling hasWord usedBy ifLt ifEq ifTrue
+  unfolding kindFault targetFault hasTarget sizeFault wordFault addressFault isListed hasExpression isTest isCall isImport isCallExpression isReturn isCalling hasWord usedBy ifLt ifEq ifTrue
   row-12 q e =
       record {
         kinds = rw (q, e);
@@ -192,7 +197,8 @@ module _ (t : List ℕ) (c : ℕ) (lw : List ℕ) (lc d n size : ℕ) (sized : s
         sizes = rw q;
         words = rw q;
         address = rw q;
-        calls = rw q;
+        calls = rw (q, e);
+        imports = rw e;
         used = rw q;
         line = rw q;
         block = rw q;
@@ -229,10 +235,10 @@ module _ (t : List ℕ) (c : ℕ) (lw : List ℕ) (lc d n size : ℕ) (sized : s
 
   call-good : (z : ℕ) → CallRow → row .count ≤ 8 → Callee (rowAt t) c (row .callee) (row .count) z → someOf (operandFault size d) (take (row .count) (slots t (n * 27))) ≡ false
       → rowFault (lentProgram t c lw lc d) n ≡ false
-  unfolding calleeFault operandsFault
+  unfolding calleeFault functionFault importFault operandsFault
   call-good z x l e o =
       no-fault (lentProgram t c lw lc d) n (x .kinds) (x .targets)
-      (rw (x .calls, lt-ltb _ _ (e .function .below), e .function .kind, eq-eqb _ _ (e .parameters), le-leb _ _ l))
+      (rw (x .calls, x .imports, lt-ltb _ _ (e .function .below), e .function .kind, eq-eqb _ _ (e .parameters), le-leb _ _ l))
       (x .sizes) (x .words) (rw (operands-are x, sized) o) (x .address)
 
 -- row p, to which a value is handed, is good
@@ -277,6 +283,7 @@ module _ (t : List ℕ) (c : ℕ) (lw : List ℕ) (lc g d size : ℕ) (r : Machi
   -- the statement went on at statement i in another frame
   pub record Moved (i frame used end : ℕ) (st′ : List ℕ) : Type 0 where
     pub fine : withinBroken (lentProgram t c lw lc d) r st (length m) ≡ No
+    pub imports : importing here ≡ false
     pub effect : effectOf (lentProgram t c lw lc d) (world r st m) ≡ leaves (world (movedTo r i frame used end) st′ m)
     pub stack : length st′ ≡ length st
 
@@ -303,11 +310,13 @@ module _ (t : List ℕ) (c : ℕ) (lw : List ℕ) (lc g d size : ℕ) (r : Machi
     unfolding effectOf callOf callBy argumentsOf ifTrue ifEq ifLt
     went-call w l z e vs o b =
         let x = w .call in
+        let y = leaves-not here (x .returns) (x .imports) in
         record {
           fine =
               call-fine t c lw lc g d size r st m h below own (x .line) (call-good t c lw lc d n size sized z x l e (o .good)) (x .calls) (e .function .below)
-              (function-good t c (here .callee) z (e .function) lw lc d) (x .returns)
-              (record-fine t c lw lc g d size r st m h below own (rw (x .block)) (rw (w .tail)) (rw (x .returns)));
+              (function-good t c (here .callee) z (e .function) lw lc d) y
+              (record-fine t c lw lc g d size r st m h below own (rw (x .block)) (rw (w .tail)) (rw y));
+          imports = x .imports;
           effect = rw (w .calling, x .at, operands-are t c lw lc d n size sized x, o .all, e .function .words, le-ltb _ _ b);
           stack = store-length st (r .used) _;
         }
@@ -318,11 +327,13 @@ module _ (t : List ℕ) (c : ℕ) (lw : List ℕ) (lc g d size : ℕ) (r : Machi
     unfolding effectOf tailCallBy argumentsOf isCalling isReturn isTest hasExpression ifTrue ifEq ifLt
     went-tail q f k l z e vs o b =
         let x = row-12 t c lw lc d n size sized q f in
+        let y = leaves-not here (x .returns) (x .imports) in
         record {
           fine =
               call-fine t c lw lc g d size r st m h below own (x .line) (call-good t c lw lc d n size sized z x l e (o .good)) (x .calls) (e .function .below)
-              (function-good t c (here .callee) z (e .function) lw lc d) (x .returns)
-              (record-fine t c lw lc g d size r st m h below own (rw (x .block)) (rw (q, le-leb _ _ k)) (rw (x .returns)));
+              (function-good t c (here .callee) z (e .function) lw lc d) y
+              (record-fine t c lw lc g d size r st m h below own (rw (x .block)) (rw (q, le-leb _ _ k)) (rw y));
+          imports = x .imports;
           effect = rw (operands-are t c lw lc d n size sized x, q, o .all, e .function .words, le-ltb _ _ b);
           stack = store-length st s _;
         }
@@ -369,28 +380,38 @@ module _ (t : List ℕ) (c : ℕ) (lw : List ℕ) (lc g d size : ℕ) (r : Machi
       tail : eqb (here .kind) 12 ≡ false
       calls : isCall (here .kind) (here .expr) ≡ false
       returns : isReturn here ≡ true
+      imports : importing here ≡ false
       effect : effectOf (lentProgram t c lw lc d) (world r st m) ≡ handedBy (lentProgram t c lw lc d) (world r st m) v (resumptionOf Bits32 (rowAt t) c st (suc s) s)
 
     used : here .operands ≡ take (usedBy (here .kind) (here .expr) (here .count)) (slots t (n * 27))
     unfolding rowAt rowFrom
     used = refl
 
+    bare-callee : hasExpression (here .kind) ≡ false → isCallRow (here .kind) ≡ false → calleeFault (lentProgram t c lw lc d) n ≡ false
+    unfolding calleeFault functionFault importFault
+    bare-callee e q = rw (bare-call (here .kind) (here .expr) e q, bare-import (here .kind) (here .expr) e q)
+
+    plain-callee : isCallRow (here .kind) ≡ false → isCallExpression (here .expr) ≡ false → calleeFault (lentProgram t c lw lc d) n ≡ false
+    unfolding calleeFault functionFault importFault
+    plain-callee e q = rw (plain-call (here .kind) (here .expr) e q, plain-import (here .kind) (here .expr) q)
+
     gives-end : here .kind ≡ 2 → Gives 0
-    unfolding kindFault targetFault hasTarget calleeFault sizeFault wordFault operandsFault addressFault isListed hasExpression isTest isCall isReturn isCalling hasWord usedBy ifLt ifEq ifTrue someOf
+    unfolding kindFault targetFault hasTarget sizeFault wordFault operandsFault addressFault isListed hasExpression isTest isReturn isCalling hasWord usedBy ifLt ifEq ifTrue someOf
         effectOf returnOf returned
     gives-end q =
         record {
-          good = no-fault (lentProgram t c lw lc d) n (rw q) (rw q) (rw q) (rw q) (rw q) (rw (used, q)) (rw q);
+          good = no-fault (lentProgram t c lw lc d) n (rw q) (rw q) (bare-callee (rw q) (rw q)) (rw q) (rw q) (rw (used, q)) (rw q);
           line = rw q;
           block = rw q;
           tail = rw q;
-          calls = rw q;
+          calls = bare-call (here .kind) (here .expr) (rw q) (rw q);
           returns = rw q;
+          imports = bare-import (here .kind) (here .expr) (rw q) (rw q);
           effect = rw q;
         }
 
     gives-bare : here .kind ≡ 13 → here .expr ≡ 0 → Gives 0
-    unfolding kindFault targetFault hasTarget calleeFault sizeFault wordFault operandsFault addressFault isListed hasExpression expressionListed expressionUses isOperator isTest isCall isReturn isCalling hasWord
+    unfolding kindFault targetFault hasTarget calleeFault functionFault importFault sizeFault wordFault operandsFault addressFault isListed hasExpression expressionListed expressionUses isOperator isTest isCall isImport isCallExpression isReturn isCalling hasWord
         usedBy ifLt ifEq ifTrue someOf effectOf returnOf returned
     gives-bare q e =
         record {
@@ -400,22 +421,24 @@ module _ (t : List ℕ) (c : ℕ) (lw : List ℕ) (lc g d size : ℕ) (r : Machi
           tail = rw q;
           calls = rw (q, e);
           returns = rw (q, e);
+          imports = rw e;
           effect = rw (q, e);
         }
 
-    gives-value : (v end : ℕ) → here .kind ≡ 13 → (here .expr ≡ 0 → ⊥) → ((k : ℕ) → expressionListed k (here .expr) ≡ true) → eqb (here .expr) 2 ≡ false
+    gives-value : (v end : ℕ) → here .kind ≡ 13 → (here .expr ≡ 0 → ⊥) → ((k : ℕ) → expressionListed k (here .expr) ≡ true) → isCallExpression (here .expr) ≡ false
         → someOf (operandFault size d) (take (expressionUses (here .expr) (here .count)) (slots t (n * 27))) ≡ false
         → evalOf Bits32 st s m (r .top) (here .expr) (take (expressionUses (here .expr) (here .count)) (slots t (n * 27))) ≡ Value v end → Gives v
-    unfolding kindFault targetFault hasTarget calleeFault sizeFault wordFault operandsFault addressFault isListed hasExpression isTest isCall isReturn isCalling hasWord usedBy ifLt ifEq ifTrue someOf
+    unfolding kindFault targetFault hasTarget sizeFault wordFault operandsFault addressFault isListed hasExpression isTest isReturn isCalling hasWord usedBy ifLt ifEq ifTrue someOf
         effectOf returnOf returned workedOf
     gives-value v end q e l b o w =
         record {
-          good = no-fault (lentProgram t c lw lc d) n (rw (q, l 13)) (rw q) (rw (q, b)) (rw q) (rw q) (rw (used, q, sized) o) (rw q);
+          good = no-fault (lentProgram t c lw lc d) n (rw (q, l 13)) (rw q) (plain-callee (rw q) b) (rw q) (rw q) (rw (used, q, sized) o) (rw q);
           line = rw q;
           block = rw q;
           tail = rw q;
-          calls = rw (q, b);
+          calls = plain-call (here .kind) (here .expr) (rw q) b;
           returns = rw (q, b);
+          imports = plain-import (here .kind) (here .expr) b;
           effect = rw (used, q, b, ne-eqb _ _ e, w);
         }
 
@@ -463,18 +486,22 @@ module _ (t : List ℕ) (c : ℕ) (lw : List ℕ) (lc g d size : ℕ) (r : Machi
       unfolding resumptionOf passesOn ifTrue
       resumes = rw (not-first, called, ep, not-passed, ec, eb)
 
+      leaves-here : leavesFrame here ≡ true
+      unfolding leavesFrame
+      leaves-here = rw (y .returns)
+
       back-fine : withinBroken (lentProgram t c lw lc d) r st (length m) ≡ No
       back-fine =
-          return-fine t c lw lc g d size r st m h below own (y .line) (y .good) p (y .calls) (y .returns) (frame-fine t c lw lc g d size r st m h below own) rows-left (x .good)
+          return-fine t c lw lc g d size r st m h below own (y .line) (y .good) p (y .calls) leaves-here (frame-fine t c lw lc g d size r st m h below own) rows-left (x .good)
           (function-good t c (rowAt t p .func) z function lw lc d)
-          (record-fine t c lw lc g d size r st m h below own (rw (y .block)) (rw (y .tail)) (rw (y .returns) leaves-good))
+          (record-fine t c lw lc g d size r st m h below own (rw (y .block)) (rw (y .tail)) (rw leaves-here leaves-good))
 
       right-resumed : Right (resumed (rowAt t) st s v p caller back)
       unfolding resumed RightBy handedBy handedTo ifEq
       right-resumed =
           either-eq (λ (w : List ℕ). Moved (suc p) caller s back w) (rowAt t p .kind) 11 st (set st (caller + rowAt t p .a) v)
-          (λ q. record { fine = back-fine; effect = y .effect ∙ rw (resumes, x .at, q); stack = refl })
-          (λ q. record { fine = back-fine; effect = y .effect ∙ rw (resumes, x .at, ne-eqb _ _ q); stack = length-set st (caller + rowAt t p .a) v })
+          (λ q. record { fine = back-fine; imports = y .imports; effect = y .effect ∙ rw (resumes, x .at, q); stack = refl })
+          (λ q. record { fine = back-fine; imports = y .imports; effect = y .effect ∙ rw (resumes, x .at, ne-eqb _ _ q); stack = length-set st (caller + rowAt t p .a) v })
 
     right-hand : c < 4294967296 → (v : ℕ) → Gives v → Right (handTransfer t c lw lc d st s (length m) v)
     unfolding handTransfer handTo

@@ -13,12 +13,13 @@ use Rattle.base_prelude.specs.Choice.{ifLt, ifEq, ifTrue}
 use Rattle.base_prelude.proofs.Choice.{true-false, either, either-eq}
 use Rattle.base_limits.specs.declared.Width.the-variants.{Bits32}
 use Rattle.prog_tables.specs.Tests.{both, oneOf, some, someOf}
-use Rattle.prog_tables.specs.Statement.{Row, hasExpression, isTest, isOperator, isCall, expressionUses, usedBy, operandAt, slots, rowFrom, rowAt}
+use Rattle.prog_tables.specs.Statement.{Row, hasExpression, isTest, isOperator, isCall, isImport, isCallExpression, expressionUses, usedBy, operandAt, slots, rowFrom, rowAt}
 use Rattle.prog_tables.specs.Program.{Program, lentProgram}
 use Rattle.prog_tables.specs.Nesting.{isListed, hasTarget}
-use Rattle.prog_tables.specs.Faults.{expressionListed, inFunction, sizeAt, operandFault, kindFault, targetFault, calleeFault, sizeFault, hasWord, wordFault, operandsFault, addressFault, rowFault}
+use Rattle.prog_tables.specs.Faults.{expressionListed, inFunction, sizeAt, operandFault, kindFault, targetFault, functionFault, importFault, calleeFault, sizeFault, hasWord, wordFault, operandsFault, addressFault, rowFault}
 use Rattle.prog_tables.specs.declared.Operand.{Operand}
 use Rattle.lang_words.specs.Words.{leastOperands}
+use Rattle.prog_tables.proofs.CallRows.{bare-call, bare-import}
 use Rattle.vm_definitions.specs.Operands.{readOf, onRead}
 use Rattle.vm_definitions.specs.Expressions.{evalOf}
 use Rattle.vm_definitions.specs.declared.Read.{Read}
@@ -64,23 +65,32 @@ two-not : (e j : ℕ) → expressionUses e 0 ≡ suc j → e ≡ 2 → ⊥
 unfolding expressionUses ifEq
 two-not e j h z = let q : _≡_ {A = ℕ} 0 (suc j) = rw z at h in omega arith
 
+three-not : (e j : ℕ) → expressionUses e 0 ≡ suc j → e ≡ 3 → ⊥
+unfolding expressionUses ifEq
+three-not e j h z = let q : _≡_ {A = ℕ} 0 (suc j) = rw z at h in omega arith
+
+-- no call
+no-call : (e j : ℕ) → expressionUses e 0 ≡ suc j → isCallExpression e ≡ false
+unfolding isCallExpression ifEq
+no-call e j h = rw (ne-eqb e 2 (two-not e j h), ne-eqb e 3 (three-not e j h))
+
 -- an operator: neither a plain operand nor a call
 module _ (e j : ℕ) (q : e ≡ 1 → ⊥) (h : expressionUses e 0 ≡ suc j) where
   is-operator : isOperator e ≡ true
   unfolding expressionUses ifEq
-  is-operator = operator-uses (isOperator e) (leastOperands e) j (rw (ne-eqb e 1 q, ne-eqb e 2 (two-not e j h)) at h)
+  is-operator = operator-uses (isOperator e) (leastOperands e) j (rw (ne-eqb e 1 q, ne-eqb e 2 (two-not e j h), ne-eqb e 3 (three-not e j h)) at h)
 
   operator-listed : (k : ℕ) → expressionListed k e ≡ true
-  unfolding expressionListed ifEq
-  operator-listed k = rw (ne-eqb e 0 (zero-not e is-operator), ne-eqb e 1 q, ne-eqb e 2 (two-not e j h)) is-operator
+  unfolding expressionListed ifEq ifTrue
+  operator-listed k = rw (ne-eqb e 0 (zero-not e is-operator), ne-eqb e 1 q, no-call e j h) is-operator
 
   operator-takes : (n : ℕ) → expressionUses e n ≡ suc j
   unfolding expressionUses ifEq ifTrue
-  operator-takes n = rw (ne-eqb e 1 q, ne-eqb e 2 (two-not e j h)) (rw (ne-eqb e 1 q, ne-eqb e 2 (two-not e j h)) at h)
+  operator-takes n = rw (ne-eqb e 1 q, ne-eqb e 2 (two-not e j h), ne-eqb e 3 (three-not e j h)) (rw (ne-eqb e 1 q, ne-eqb e 2 (two-not e j h), ne-eqb e 3 (three-not e j h)) at h)
 
   operator-least : leastOperands e ≡ suc j
   unfolding expressionUses ifEq ifTrue
-  operator-least = rw (ne-eqb e 1 q, ne-eqb e 2 (two-not e j h), is-operator) at h
+  operator-least = rw (ne-eqb e 1 q, ne-eqb e 2 (two-not e j h), ne-eqb e 3 (three-not e j h), is-operator) at h
 
 plain-takes : (e n : ℕ) → e ≡ 1 → expressionUses e n ≡ 1
 unfolding expressionUses ifEq
@@ -97,12 +107,12 @@ module _ (t : List ℕ) (at size d : ℕ) (st : List ℕ) (s : ℕ) (m : List �
   -- the expression is listed, no call, has good operands and this value; j arguments are said not to matter
   pub record Valued : Type 0 where
     pub listed : (k : ℕ) → expressionListed k kind ≡ true
-    pub bare : eqb kind 2 ≡ false
+    pub bare : isCallExpression kind ≡ false
     pub operands : (j : ℕ) → someOf (operandFault size d) (take (expressionUses kind j) (slots t at)) ≡ false
     pub worked : (j : ℕ) → evalOf Bits32 st s m top kind (take (expressionUses kind j) (slots t at)) ≡ Value v end
 
   one-plain : (x : ℕ) → kind ≡ 1 → Sound size d st s m (operandAt t (at + 11)) x → Value x top ≡ Value v end → Valued
-  unfolding someOf slots evalOf ifEq fetched
+  unfolding someOf slots evalOf isCallExpression ifEq fetched
   one-plain x q o h =
       record {
         listed = λ k. plain-listed kind k q;
@@ -116,7 +126,7 @@ module _ (t : List ℕ) (at size d : ℕ) (st : List ℕ) (s : ℕ) (m : List �
   one-operator x q u o h =
       record {
         listed = operator-listed kind 0 q u;
-        bare = ne-eqb kind 2 (two-not kind 0 u);
+        bare = no-call kind 0 u;
         operands = λ j. rw (operator-takes kind 0 q u j, o .good);
         worked = λ j. rw (operator-takes kind 0 q u j, ne-eqb kind 1 q, o .word, operator-least kind 0 q u) h;
       }
@@ -127,7 +137,7 @@ module _ (t : List ℕ) (at size d : ℕ) (st : List ℕ) (s : ℕ) (m : List �
   two-operator x y q u o p h =
       record {
         listed = operator-listed kind 1 q u;
-        bare = ne-eqb kind 2 (two-not kind 1 u);
+        bare = no-call kind 1 u;
         operands = λ j. rw (operator-takes kind 1 q u j, o .good, p .good);
         worked = λ j. rw (operator-takes kind 1 q u j, ne-eqb kind 1 q, o .word, p .word, operator-least kind 1 q u) h;
       }
@@ -184,11 +194,11 @@ pub record Function (f : ℕ → Row) (c g size : ℕ) : Type 0 where
 
 module _ (t : List ℕ) (c g size : ℕ) (h : Function (rowAt t) c g size) where
   pub function-good : (lw : List ℕ) (lc d : ℕ) → rowFault (lentProgram t c lw lc d) g ≡ false
-  unfolding kindFault targetFault calleeFault sizeFault wordFault operandsFault addressFault isListed hasExpression hasTarget isTest isCall hasWord usedBy
+  unfolding kindFault targetFault calleeFault functionFault importFault sizeFault wordFault operandsFault addressFault isListed hasExpression hasTarget isTest hasWord usedBy
       ifLt ifEq ifTrue rowAt rowFrom someOf
   function-good lw lc d =
       let e = h .kind in
-      no-fault (lentProgram t c lw lc d) g (rw e) (rw e) (rw e) (rw (e, h .words, le-ltb _ _ (h .least))) (rw e) (rw e) (rw e)
+      no-fault (lentProgram t c lw lc d) g (rw e) (rw e) (rw (e, bare-call 1 (rowAt t g .expr) refl refl, bare-import 1 (rowAt t g .expr) refl refl)) (rw (e, h .words, le-ltb _ _ (h .least))) (rw e) (rw e) (rw e)
 
   -- of a row of this function
   module _ (n : ℕ) (e : rowAt t n .func ≡ g) where

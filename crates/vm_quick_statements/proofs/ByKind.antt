@@ -7,9 +7,37 @@ use lib.Dec.{eqb}
 use Rattle.base_prelude.specs.Choice.{pick, ifLt, ifEq, ifTrue}
 use Rattle.base_prelude.proofs.Choice.{true-false}
 use Rattle.prog_tables.specs.Tests.{oneOf}
-use Rattle.prog_tables.specs.Statement.{hasExpression, isTest}
+use Rattle.prog_tables.specs.Statement.{Row, hasExpression, isTest, isCallRow, isCall, isImport, isCallExpression}
 use Rattle.prog_tables.specs.Nesting.{isListed, hasTarget}
-use Rattle.prog_tables.specs.Faults.{isCallRow, hasWord}
+use Rattle.prog_tables.specs.Faults.{hasWord}
+use Rattle.vm_definitions.specs.Frames.{isReturn, importing, returnsImport, leavesFrame}
+
+-- ---- rows that call nothing
+
+pub plain-call : (k e : ℕ) → isCallRow k ≡ false → isCallExpression e ≡ false → isCall k e ≡ false
+unfolding isCall isCallExpression ifEq ifTrue
+plain-call k e = by (eqb k 11) (eqb k 12) (eqb e 2) (eqb e 3) (hasExpression k)
+  where
+    by : (a b x y h : Bool) → pick a true b ≡ false → pick x true y ≡ false → pick y false (pick a true (pick b true (pick h x false))) ≡ false
+    by a b true y h q z = true-false z
+    by a b false true h q z = true-false z
+    by true b false false h q z = true-false q
+    by false true false false h q z = true-false q
+    by false false false false true q z = refl
+    by false false false false false q z = refl
+
+pub plain-import : (k e : ℕ) → isCallExpression e ≡ false → isImport k e ≡ false
+unfolding isImport isCallExpression ifEq
+plain-import k e = by (eqb e 2) (eqb e 3) _
+  where
+    by : (x y a : Bool) → pick x true y ≡ false → pick y a false ≡ false
+    by true y a z = true-false z
+    by false true a z = true-false z
+    by false false a z = refl
+
+pub leaves-not : (r : Row) → isReturn r ≡ false → importing r ≡ false → leavesFrame r ≡ false
+unfolding leavesFrame returnsImport
+leaves-not r e q = rw (e, q)
 
 -- h: it has an expression
 pub record Inner (k : ℕ) (h : Bool) : Type 0 where

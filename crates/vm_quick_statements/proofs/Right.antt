@@ -17,16 +17,16 @@ use Rattle.base_limits.specs.declared.Machine.{Machine}
 use Rattle.base_limits.specs.Record.{goingOn}
 use Rattle.base_word.specs.Bytes.{wordBytes}
 use Rattle.prog_tables.specs.Tests.{both, oneOf, given, some, someOf}
-use Rattle.prog_tables.specs.Statement.{Row, hasExpression, isTest, isCall, expressionUses, usedBy, operandOf, operandAt, slots, rowFrom, rowAt}
+use Rattle.prog_tables.specs.Statement.{Row, hasExpression, isTest, isCallRow, isCall, isImport, isCallExpression, expressionUses, usedBy, operandOf, operandAt, slots, rowFrom, rowAt}
 use Rattle.prog_tables.specs.Program.{Program, lentProgram}
 use Rattle.prog_tables.specs.Nesting.{isListed, hasTarget}
-use Rattle.prog_tables.specs.Faults.{expressionListed, inFunction, sizeAt, operandFault, addressListed, kindFault, targetFault, calleeFault, sizeFault, ownWord, hasWord, wordFault, operandsFault, addressFault, rowFault}
+use Rattle.prog_tables.specs.Faults.{expressionListed, inFunction, sizeAt, operandFault, addressListed, kindFault, targetFault, functionFault, importFault, calleeFault, sizeFault, ownWord, hasWord, wordFault, operandsFault, addressFault, rowFault}
 use Rattle.prog_tables.specs.declared.Operand.{Operand}
 use Rattle.vm_definitions.specs.Access.{byteAddress, wordAddress, byteGood, wordGood, storeFrom}
 use Rattle.vm_definitions.specs.Operands as machine
 use Rattle.vm_definitions.specs.Operands.{withWord, isAt, numberIn, readOf, readAll, onRead}
 use Rattle.vm_definitions.specs.Expressions.{evalOf, testHolds, operandNo}
-use Rattle.vm_definitions.specs.Frames.{isReturn, isCalling, headGood}
+use Rattle.vm_definitions.specs.Frames.{isReturn, isCalling, importing, headGood}
 use Rattle.vm_definitions.proofs.Words.{word-32}
 use Rattle.vm_definitions.specs.Step.{Effect, leaves, keeps, stores, goesTo, blockOf, endBlockOf, testOf, assigned, assignedAt, setAtOf, setByteBy, setWordBy, argumentsOf, workedOf, effectOf}
 use Rattle.vm_definitions.specs.Lent.{world}
@@ -38,14 +38,14 @@ use Rattle.vm_definitions.proofs.Kept.{TopIn, top-eval}
 use Rattle.vm_definitions.proofs.Stores.{store-length, store-before}
 use Rattle.vm_quick_operands.specs.Fast.{goodRead, goodWork}
 use Rattle.vm_quick_operands.proofs.Good.{Sound, good-read, Valued, good-work, no-fault, Function, row-within, row-size, bad-got}
-use Rattle.vm_statements.proofs.Forms.{test-bare, test-uncalled, of-test}
+use Rattle.vm_statements.proofs.Forms.{test-bare, test-row, test-uncalled, test-own, of-test}
 use Rattle.vm_quick_statements.specs.declared.Move.{Move}
 use Rattle.vm_quick_statements.specs.declared.Move.the-variants.{To, Stays}
 use Rattle.vm_quick_statements.specs.declared.Three.{Three}
 use Rattle.vm_quick_statements.specs.declared.Three.the-variants.{All, Unread}
 use Rattle.vm_quick_statements.specs.PlainRun.{Taken, taken, aimed, quickJump, quickBlock, quickEnd, threeRead, assignedBy, quickAssign, byteBy, quickByte, wordBy, quickWord, storedBy, storedAt, quickAt, quickTest, quickJumps, quickStores, quickKind, quickForm, quickStep}
-use Rattle.vm_quick_statements.proofs.ByKind.{Sets, Jumps, let-sets, set-sets, goto-jumps, else-jumps, else-if-jumps, one-of-two, all-three}
-use Rattle.prog_tables.proofs.CallRows.{quiet-row}
+use Rattle.vm_quick_statements.proofs.ByKind.{Sets, Jumps, let-sets, set-sets, goto-jumps, else-jumps, else-if-jumps, one-of-two, all-three, plain-call, plain-import}
+use Rattle.prog_tables.proofs.CallRows.{bare-call, bare-import}
 use Rattle.prog_tables.proofs.Each.{both-false}
 use Rattle.prog_tables.proofs.Ranges.{test-least, test-most}
 
@@ -103,6 +103,7 @@ module _ (t : List ℕ) (c : ℕ) (lw : List ℕ) (lc g d size : ℕ) (r : Machi
     pub line : eqb (row .kind) 1 ≡ false
     pub tail : eqb (row .kind) 12 ≡ false
     pub calls : isCall (row .kind) (row .expr) ≡ false
+    pub imports : importing row ≡ false
     pub returns : isReturn row ≡ false
     pub block : given (eqb (row .kind) 4) (leb (getD st (s + row .a) 0) (length m)) ≡ true
     pub effect : effectOf prog (world r st m) ≡ leaves (world (goingOn r i end) st′ m′)
@@ -158,21 +159,32 @@ module _ (t : List ℕ) (c : ℕ) (lw : List ℕ) (lc g d size : ℕ) (r : Machi
     aims-good : aimed t c g a ≡ true → targetFault prog n ≡ false
     aims-good e = target-in prog n g a within own fields-a (aims t c g a e .below) (func-of (aims t c g a e .own))
 
+    -- ---- rows that call nothing
+
+    bare-callee : hasExpression (row .kind) ≡ false → isCallRow (row .kind) ≡ false → calleeFault prog n ≡ false
+    unfolding calleeFault functionFault importFault
+    bare-callee e q = rw (bare-call (row .kind) (row .expr) e q, bare-import (row .kind) (row .expr) e q)
+
+    plain-callee : isCallRow (row .kind) ≡ false → isCallExpression (row .expr) ≡ false → calleeFault prog n ≡ false
+    unfolding calleeFault functionFault importFault
+    plain-callee e q = rw (plain-call (row .kind) (row .expr) e q, plain-import (row .kind) (row .expr) q)
+
     -- ---- `goto`, `else`, `end if`
 
     went-jump : (k : ℕ) → Jumps k → row .kind ≡ k → aimed t c g a ≡ true → Went a (r .top) st m
-    unfolding kindFault calleeFault sizeFault wordFault operandsFault addressFault isCall isReturn isCalling usedBy ifLt ifEq ifTrue someOf effectOf goesTo
+    unfolding kindFault sizeFault wordFault operandsFault addressFault isReturn isCalling usedBy ifLt ifEq ifTrue someOf effectOf goesTo
     went-jump k x q e =
         let i = x .inner in
         record {
           below = below;
           own = own;
           good =
-              no-fault prog n (rw (q, i .listed, i .row, i .has)) (aims-good e) (rw (q, i .bare, i .tail, i .has)) (rw (q, i .function)) (rw (q, i .own))
+              no-fault prog n (rw (q, i .listed, i .row, i .has)) (aims-good e) (bare-callee (rw (q, i .has)) (rw (q, i .bare, i .tail))) (rw (q, i .function)) (rw (q, i .own))
               (rw (used, q, i .has, i .bare, i .tail, i .test, i .byte, i .word)) (rw (q, i .at));
           line = rw (q, i .function);
           tail = rw (q, i .tail);
-          calls = rw (q, i .bare, i .tail, i .has);
+          calls = bare-call (row .kind) (row .expr) (rw (q, i .has)) (rw (q, i .bare, i .tail));
+          imports = bare-import (row .kind) (row .expr) (rw (q, i .has)) (rw (q, i .bare, i .tail));
           returns = rw (q, i .end, i .returns);
           block = rw (q, i .leaves);
           effect =
@@ -191,16 +203,17 @@ module _ (t : List ℕ) (c : ℕ) (lw : List ℕ) (lc g d size : ℕ) (r : Machi
         either-true (λ (x : Move). RightBy x st m) (aimed t c g a) (To a (r .top)) Stays go (λ e. stays)
 
     right-22 : row .kind ≡ 22 → Right (taken (To (suc n) (r .top)) st m)
-    unfolding RightBy kindFault targetFault hasTarget calleeFault sizeFault wordFault operandsFault addressFault isListed hasExpression isTest isCall isReturn isCalling hasWord usedBy ifLt ifEq ifTrue someOf
+    unfolding RightBy kindFault targetFault hasTarget sizeFault wordFault operandsFault addressFault isListed hasExpression isTest isReturn isCalling hasWord usedBy ifLt ifEq ifTrue someOf
         effectOf goesTo
     right-22 q =
         record {
           below = below;
           own = own;
-          good = no-fault prog n (rw q) (rw q) (rw q) (rw q) (rw q) (rw (used, q)) (rw q);
+          good = no-fault prog n (rw q) (rw q) (bare-callee (rw q) (rw q)) (rw q) (rw q) (rw (used, q)) (rw q);
           line = rw q;
           tail = rw q;
-          calls = rw q;
+          calls = bare-call (row .kind) (row .expr) (rw q) (rw q);
+          imports = bare-import (row .kind) (row .expr) (rw q) (rw q);
           returns = rw q;
           block = rw q;
           effect = rw q;
@@ -215,16 +228,17 @@ module _ (t : List ℕ) (c : ℕ) (lw : List ℕ) (lc g d size : ℕ) (r : Machi
 
     went-3 : row .kind ≡ 3 → 3 ≤ a → a + getD t (r .next * 27 + 5) 0 < size
         → Went (suc n) (r .top) (storeFrom st (s + a) (r .top ∷ replicate (getD t (r .next * 27 + 5) 0) 0)) m
-    unfolding kindFault targetFault hasTarget calleeFault sizeFault wordFault operandsFault addressFault isListed hasExpression isTest isCall isReturn isCalling hasWord ownWord usedBy ifLt ifEq ifTrue
+    unfolding kindFault targetFault hasTarget sizeFault wordFault operandsFault addressFault isListed hasExpression isTest isReturn isCalling hasWord ownWord usedBy ifLt ifEq ifTrue
         someOf effectOf blockOf keeps
     went-3 q l b =
         record {
           below = below;
           own = own;
-          good = no-fault prog n (rw q) (rw q) (rw q) (rw q) (rw (q, sized, fields-a, fields-b) (lt-leb size _ b)) (rw (used, q)) (rw q);
+          good = no-fault prog n (rw q) (rw q) (bare-callee (rw q) (rw q)) (rw q) (rw (q, sized, fields-a, fields-b) (lt-leb size _ b)) (rw (used, q)) (rw q);
           line = rw q;
           tail = rw q;
-          calls = rw q;
+          calls = bare-call (row .kind) (row .expr) (rw q) (rw q);
+          imports = bare-import (row .kind) (row .expr) (rw q) (rw q);
           returns = rw q;
           block = rw q;
           effect = rw (q, fields-a, fields-b, word-32 (r .top) (omega (arith, h .top, h .memory)));
@@ -244,16 +258,17 @@ module _ (t : List ℕ) (c : ℕ) (lw : List ℕ) (lc g d size : ℕ) (r : Machi
         went b l = went-3 q l b
 
     went-4 : row .kind ≡ 4 → a < size → getD st (s + a) 0 ≤ length m → Went (suc n) (getD st (s + a) 0) st m
-    unfolding kindFault targetFault hasTarget calleeFault sizeFault wordFault operandsFault addressFault isListed hasExpression isTest isCall isReturn isCalling hasWord ownWord usedBy ifLt ifEq ifTrue
+    unfolding kindFault targetFault hasTarget sizeFault wordFault operandsFault addressFault isListed hasExpression isTest isReturn isCalling hasWord ownWord usedBy ifLt ifEq ifTrue
         someOf effectOf endBlockOf keeps storeFrom
     went-4 q l b =
         record {
           below = below;
           own = own;
-          good = no-fault prog n (rw q) (rw q) (rw q) (rw q) (rw (q, sized, fields-a) (lt-leb size _ l)) (rw (used, q)) (rw q);
+          good = no-fault prog n (rw q) (rw q) (bare-callee (rw q) (rw q)) (rw q) (rw (q, sized, fields-a) (lt-leb size _ l)) (rw (used, q)) (rw q);
           line = rw q;
           tail = rw q;
-          calls = rw q;
+          calls = bare-call (row .kind) (row .expr) (rw q) (rw q);
+          imports = bare-import (row .kind) (row .expr) (rw q) (rw q);
           returns = rw q;
           block = rw (q, fields-a) (le-leb _ _ b);
           effect = rw (q, fields-a);
@@ -275,7 +290,7 @@ module _ (t : List ℕ) (c : ℕ) (lw : List ℕ) (lc g d size : ℕ) (r : Machi
     -- the value of the row's expression, in the row's own words
     record Told (v end : ℕ) : Type 0 where
       listed : (k : ℕ) → expressionListed k (row .expr) ≡ true
-      bare : eqb (row .expr) 2 ≡ false
+      bare : isCallExpression (row .expr) ≡ false
       operands : someOf (operandFault size d) (take (expressionUses (row .expr) (row .count)) (slots t (n * 27))) ≡ false
       worked : evalOf Bits32 st s m (r .top) (row .expr) (take (expressionUses (row .expr) (row .count)) (slots t (n * 27))) ≡ Value v end
       low : end ≤ length m
@@ -302,18 +317,19 @@ module _ (t : List ℕ) (c : ℕ) (lw : List ℕ) (lc g d size : ℕ) (r : Machi
     -- ---- `let` and `set` of a local
 
     went-set : (k : ℕ) → Sets k → row .kind ≡ k → 3 ≤ a → a < size → (v end : ℕ) → Told v end → Went (suc n) end (set st (s + a) v) m
-    unfolding kindFault targetFault calleeFault sizeFault wordFault operandsFault addressFault isCall isReturn isCalling ownWord usedBy ifLt ifEq ifTrue someOf effectOf workedOf assigned keeps storeFrom
+    unfolding kindFault targetFault sizeFault wordFault operandsFault addressFault isReturn isCalling ownWord usedBy ifLt ifEq ifTrue someOf effectOf workedOf assigned keeps storeFrom
     went-set k y q l b v end x =
         let i = y .inner in
         record {
           below = below;
           own = own;
           good =
-              no-fault prog n (rw (q, i .listed, i .row, i .has, x .listed k)) (rw (q, y .aimless)) (rw (q, i .bare, i .tail, i .has, x .bare)) (rw (q, i .function))
+              no-fault prog n (rw (q, i .listed, i .row, i .has, x .listed k)) (rw (q, y .aimless)) (plain-callee (rw (q, i .bare, i .tail)) (x .bare)) (rw (q, i .function))
               (rw (q, i .own, i .block, sized, fields-a) (lt-leb size a b)) (rw (used, q, i .has, sized) (x .operands)) (rw (q, i .at));
           line = rw (q, i .function);
           tail = rw (q, i .tail);
-          calls = rw (q, i .bare, i .tail, i .has, x .bare);
+          calls = plain-call (row .kind) (row .expr) (rw (q, i .bare, i .tail)) (x .bare);
+          imports = plain-import (row .kind) (row .expr) (x .bare);
           returns = rw (q, i .end, i .returns);
           block = rw (q, i .leaves);
           effect =
@@ -359,16 +375,17 @@ module _ (t : List ℕ) (c : ℕ) (lw : List ℕ) (lc g d size : ℕ) (r : Machi
 
     went-7 : row .kind ≡ 7 → (x v end : ℕ) → addressListed (row .address) ≡ true → operandFault size d (row .address) ≡ false → numberIn Bits32 st s (row .address) ≡ x
         → wordGood Bits32 (length m) x ≡ true → Told v end → Went (suc n) end st (storeFrom m x (wordBytes 4 v))
-    unfolding kindFault targetFault hasTarget calleeFault sizeFault wordFault operandsFault addressFault isListed hasExpression isTest isCall isReturn isCalling hasWord ownWord usedBy ifLt ifEq ifTrue
+    unfolding kindFault targetFault hasTarget sizeFault wordFault operandsFault addressFault isListed hasExpression isTest isReturn isCalling hasWord ownWord usedBy ifLt ifEq ifTrue
         someOf effectOf setAtOf workedOf assignedAt stores
     went-7 q x v end i j k w y =
         record {
           below = below;
           own = own;
-          good = no-fault prog n (rw (q, y .listed 7)) (rw q) (rw (q, y .bare)) (rw q) (rw q) (rw (used, q, sized) (y .operands)) (rw (q, i, sized, j));
+          good = no-fault prog n (rw (q, y .listed 7)) (rw q) (plain-callee (rw q) (y .bare)) (rw q) (rw q) (rw (used, q, sized) (y .operands)) (rw (q, i, sized, j));
           line = rw q;
           tail = rw q;
-          calls = rw (q, y .bare);
+          calls = plain-call (row .kind) (row .expr) (rw q) (y .bare);
+          imports = plain-import (row .kind) (row .expr) (y .bare);
           returns = rw q;
           block = rw q;
           effect = rw (used, q, y .bare, k, w, y .worked, k);
@@ -432,16 +449,17 @@ module _ (t : List ℕ) (c : ℕ) (lw : List ℕ) (lc g d size : ℕ) (r : Machi
 
     went-8 : row .kind ≡ 8 → (x y z : ℕ) → All3 x y z → byteGood (length m) (byteAddress Bits32 x y) ≡ true
         → Went (suc n) (r .top) st (storeFrom m (byteAddress Bits32 x y) (z % 256 ∷ []))
-    unfolding kindFault targetFault hasTarget calleeFault sizeFault wordFault operandsFault addressFault isListed hasExpression isTest isCall isReturn isCalling hasWord ownWord usedBy ifLt ifEq ifTrue
+    unfolding kindFault targetFault hasTarget sizeFault wordFault operandsFault addressFault isListed hasExpression isTest isReturn isCalling hasWord ownWord usedBy ifLt ifEq ifTrue
         effectOf argumentsOf setByteBy stores
     went-8 q x y z o w =
         record {
           below = below;
           own = own;
-          good = no-fault prog n (rw q) (rw q) (rw q) (rw q) (rw q) (rw (used, q, sized) (three-good x y z o)) (rw q);
+          good = no-fault prog n (rw q) (rw q) (bare-callee (rw q) (rw q)) (rw q) (rw q) (rw (used, q, sized) (three-good x y z o)) (rw q);
           line = rw q;
           tail = rw q;
-          calls = rw q;
+          calls = bare-call (row .kind) (row .expr) (rw q) (rw q);
+          imports = bare-import (row .kind) (row .expr) (rw q) (rw q);
           returns = rw q;
           block = rw q;
           effect = rw (used, q, three-words x y z o, w);
@@ -463,16 +481,17 @@ module _ (t : List ℕ) (c : ℕ) (lw : List ℕ) (lc g d size : ℕ) (r : Machi
 
     went-9 : row .kind ≡ 9 → (x y z : ℕ) → All3 x y z → wordGood Bits32 (length m) (wordAddress Bits32 x y) ≡ true
         → Went (suc n) (r .top) st (storeFrom m (wordAddress Bits32 x y) (wordBytes 4 z))
-    unfolding kindFault targetFault hasTarget calleeFault sizeFault wordFault operandsFault addressFault isListed hasExpression isTest isCall isReturn isCalling hasWord ownWord usedBy ifLt ifEq ifTrue
+    unfolding kindFault targetFault hasTarget sizeFault wordFault operandsFault addressFault isListed hasExpression isTest isReturn isCalling hasWord ownWord usedBy ifLt ifEq ifTrue
         effectOf argumentsOf setWordBy stores
     went-9 q x y z o w =
         record {
           below = below;
           own = own;
-          good = no-fault prog n (rw q) (rw q) (rw q) (rw q) (rw q) (rw (used, q, sized) (three-good x y z o)) (rw q);
+          good = no-fault prog n (rw q) (rw q) (bare-callee (rw q) (rw q)) (rw q) (rw q) (rw (used, q, sized) (three-good x y z o)) (rw q);
           line = rw q;
           tail = rw q;
-          calls = rw q;
+          calls = bare-call (row .kind) (row .expr) (rw q) (rw q);
+          imports = bare-import (row .kind) (row .expr) (rw q) (rw q);
           returns = rw q;
           block = rw q;
           effect = rw (used, q, three-words x y z o, w);
@@ -496,11 +515,11 @@ module _ (t : List ℕ) (c : ℕ) (lw : List ℕ) (lc g d size : ℕ) (r : Machi
 
     two : isTest (row .kind) ≡ true → row .operands ≡ operandAt t (n * 27 + 11) ∷ operandAt t (n * 27 + 13) ∷ []
     unfolding usedBy ifTrue slots
-    two e = rw (used, test-bare (row .kind) e, test-uncalled (row .kind) (row .expr) e, e)
+    two e = rw (used, test-bare (row .kind) e, test-row (row .kind) e, e)
 
     went-test : isTest (row .kind) ≡ true → aimed t c g a ≡ true → (x y : ℕ) → Sound size d st s m (operandAt t (n * 27 + 11)) x
         → Sound size d st s m (operandAt t (n * 27 + 13)) y → Went (ifTrue (testHolds Bits32 (row .kind) x y) (suc n) a) (r .top) st m
-    unfolding kindFault calleeFault sizeFault wordFault operandsFault addressFault isListed isReturn hasWord someOf ifLt ifEq ifTrue testOf goesTo onRead
+    unfolding kindFault sizeFault wordFault operandsFault addressFault isListed isReturn hasWord someOf ifLt ifEq ifTrue testOf goesTo onRead
     went-test e z x y o p =
         let low = test-least (row .kind) e in
         let high = test-most (row .kind) e in
@@ -518,11 +537,12 @@ module _ (t : List ℕ) (c : ℕ) (lw : List ℕ) (lc g d size : ℕ) (r : Machi
           below = below;
           own = own;
           good =
-              no-fault prog n (rw (p0, l23, quiet-row (row .kind) (row .expr) (test-uncalled (row .kind) (row .expr) e), test-bare (row .kind) e)) (aims-good z) (rw (test-uncalled (row .kind) (row .expr) e)) (rw p1) (rw (l3, l7))
+              no-fault prog n (rw (p0, l23, test-row (row .kind) e, test-bare (row .kind) e)) (aims-good z) (bare-callee (test-bare (row .kind) e) (test-row (row .kind) e)) (rw p1) (rw (l3, l7))
               (rw (two e, sized, o .good, p .good)) (rw p7);
           line = p1;
           tail = p12;
           calls = test-uncalled (row .kind) (row .expr) e;
+          imports = test-own (row .kind) (row .expr) e;
           returns = rw (p2, p13);
           block = rw p4;
           effect = of-test prog (world r st m) e ∙ rw (two e, o .word, p .word, fields-a);

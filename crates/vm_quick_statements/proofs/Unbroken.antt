@@ -16,13 +16,14 @@ use Rattle.prog_tables.specs.Tests.{both, oneOf, given, all}
 use Rattle.prog_tables.specs.Statement.{Row, isCall, rowAt}
 use Rattle.prog_tables.specs.Program.{Program, lentProgram}
 use Rattle.prog_tables.specs.Faults.{inFunction, sizeAt, rowFault}
-use Rattle.vm_definitions.specs.Frames.{topAtEntry, isReturn, headGood, leavesGood, rowsLeft}
+use Rattle.vm_definitions.specs.Frames.{topAtEntry, leavesFrame, headGood, leavesGood, rowsLeft}
 use Rattle.vm_definitions.specs.Broken.{lowest, orElse, nextBad, frameEnds, rowsUsed}
 use Rattle.vm_definitions.specs.declared.Broken.{Broken}
 use Rattle.vm_definitions.specs.declared.Broken.the-variants.{No, At, Somewhere}
-use Rattle.vm_guard.specs.Guard.{rowBad, recordGood, withinBroken}
+use Rattle.vm_guard.specs.Guard.{rowBad, recordGood, withRecord, withinBroken}
 use Rattle.vm_quick_operands.proofs.Good.{Function, function-good, row-within, row-size}
 use Rattle.vm_quick_statements.proofs.Right.{InFrame, Went}
+use Rattle.vm_quick_statements.proofs.ByKind.{leaves-not}
 use Rattle.prog_tables.proofs.Each.{both-false}
 
 -- ---- rows
@@ -57,7 +58,7 @@ module _ (t : List ℕ) (c : ℕ) (lw : List ℕ) (lc g d size : ℕ) (r : Machi
 
   pub record-fine : given (eqb (row .kind) 4) (leb (getD st (r .frame + row .a) 0) (length m)) ≡ true
       → given (eqb (row .kind) 12) (leb (topAtEntry st (r .frame)) (length m)) ≡ true
-      → given (isReturn row) (leavesGood Bits32 f c (length m) st (suc (r .frame)) (r .frame)) ≡ true → recordGood prog (length m) r st ≡ true
+      → given (leavesFrame row) (leavesGood Bits32 f c (length m) st (suc (r .frame)) (r .frame)) ≡ true → recordGood prog (length m) r st ≡ true
   unfolding recordGood all
   record-fine k4 k12 kr =
       rw (
@@ -86,17 +87,17 @@ module _ (t : List ℕ) (c : ℕ) (lw : List ℕ) (lc g d size : ℕ) (r : Machi
 
     broken-by : (is : List ℕ) → rowsUsed prog r st ≡ r .next ∷ row .func ∷ is → lowest (rowBad prog (r .next)) is ≡ No → recordGood prog (length m) r st ≡ true
         → withinBroken prog r st (length m) ≡ No
-    unfolding withinBroken orElse ifTrue
+    unfolding withinBroken withRecord orElse ifTrue
     broken-by is u e q = rw (u, own-rows is e, q)
 
     -- a statement that neither calls nor returns
-    pub plain-fine : isCall (row .kind) (row .expr) ≡ false → isReturn row ≡ false → recordGood prog (length m) r st ≡ true
+    pub plain-fine : isCall (row .kind) (row .expr) ≡ false → leavesFrame row ≡ false → recordGood prog (length m) r st ≡ true
         → withinBroken prog r st (length m) ≡ No
     unfolding rowsUsed ifLt ifTrue lowest
     plain-fine e q k = broken-by [] (rw (lt-ltb _ _ below, row-within t c g size (h .function) (r .next) own, e, q)) refl k
 
     -- one that calls
-    pub call-fine : isCall (row .kind) (row .expr) ≡ true → row .callee < c → rowFault prog (row .callee) ≡ false → isReturn row ≡ false
+    pub call-fine : isCall (row .kind) (row .expr) ≡ true → row .callee < c → rowFault prog (row .callee) ≡ false → leavesFrame row ≡ false
         → recordGood prog (length m) r st ≡ true → withinBroken prog r st (length m) ≡ No
     unfolding rowsUsed ifLt ifTrue lowest
     call-fine e l p q k =
@@ -104,7 +105,7 @@ module _ (t : List ℕ) (c : ℕ) (lw : List ℕ) (lc g d size : ℕ) (r : Machi
         (rw (row-fine prog (r .next) (row .callee) next-good p)) k
 
     -- one that returns to the call at row p
-    pub return-fine : (p : ℕ) → isCall (row .kind) (row .expr) ≡ false → isReturn row ≡ true → frameEnds f c r (length st) ≡ true
+    pub return-fine : (p : ℕ) → isCall (row .kind) (row .expr) ≡ false → leavesFrame row ≡ true → frameEnds f c r (length st) ≡ true
         → rowsLeft Bits32 f c st (suc (r .frame)) (r .frame) ≡ p ∷ f p .func ∷ [] → rowFault prog p ≡ false → rowFault prog (f p .func) ≡ false
         → recordGood prog (length m) r st ≡ true → withinBroken prog r st (length m) ≡ No
     unfolding rowsUsed ifLt ifTrue lowest
@@ -116,5 +117,6 @@ module _ (t : List ℕ) (c : ℕ) (lw : List ℕ) (lc g d size : ℕ) (r : Machi
 pub went-fine : (t : List ℕ) (c : ℕ) (lw : List ℕ) (lc g d size : ℕ) (r : Machine) (st m : List ℕ) (i end : ℕ) (st′ m′ : List ℕ) → InFrame t c g size r st m → Went t c lw lc g d size r st m i end st′ m′
     → withinBroken (lentProgram t c lw lc d) r st (length m) ≡ No
 went-fine t c lw lc g d size r st m i end st′ m′ h w =
-    plain-fine t c lw lc g d size r st m h (w .below) (w .own) (w .line) (w .good) (w .calls) (w .returns)
-    (record-fine t c lw lc g d size r st m h (w .below) (w .own) (w .block) (rw (w .tail)) (rw (w .returns)))
+    let q = leaves-not (rowAt t (r .next)) (w .returns) (w .imports) in
+    plain-fine t c lw lc g d size r st m h (w .below) (w .own) (w .line) (w .good) (w .calls) q
+    (record-fine t c lw lc g d size r st m h (w .below) (w .own) (w .block) (rw (w .tail)) (rw q))

@@ -14,7 +14,7 @@ use Rattle.base_prelude.specs.Choice.{ifLt, ifEq, ifTrue}
 use Rattle.base_prelude.proofs.Choice.{true-false, ifEq-yes, ifEq-no, ifTrue-yes, ifTrue-no}
 use Rattle.base_limits.specs.declared.Width.the-variants.{Bits32}
 use Rattle.base_limits.specs.declared.State.{State}
-use Rattle.base_limits.specs.declared.State.the-variants.{Running, Finished, Stopped}
+use Rattle.base_limits.specs.declared.State.the-variants.{Running, Finished, Stopped, Paused}
 use Rattle.base_limits.specs.declared.Machine.{Machine}
 use Rattle.base_limits.specs.Record.{movedTo, ofParts}
 use Rattle.prog_tables.specs.Statement.{Row, rowAt}
@@ -25,9 +25,10 @@ use Rattle.vm_counts.proofs.Cases.{count-any}
 use Rattle.vm_guard.specs.Guard.{withinBroken}
 use Rattle.vm_guard.specs.Passed.{Passed}
 use Rattle.vm_guard.proofs.Passed.{passed, step-broken, within-lent}
-use Rattle.vm_definitions.proofs.Seen.{effect-seen}
+use Rattle.vm_definitions.proofs.Seen.{effect-seen, statement-lent}
 use Rattle.vm_definitions.specs.Broken.{orElse, stepBroken}
-use Rattle.vm_definitions.specs.Step.{World, After, Effect, idle, guarded, inState, effected, counting, effectOf, stepOf, runOf}
+use Rattle.vm_definitions.specs.Frames.{isReturn, importing, leavesFrame, leavesGood}
+use Rattle.vm_definitions.specs.Step.{World, After, idle, guarded, inState, effected, counting, effectOf, pausing, statementOf, stepOf, runOf}
 use Rattle.vm_definitions.specs.Lent.{tablesOf, world, left}
 use Rattle.vm_definitions.specs.declared.Outcome.{Outcome}
 use Rattle.vm_definitions.specs.declared.Broken.{Broken}
@@ -42,24 +43,54 @@ use Rattle.vm_quick_calls.specs.Transfers.{Transferred, transferred, transferOf
 use Rattle.vm_quick_calls.specs.declared.Transfer.{Transfer}
 use Rattle.vm_quick_calls.specs.declared.Transfer.the-variants.{To, Stays}
 use Rattle.vm_run.specs.Steps.{usableSize, after, endBy, plainRunEnd, stepsInFrameBy, stepsInFrame, someSteps}
-use Rattle.vm_run.proofs.Several.{count-none, count-add, usable-good, Several, several}
+use Rattle.vm_run.proofs.One.{one-step}
+use Rattle.vm_run.proofs.Several.{running-is, count-none, count-add, usable-good, Several, several}
 use Rattle.vm_run.specs.Within.{givenBack, isRunning, countsBroken, takenStep, withinStep, withinRun}
 use Rattle.prog_tables.proofs.Each.{one-no}
 
 -- ---- a running record's step
 
 -- m bytes of memory
-pub take-ready : (t : List ℕ) (c : ℕ) (lw : List ℕ) (lc d : ℕ) (r : Machine) (st : List ℕ) (m : ℕ) (b : Broken) → b ≡ withinBroken (lentProgram t c lw lc d) r st m → b ≡ No → Ready (rowAt t) c r st m
-take-ready t c lw lc d r st m b e h = ready (passed t c lw lc d r st m (sym e ∙ h))
-  where
-    ready : Passed (lentProgram t c lw lc d) r st m → Ready (rowAt t) c r st m
-    ready p = record { within = p .within; listed = p .listed; callee = p .callee; leaves = p .leaves; stack = p .stack; memory = p .memory }
+pub take-passed : (t : List ℕ) (c : ℕ) (lw : List ℕ) (lc d : ℕ) (r : Machine) (st : List ℕ) (m : ℕ) (b : Broken) → b ≡ withinBroken (lentProgram t c lw lc d) r st m → b ≡ No
+    → Passed (lentProgram t c lw lc d) r st m
+take-passed t c lw lc d r st m b e h = passed t c lw lc d r st m (sym e ∙ h)
+
+leaves-return : (r : Row) → isReturn r ≡ true → leavesFrame r ≡ true
+unfolding leavesFrame
+leaves-return r e = rw e
+
+pub obey-ready : (t : List ℕ) (c : ℕ) (lw : List ℕ) (lc d : ℕ) (r : Machine) (st : List ℕ) (m : ℕ) (b : Bool) → Passed (lentProgram t c lw lc d) r st m
+    → b ≡ importing (rowAt t (r .next)) → b ≡ false → Ready (rowAt t) c r st m
+obey-ready t c lw lc d r st m b p e h =
+    record {
+      within = p .within;
+      own = sym e ∙ h;
+      listed = p .listed;
+      callee = p .callee;
+      leaves = λ q. p .leaves (leaves-return (rowAt t (r .next)) q);
+      stack = p .stack;
+      memory = p .memory;
+    }
+
+module _ (t : List ℕ) (c : ℕ) (lw : List ℕ) (lc d : ℕ) (r : Machine) (st m : List ℕ) (b : Bool) (e : b ≡ importing (rowAt t (r .next))) where
+  pub obey-asks : b ≡ true → importing (rowAt t (r .next)) ≡ true
+  obey-asks h = sym e ∙ h
+
+  pub obey-import : (o : Outcome) → b ≡ true → left o st m ≡ pausing (lentProgram t c lw lc d) (world r st m) → left o st m ≡ statementOf (lentProgram t c lw lc d) (world r st m)
+  unfolding statementOf ifTrue
+  obey-import o h q = rw (← e, h) q
+
+  pub obey-own : (o : Outcome) (st′ m′ : List ℕ) → b ≡ false → left o st′ m′ ≡ outcomes.after effectOf t c r st m → left o st′ m′ ≡ statementOf (lentProgram t c lw lc d) (world r st m)
+  unfolding statementOf ifTrue
+  obey-own o st′ m′ h q =
+      rw (← e, h) (q ∙ ap (effected (world r st m)) (sym (effect-seen (lentProgram t c lw lc d) (labelAt [] []) 0 0 false false (world r st m))))
+
+pub ruleset obeying = (obey-import, obey-own)
 
 module _ (t : List ℕ) (c : ℕ) (lw : List ℕ) (lc d : ℕ) (r : Machine) (st m : List ℕ) (b : Broken) (e : b ≡ withinBroken (lentProgram t c lw lc d) r st (length m)) where
-  pub take-on : (o : Outcome) (st′ m′ : List ℕ) → b ≡ No → left o st′ m′ ≡ outcomes.after effectOf t c r st m → left o st′ m′ ≡ takenStep t c lw lc d (world r st m)
+  pub take-on : (o : Outcome) (st′ m′ : List ℕ) → b ≡ No → left o st′ m′ ≡ statementOf (lentProgram t c lw lc d) (world r st m) → left o st′ m′ ≡ takenStep t c lw lc d (world r st m)
   unfolding takenStep guarded
-  take-on o st′ m′ h q =
-      rw (← e, h) (q ∙ ap (effected (world r st m)) (sym (effect-seen (lentProgram t c lw lc d) (labelAt [] []) 0 0 false false (world r st m))))
+  take-on o st′ m′ h q = rw (← e, h) q
 
   pub take-at : (i : ℕ) (o : Outcome) → b ≡ At i → o ≡ givenBack r (At i) → left o st m ≡ takenStep t c lw lc d (world r st m)
   unfolding takenStep guarded idle
@@ -74,9 +105,10 @@ pub ruleset taking = (take-on, take-at, take-nowhere)
 -- ---- a step over tables whose counts are good
 
 module _ (t : List ℕ) (c : ℕ) (lw : List ℕ) (lc d : ℕ) (r : Machine) (st m : List ℕ) (b : Bool) (e : b ≡ isRunning (r .state)) where
-  pub within-on : (o : Outcome) (st′ m′ : List ℕ) → b ≡ true → left o st′ m′ ≡ takenStep t c lw lc d (world r st m) → left o st′ m′ ≡ withinStep t c lw lc d (world r st m)
+  pub within-on : (u : Machine) (o : Outcome) (st′ m′ : List ℕ) → b ≡ true → u ≡ r → left o st′ m′ ≡ takenStep t c lw lc d (world u st m)
+      → left o st′ m′ ≡ withinStep t c lw lc d (world r st m)
   unfolding withinStep ifTrue
-  within-on o st′ m′ h q = rw (← e, h) q
+  within-on u o st′ m′ h v q = rw (← e, h) (q ∙ ap (λ (z : Machine). takenStep t c lw lc d (world z st m)) v)
 
   pub within-idle : (o : Outcome) → b ≡ false → o ≡ givenBack r No → left o st m ≡ withinStep t c lw lc d (world r st m)
   unfolding withinStep ifTrue idle
@@ -97,7 +129,14 @@ module _ (f : ℕ → Row) (c m : ℕ) (r : Machine) (st : List ℕ) (b : Bool) 
 
 pub ruleset usable = (usable-on, usable-off)
 
--- the parts of a record that keeps running
+-- the parts of a record that runs, and of one that keeps running
+pub as-running : (r q : Machine) → r .state ≡ Running → q ≡ ofParts Running (r .next) (r .frame) (r .used) (r .top) → q ≡ r
+unfolding ofParts
+as-running r q s e = e ∙ ap (λ (z : State). ofParts z (r .next) (r .frame) (r .used) (r .top)) (sym s)
+
+pub state-running : (s : State) (b : Bool) → b ≡ isRunning s → b ≡ true → s ≡ Running
+state-running s b e h = running-is s (sym e ∙ h)
+
 pub keeps-running : (r q : Machine) (n frame used top : ℕ) → r .state ≡ Running → q ≡ ofParts Running n frame used top → q ≡ movedTo r n frame used top
 unfolding ofParts movedTo
 keeps-running r q n frame used top s e = rw s e
@@ -117,9 +156,15 @@ module _ (t : List ℕ) (c : ℕ) (lw : List ℕ) (lc g d size : ℕ) (r : Machi
   unfolding endBy ifLt
   end-rests h l = sym (by-transfer ∙ rw (h, lt-ltb 0 k l))
 
-  pub end-steps : (o : Outcome) (st″ m″ : List ℕ) → y ≡ Stays → k ≤ 0 → left o st″ m″ ≡ withinStep t c lw lc d (world r st′ m) → left o st″ m″ ≡ plainRunEnd t c lw lc d g size k (world r st m)
+  running-step : r .state ≡ Running → withinStep t c lw lc d (world r st′ m) ≡ takenStep t c lw lc d (world r st′ m)
+  unfolding withinStep isRunning ifTrue
+  running-step s = rw s
+
+  pub end-steps : (u : Machine) (o : Outcome) (st″ m″ : List ℕ) → r .state ≡ Running → u ≡ r → y ≡ Stays → k ≤ 0 → left o st″ m″ ≡ takenStep t c lw lc d (world u st′ m)
+      → left o st″ m″ ≡ plainRunEnd t c lw lc d g size k (world r st m)
   unfolding endBy ifLt
-  end-steps o st″ m″ h l q = sym (by-transfer ∙ rw (h, le-ltb 0 k l) (sym q))
+  end-steps u o st″ m″ s v h l q =
+      sym (by-transfer ∙ rw (h, le-ltb 0 k l) (running-step s ∙ ap (λ (z : Machine). takenStep t c lw lc d (world z st′ m)) (sym v) ∙ sym q))
 
 pub ruleset plain-ends = (end-transfers, end-rests, end-steps)
 
@@ -192,6 +237,12 @@ module _ (t : List ℕ) (c : ℕ) (lw : List ℕ) (lc d : ℕ) where
     pub memory : length m ≡ length (x .memory)
     pub rest : counting count (withinRun t c lw lc d (budget - count) (world r st m)) ≡ withinRun t c lw lc d budget x
 
+  -- a record that is not running is given back
+  held-run : (n : ℕ) (y : World) → isRunning (y .machine .state) ≡ false → withinRun t c lw lc d n y ≡ idle y No
+  unfolding withinRun withinStep idle ifTrue ifEq
+  held-run zero y h = refl
+  held-run (suc n) y h = rw h
+
   pub running-none : (budget : ℕ) (r : Machine) (st m : List ℕ) → c < 4294967296 → RunSoFar budget (world r st m) r st m 0
   running-none budget r st m l =
       let z : budget - 0 ≡ budget = omega arith in
@@ -211,8 +262,8 @@ module _ (t : List ℕ) (c : ℕ) (lw : List ℕ) (lc d : ℕ) where
       pub running-low : count + o .count ≤ budget
       running-low = omega (arith, taken .bound, l)
 
-      pub running-more : (o .count ≡ 0 → ⊥) → length st′ ≡ length st → length m′ ≡ length m → RunSoFar budget x (o .machine) st′ m′ (count + o .count)
-      running-more n ls lm =
+      more : (o .count ≡ 0 → ⊥) → length st′ ≡ length st → length m′ ≡ length m → RunSoFar budget x (o .machine) st′ m′ (count + o .count)
+      more n ls lm =
           let z : budget - (count + o .count) ≡ budget - count - o .count = omega (arith, l) in
           record {
             below = running-low;
@@ -234,6 +285,17 @@ module _ (t : List ℕ) (c : ℕ) (lw : List ℕ) (lc d : ℕ) where
           ∙ ap (counting count) (sym (taken .stops n))
           ∙ h .rest
 
+      pub running-more : (w : Machine) → w ≡ o .machine → (o .count ≡ 0 → ⊥) → length st′ ≡ length st → length m′ ≡ length m → RunSoFar budget x w st′ m′ (count + o .count)
+      running-more w e n ls lm = subst (λ (v : Machine). RunSoFar budget x v st′ m′ (count + o .count)) (sym e) (more n ls lm)
+
+      pub running-held : (b : Bool) → b ≡ isRunning (o .machine .state) → b ≡ false → (o .count ≡ 0 → ⊥) → length st′ ≡ length st → length m′ ≡ length m → left (record { machine = o .machine; count = count + o .count; broken = No }) st′ m′ ≡ withinRun t c lw lc d budget x
+      unfolding counting idle
+      running-held b e q n ls lm =
+          let s : count + o .count ≡ count + o .count + 0 = omega arith in
+          ap (λ (i : ℕ). record { world = world (o .machine) st′ m′; count = i; broken = No }) s
+          ∙ ap (counting (count + o .count)) (sym (held-run (budget - (count + o .count)) (world (o .machine) st′ m′) (sym e ∙ q)))
+          ∙ more n ls lm .rest
+
     pub running-done : budget ≤ count → left (record { machine = r; count = count; broken = No }) st m ≡ withinRun t c lw lc d budget x
     unfolding counting withinRun idle
     running-done l =
@@ -243,7 +305,7 @@ module _ (t : List ℕ) (c : ℕ) (lw : List ℕ) (lc d : ℕ) where
         ∙ ap (λ (n : ℕ). counting count (withinRun t c lw lc d n (world r st m))) (sym z)
         ∙ h .rest
 
-pub ruleset running = (running-none, running-more, running-ends, running-done)
+pub ruleset running = (running-none, running-more, running-held, running-ends, running-done)
 
 -- ---- the counts of the tables
 
@@ -268,7 +330,7 @@ module _ (t : List ℕ) (c : ℕ) (lw : List ℕ) (lc d : ℕ) (r : Machine) (st
 pub ruleset counts-ways = (counts-past, counts-none, counts-at, counts-somewhere)
 
 -- a refusal that is some refusal changes nothing
-guarded-broken : (x : World) (f : Effect) (a : Bool) (y : Broken)
+guarded-broken : (x : World) (f : After) (a : Bool) (y : Broken)
     → guarded x f (ifTrue a Somewhere (orElse y Somewhere)) ≡ idle x (ifTrue a Somewhere (orElse y Somewhere))
 unfolding guarded ifTrue orElse
 guarded-broken x f true y = refl
@@ -299,6 +361,7 @@ unfolding inState isRunning ifTrue
 in-state Running y z = refl
 in-state (Finished v) y z = refl
 in-state (Stopped k i) y z = refl
+in-state (Paused q) y z = refl
 
 module _ (t : List ℕ) (c : ℕ) (l : List ℕ) (k : ℕ) (names : List ℕ) (d : ℕ) where
   abbrev T : Program
@@ -313,13 +376,13 @@ module _ (t : List ℕ) (c : ℕ) (l : List ℕ) (k : ℕ) (names : List ℕ) (d
   unfolding stepOf withinStep takenStep ifTrue
   step-is x e =
       in-state (x .machine .state) _ _
-      ∙ ap (λ (b : Broken). ifTrue (isRunning (x .machine .state)) (guarded x (effectOf T x) b) (idle x No))
+      ∙ ap (λ (b : Broken). ifTrue (isRunning (x .machine .state)) (guarded x (statementOf T x) b) (idle x No))
       (step-broken T (x .machine) (x .stack) (length (x .memory))
       ∙ counts-fine (T .statementsPast) (T .labelsPast) (withinBroken T (x .machine) (x .stack) (length (x .memory))) (count-of e)
       ∙ within-lent t c l k names d (x .machine) (x .stack) (length (x .memory)))
       ∙ ap
-      (λ (f : Effect). ifTrue (isRunning (x .machine .state)) (guarded x f (withinBroken (lentProgram t c l k d) (x .machine) (x .stack) (length (x .memory)))) (idle x No))
-      (effect-seen T (labelAt l []) k d false false x)
+      (λ (f : After). ifTrue (isRunning (x .machine .state)) (guarded x f (withinBroken (lentProgram t c l k d) (x .machine) (x .stack) (length (x .memory)))) (idle x No))
+      (statement-lent t c l k names d x)
 
   run-is : (b : ℕ) (x : World) → countFault T ≡ false → runOf T b x ≡ withinRun t c l k d b x
   unfolding runOf withinRun
@@ -353,26 +416,23 @@ module _ (t : List ℕ) (c : ℕ) (l : List ℕ) (k : ℕ) (names : List ℕ) (d
       unfolding stepOf idle countsBroken
       step-fault o i q =
           ap (λ (z : Outcome). left z st m) q
-          ∙ sym (guarded-broken (world r st m) (effectOf T (world r st m)) (T .statementsPast) (withinBroken (lentProgram t c l k d) r st (length m)))
-          ∙ ap (λ (b : Broken). guarded (world r st m) (effectOf T (world r st m)) (ifTrue (T .statementsPast) Somewhere (orElse b Somewhere)))
+          ∙ sym (guarded-broken (world r st m) (statementOf T (world r st m)) (T .statementsPast) (withinBroken (lentProgram t c l k d) r st (length m)))
+          ∙ ap (λ (b : Broken). guarded (world r st m) (statementOf T (world r st m)) (ifTrue (T .statementsPast) Somewhere (orElse b Somewhere)))
           (sym (within-lent t c l k names d r st (length m)))
-          ∙ ap (guarded (world r st m) (effectOf T (world r st m)))
+          ∙ ap (guarded (world r st m) (statementOf T (world r st m)))
           (sym
           (step-broken T r st (length m)
           ∙ counts-bad (T .statementsPast) (T .labelsPast) (withinBroken T r st (length m)) (count-of (fault ∙ i))))
           ∙ sym (in-state (r .state) _ _ ∙ ifTrue-yes _ (idle (world r st m) No) (sym e ∙ h))
 
-      pub step-within : (o : Outcome) (st′ m′ : List ℕ) → f ≡ false → left o st′ m′ ≡ takenStep t c l k d (world r st m) → left o st′ m′ ≡ stepOf T (world r st m)
-      unfolding withinStep
-      step-within o st′ m′ i q = q ∙ sym (step-is (world r st m) (fault ∙ i) ∙ ifTrue-yes (takenStep t c l k d (world r st m)) (idle (world r st m) No) (sym e ∙ h))
-
       pub run-fault : (budget : ℕ) (o : Outcome) → (budget ≡ 0 → ⊥) → f ≡ true → o ≡ givenBack r (countsBroken t c l k d r st (length m)) → left o st m ≡ runOf T budget (world r st m)
       run-fault budget o n i q =
           step-fault o i q ∙ sym (run-still budget (world r st m) (ap (λ (y : After). y .count) (sym (step-fault o i q)) ∙ ap (λ (z : Outcome). z .count) q) n)
 
-      pub run-within : (budget : ℕ) (o : Outcome) (st′ m′ : List ℕ) → f ≡ false → left o st′ m′ ≡ withinRun t c l k d budget (world r st m)
+      pub run-within : (budget : ℕ) (u : Machine) (o : Outcome) (st′ m′ : List ℕ) → f ≡ false → u ≡ r → left o st′ m′ ≡ withinRun t c l k d budget (world u st m)
           → left o st′ m′ ≡ runOf T budget (world r st m)
-      run-within budget o st′ m′ i q = q ∙ sym (run-is budget (world r st m) (fault ∙ i))
+      run-within budget u o st′ m′ i v q =
+          q ∙ ap (λ (z : Machine). withinRun t c l k d budget (world z st m)) v ∙ sym (run-is budget (world r st m) (fault ∙ i))
 
     pub run-idle : (budget : ℕ) (o : Outcome) → (budget ≡ 0 → ⊥) → b ≡ false → o ≡ givenBack r No → left o st m ≡ runOf T budget (world r st m)
     run-idle budget o n h q =
@@ -382,6 +442,7 @@ module _ (t : List ℕ) (c : ℕ) (l : List ℕ) (k : ℕ) (names : List ℕ) (d
   unfolding runOf idle
   run-none budget r st m o e q = rw (e, q)
 
-pub ruleset stepping = (step-idle, step-fault, step-within)
+  pub step-run : (r : Machine) (st m : List ℕ) (o : Outcome) (st′ m′ : List ℕ) → left o st′ m′ ≡ runOf T 1 (world r st m) → left o st′ m′ ≡ stepOf T (world r st m)
+  step-run r st m o st′ m′ q = q ∙ one-step T (world r st m)
 
 pub ruleset runs = (run-none, run-idle, run-fault, run-within)

@@ -10,13 +10,14 @@ use Rattle.base_prelude.specs.Choice.{ifLt, ifEq, ifTrue}
 use Rattle.base_prelude.proofs.Choice.{true-false, either, either-eq, either-true, ifEq-yes, ifEq-no, ifTrue-yes}
 use Rattle.base_limits.specs.declared.Width.the-variants.{Bits32}
 use Rattle.base_limits.specs.declared.State.{State}
-use Rattle.base_limits.specs.declared.State.the-variants.{Running, Finished, Stopped}
+use Rattle.base_limits.specs.declared.State.the-variants.{Running, Finished, Stopped, Paused}
 use Rattle.base_limits.specs.declared.Machine.{Machine}
 use Rattle.base_limits.specs.Record.{goingOn, movedTo}
 use Rattle.prog_tables.specs.Statement.{Row, rowAt}
 use Rattle.prog_tables.specs.Program.{lentProgram}
-use Rattle.vm_definitions.specs.Frames.{isFirst, calledFrom, headGood}
-use Rattle.vm_definitions.specs.Step.{World, After, Effect, stops, leaves, idle, guarded, effected, counting, effectOf}
+use Rattle.vm_definitions.specs.Frames.{isFirst, importing, calledFrom, headGood}
+use Rattle.vm_definitions.specs.Step.{World, After, Effect, stops, leaves, idle, guarded, effected, counting, effectOf, argumentsOf, inStateOf, pausedBy, pausing, statementOf}
+use Rattle.vm_definitions.specs.Operands.{Words, words, bad}
 use Rattle.vm_definitions.specs.Lent.{world}
 use Rattle.vm_definitions.specs.declared.Broken.{Broken}
 use Rattle.vm_definitions.specs.declared.Broken.the-variants.{No, At, Somewhere}
@@ -48,11 +49,12 @@ count-add n k y = let z : n + k + y .count ≡ n + (k + y .count) = omega arith 
 
 -- ---- the frame in use
 
-running-is : (s : State) → isRunning s ≡ true → s ≡ Running
+pub running-is : (s : State) → isRunning s ≡ true → s ≡ Running
 unfolding isRunning
 running-is Running e = refl
 running-is (Finished v) e = true-false (sym e)
 running-is (Stopped k i) e = true-false (sym e)
+running-is (Paused q) e = true-false (sym e)
 
 module _ (t : List ℕ) (c : ℕ) (r : Machine) (st m : List ℕ) (z : ℕ) where
   abbrev g : ℕ
@@ -106,29 +108,46 @@ module _ (t : List ℕ) (c : ℕ) (lw : List ℕ) (lc d : ℕ) where
   unfolding isRunning
   runs-on s e = rw e
 
-  taken-leaves : (x y : World) → withinBroken (lentProgram t c lw lc d) (x .machine) (x .stack) (length (x .memory)) ≡ No → effectOf (lentProgram t c lw lc d) x ≡ leaves y
-      → takenStep t c lw lc d x ≡ after y 1
-  unfolding takenStep guarded effected
-  taken-leaves x y b e = rw (b, e)
+  taken-leaves : (x y : World) → withinBroken (lentProgram t c lw lc d) (x .machine) (x .stack) (length (x .memory)) ≡ No → importing (rowAt t (x .machine .next)) ≡ false
+      → effectOf (lentProgram t c lw lc d) x ≡ leaves y → takenStep t c lw lc d x ≡ after y 1
+  unfolding takenStep statementOf guarded effected ifTrue
+  taken-leaves x y b i e = rw (b, i, e)
 
-  step-leaves : (r : Machine) (st m : List ℕ) (y : World) → r .state ≡ Running → withinBroken (lentProgram t c lw lc d) r st (length m) ≡ No
+  step-leaves : (r : Machine) (st m : List ℕ) (y : World) → r .state ≡ Running → withinBroken (lentProgram t c lw lc d) r st (length m) ≡ No → importing (rowAt t (r .next)) ≡ false
       → effectOf (lentProgram t c lw lc d) (world r st m) ≡ leaves y → withinStep t c lw lc d (world r st m) ≡ after y 1
   unfolding withinStep
-  step-leaves r st m y s b e =
-      ifTrue-yes (takenStep t c lw lc d (world r st m)) (idle (world r st m) No) (runs-on (r .state) s) ∙ taken-leaves (world r st m) y b e
+  step-leaves r st m y s b i e =
+      ifTrue-yes (takenStep t c lw lc d (world r st m)) (idle (world r st m) No) (runs-on (r .state) s) ∙ taken-leaves (world r st m) y b i e
 
   -- a step counts one at most
-  guarded-low : (x : World) (e : Effect) (b : Broken) → guarded x e b .count ≤ 1
-  unfolding guarded effected idle
-  guarded-low x (stops k) No = omega arith
-  guarded-low x (leaves y) No = omega arith
-  guarded-low x e (At i) = omega arith
-  guarded-low x e Somewhere = omega arith
+  effect-low : (x : World) (e : Effect) → effected x e .count ≤ 1
+  unfolding effected
+  effect-low x (stops k) = omega arith
+  effect-low x (leaves y) = omega arith
+
+  pause-low : (x : World) (vs : Words) → pausedBy (lentProgram t c lw lc d) x vs .count ≤ 1
+  unfolding pausedBy idle
+  pause-low x (words vs) = omega arith
+  pause-low x bad = effect-low x (stops 32)
+
+  statement-low : (x : World) → statementOf (lentProgram t c lw lc d) x .count ≤ 1
+  unfolding statementOf pausing
+  statement-low x =
+      either-true (λ (y : After). y .count ≤ 1) (importing (rowAt t (x .machine .next))) _ _
+      (λ i. either-eq (λ (y : After). y .count ≤ 1) (rowAt t (x .machine .next) .kind) 7 _ _
+      (λ k. either-true (λ (y : After). y .count ≤ 1) _ _ _ (λ g. pause-low x _) (λ g. effect-low x (stops 32))) (λ k. pause-low x _))
+      (λ i. effect-low x _)
+
+  guarded-low : (x : World) (y : After) (b : Broken) → y .count ≤ 1 → guarded x y b .count ≤ 1
+  unfolding guarded idle
+  guarded-low x y No h = h
+  guarded-low x y (At i) h = omega arith
+  guarded-low x y Somewhere h = omega arith
 
   step-low : (x : World) → withinStep t c lw lc d x .count ≤ 1
   unfolding withinStep takenStep idle
   step-low x =
-      either-true (λ (y : After). y .count ≤ 1) (isRunning (x .machine .state)) _ _ (λ s. guarded-low x _ _) (λ s. omega arith)
+      either-true (λ (y : After). y .count ≤ 1) (isRunning (x .machine .state)) _ _ (λ s. guarded-low x _ _ (statement-low x)) (λ s. omega arith)
 
   run-one : (b : ℕ) (x y : World) → withinStep t c lw lc d x ≡ after y 1 → withinRun t c lw lc d (suc b) x ≡ counting 1 (withinRun t c lw lc d b y)
   unfolding withinRun ifEq
@@ -164,7 +183,7 @@ module _ (t : List ℕ) (c : ℕ) (lw : List ℕ) (lc d : ℕ) where
 
     went-step : (r : Machine) (st m : List ℕ) (i end : ℕ) (st′ m′ : List ℕ) → InFrame t c g size r st m → Went t c lw lc g d size r st m i end st′ m′
         → withinStep t c lw lc d (world r st m) ≡ after (world (goingOn r i end) st′ m′) 1
-    went-step r st m i end st′ m′ h w = step-leaves r st m (world (goingOn r i end) st′ m′) (h .state) (went-fine t c lw lc g d size r st m i end st′ m′ h w) (w .effect)
+    went-step r st m i end st′ m′ h w = step-leaves r st m (world (goingOn r i end) st′ m′) (h .state) (went-fine t c lw lc g d size r st m i end st′ m′ h w) (w .imports) (w .effect)
 
     stand : (b : ℕ) (r : Machine) (st m : List ℕ) → InFrame t c g size r st m
         → PlainRuns g size b (world r st m) (ends t c lw lc d r (record { next = r .next; top = r .top; count = 0; stack = st; memory = m })) 0
@@ -269,7 +288,7 @@ module _ (t : List ℕ) (c : ℕ) (lw : List ℕ) (lc d : ℕ) where
 
     rests : (v : Transfer) (st′ : List ℕ) → k < b → transferring.RightBy t c lw lc g d size (y .machine) (y .stack) (y .memory) v st′ → Several b x (endBy t c lw lc d k y v st′)
     unfolding transferring.RightBy endBy
-    rests (To i frame used end) st′ l w = further _ l (step-leaves (y .machine) (y .stack) (y .memory) _ (s .in-frame .state) (w .fine) (w .effect))
+    rests (To i frame used end) st′ l w = further _ l (step-leaves (y .machine) (y .stack) (y .memory) _ (s .in-frame .state) (w .fine) (w .imports) (w .effect))
     rests Stays st′ l w =
         rw w
         (either (Several b x) 0 k (after y k) (withinStep t c lw lc d y) (λ p. alone p)

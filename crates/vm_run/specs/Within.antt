@@ -7,13 +7,13 @@ use lib.Dec.{ltb}
 use lib.ListN.{length}
 use Rattle.base_prelude.specs.Choice.{ifEq, ifTrue}
 use Rattle.base_limits.specs.declared.State.{State}
-use Rattle.base_limits.specs.declared.State.the-variants.{Running, Finished, Stopped}
+use Rattle.base_limits.specs.declared.State.the-variants.{Running, Finished, Stopped, Paused}
 use Rattle.base_limits.specs.declared.Machine.{Machine}
 use Rattle.prog_tables.specs.Layout.{statementRow}
 use Rattle.prog_tables.specs.Program.{lentProgram}
 use Rattle.vm_guard.specs.Guard.{withinBroken}
 use Rattle.vm_definitions.specs.Broken.{orElse}
-use Rattle.vm_definitions.specs.Step.{World, After, idle, guarded, counting, effectOf}
+use Rattle.vm_definitions.specs.Step.{World, After, idle, guarded, counting, statementOf}
 use Rattle.vm_definitions.specs.declared.Outcome.{Outcome}
 use Rattle.vm_definitions.specs.declared.Broken.{Broken}
 use Rattle.vm_definitions.specs.declared.Broken.the-variants.{No, Somewhere}
@@ -26,6 +26,7 @@ unfoldable pub isRunning : State → Bool
 isRunning Running = true
 isRunning (Finished v) = false
 isRunning (Stopped k i) = false
+isRunning (Paused q) = false
 
 -- t the statement table, of c rows; lw the label table, of lc rows; d the data's length
 module _ (t : List ℕ) (c : ℕ) (lw : List ℕ) (lc d : ℕ) where
@@ -37,7 +38,7 @@ module _ (t : List ℕ) (c : ℕ) (lw : List ℕ) (lc d : ℕ) where
   -- a running record's step
   unfoldable pub takenStep : World → After
   takenStep x =
-      guarded x (effectOf (lentProgram t c lw lc d) x)
+      guarded x (statementOf (lentProgram t c lw lc d) x)
       (withinBroken (lentProgram t c lw lc d) (x .machine) (x .stack) (length (x .memory)))
 
   unfoldable pub withinStep : World → After

@@ -12,8 +12,9 @@ ghost use Rattle.base_limits.specs.Record.{movedTo};
 ghost use Rattle.base_limits.specs.declared.Width.the-variants.{Bits32};
 ghost use Rattle.base_limits.specs.declared.State.the-variants.{Running};
 ghost use Rattle.prog_tables.specs.Statement.{rowAt};
-ghost use Rattle.prog_tables.specs.Program.{programFrom};
-ghost use Rattle.vm_definitions.specs.Step.{stepOf, runOf};
+ghost use Rattle.prog_tables.specs.Program.{programFrom, lentProgram};
+ghost use Rattle.vm_guard.specs.Passed.{Passed};
+ghost use Rattle.vm_definitions.specs.Step.{statementOf, stepOf, runOf};
 ghost use Rattle.vm_definitions.specs.Lent.{tablesOf, world, left};
 ghost use Rattle.prog_tables.specs.Layout.{statementRow};
 ghost use Rattle.vm_run.specs.Within.{givenBack, isRunning, countsBroken, takenStep, withinStep, withinRun};
@@ -28,6 +29,26 @@ fn give_back(r: Machine, b: Broken) -> Outcome
         count: 0,
         broken: b,
     }
+}
+
+// The statement that a record stands at, one that is not refused: a call to an imported function pauses.
+fn obey(
+    t: &[u32],
+    c: u32,
+    l: &[u32],
+    lc: u32,
+    d: u32,
+    r: Machine,
+    st: &mut [u32],
+    m: &mut [u8],
+) -> Outcome
+    requires { ⌜ Passed (lentProgram (now t) c (now l) lc d) r (now st) (length (now m)) ⌝ }
+    ensures { λ o. ⌜ left o (now (st .exit)) (now (m .exit)) ≡ statementOf (lentProgram (now (t .entry)) c (now (l .entry)) lc d) (world r (now (st .entry)) (now (m .entry))) ⌝ }
+{
+    if vm_guard::is_importing(t, r.next) {
+        return vm_pauses::pause(t, c, l, lc, d, r, st, m);
+    }
+    vm_statements::execute(t, c, r, st, m)
 }
 
 // The statement that a running record stands at, or 35; the counts of the tables are good.
@@ -45,7 +66,7 @@ fn take_step(
 {
     let b = vm_guard::find_broken(t, c, l, lc, d, r, st, m.len());
     match b {
-        Broken::No => vm_statements::execute(t, c, r, st, m),
+        Broken::No => obey(t, c, l, lc, d, r, st, m),
         Broken::At(i) => give_back(r, Broken::At(i)),
         Broken::Somewhere => give_back(r, Broken::Somewhere),
     }
@@ -60,7 +81,16 @@ fn is_running(r: Machine) -> bool
         State::Running => true,
         State::Finished(_) => false,
         State::Stopped { number, statement } => false,
+        State::Paused(_) => false,
     }
+}
+
+// A running record; its state is written, not copied, so that a run carries no state from turn to turn.
+fn as_running(r: Machine) -> Machine
+    requires { ⌜ r .state ≡ Running ⌝ }
+    ensures { λ q. ⌜ q ≡ r ⌝ }
+{
+    Machine::of_parts(State::Running, r.next, r.frame, r.used, r.top)
 }
 
 // A step over tables whose counts are good.
@@ -77,7 +107,7 @@ fn step_within(
     ensures { λ o. ⌜ left o (now (st .exit)) (now (m .exit)) ≡ withinStep (now (t .entry)) c (now (l .entry)) lc d (world r (now (st .entry)) (now (m .entry))) ⌝ }
 {
     if is_running(r) {
-        return take_step(t, c, l, lc, d, r, st, m);
+        return take_step(t, c, l, lc, d, as_running(r), st, m);
     }
     give_back(r, Broken::No)
 }
@@ -152,7 +182,7 @@ fn end_plain(
                     broken: Broken::No,
                 };
             }
-            step_within(t, c, l, lc, d, r, st, m)
+            take_step(t, c, l, lc, d, as_running(r), st, m)
         }
     }
 }
@@ -238,8 +268,16 @@ fn run_within(
                 broken: broken,
             };
         }
-        q = next;
         count += counted;
+        if is_running(next) {
+            q = as_running(next);
+        } else {
+            return Outcome {
+                machine: next,
+                count: count,
+                broken: Broken::No,
+            };
+        }
     }
     Outcome {
         machine: q,
@@ -289,48 +327,7 @@ fn refuse_counts(
     give_back(r, b)
 }
 
-// One step of the record over the lent tables, stack and memory.
-pub fn step(
-    statements: &[u32],
-    count: u32,
-    labels: &[u32],
-    label_count: u32,
-    names: &[u8],
-    data_length: u32,
-    machine: Machine,
-    stack: &mut [u32],
-    memory: &mut [u8],
-) -> Outcome
-    ensures { λ o. ⌜ left o (now (stack .exit)) (now (memory .exit)) ≡ stepOf (programFrom Bits32 (tablesOf (now (statements .entry)) count (now (labels .entry)) «label_count» (now (names .entry)) «data_length»)) (world machine (now (stack .entry)) (now (memory .entry))) ⌝ }
-{
-    if is_running(machine) {
-        if vm_counts::count_fault(statements, count, labels, label_count, names) {
-            return refuse_counts(
-                statements,
-                count,
-                labels,
-                label_count,
-                data_length,
-                machine,
-                stack,
-                memory.len(),
-            );
-        }
-        return take_step(
-            statements,
-            count,
-            labels,
-            label_count,
-            data_length,
-            machine,
-            stack,
-            memory,
-        );
-    }
-    give_back(machine, Broken::No)
-}
-
-// Steps until the budget is used up, the record has finished or stopped, or a 35 comes.
+// Steps until the budget is used up, the record has finished, stopped or paused, or a 35 comes.
 pub fn run(
     statements: &[u32],
     count: u32,
@@ -368,10 +365,38 @@ pub fn run(
             label_count,
             data_length,
             budget,
-            machine,
+            as_running(machine),
             stack,
             memory,
         );
     }
     give_back(machine, Broken::No)
+}
+
+// One step of the record over the lent tables, stack and memory: a run of one.
+pub fn step(
+    statements: &[u32],
+    count: u32,
+    labels: &[u32],
+    label_count: u32,
+    names: &[u8],
+    data_length: u32,
+    machine: Machine,
+    stack: &mut [u32],
+    memory: &mut [u8],
+) -> Outcome
+    ensures { λ o. ⌜ left o (now (stack .exit)) (now (memory .exit)) ≡ stepOf (programFrom Bits32 (tablesOf (now (statements .entry)) count (now (labels .entry)) «label_count» (now (names .entry)) «data_length»)) (world machine (now (stack .entry)) (now (memory .entry))) ⌝ }
+{
+    run(
+        statements,
+        count,
+        labels,
+        label_count,
+        names,
+        data_length,
+        1,
+        machine,
+        stack,
+        memory,
+    )
 }

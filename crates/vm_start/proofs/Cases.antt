@@ -103,11 +103,11 @@ module _ (f : ℕ → Row) (c d k n : ℕ) (u : Bool) (e : u ≡ isData k) where
     unfolding aimFault ifTrue ifEq
     aim-place g r = rw (← e, h, ← q, g, eq-eqb _ _ r)
 
-    pub aim-unlisted : v ≡ false → (k ≡ 5 → ⊥) → true ≡ aimFault f c d k n
+    pub aim-other : v ≡ false → (k ≡ 5 → ⊥) → not (eqb k 6) ≡ aimFault f c d k n
     unfolding aimFault ifTrue ifEq
-    aim-unlisted g r = rw (← e, h, ← q, g, ne-eqb _ _ r)
+    aim-other g r = rw (← e, h, ← q, g, ne-eqb _ _ r)
 
-pub ruleset aim-ways = (aim-data, aim-function, aim-place, aim-unlisted)
+pub ruleset aim-ways = (aim-data, aim-function, aim-place, aim-other)
 
 module _ (t : List ℕ) (c : ℕ) (l : List ℕ) (lc : ℕ) (names : List ℕ) (d i s : ℕ) (e : s ≡ getD l (i * 4 + 3) 0) where
   pub label-long : 64 < s → true ≡ labelFault (programFrom Bits32 (tablesOf t c l lc names d)) (labelAt l names i)

@@ -1,7 +1,7 @@
 -- A start's answer and the world it leaves, side by side; and the parts of it that the code decides one after another.
 -- Assumes nothing.
 use Prim.Native.Nat.{ℕ, suc}
-use mathlib.Core.Bool.{Bool, true, not}
+use mathlib.Core.Bool.{Bool, not}
 use mathlib.Core.List.{List, [], _∷_}
 use lib.Dec.{ltb, leb, eqb}
 use lib.ListN.{length, take}
@@ -12,7 +12,7 @@ use Rattle.base_limits.specs.declared.Width.{Width}
 use Rattle.base_limits.specs.Record.{freshOf, mark}
 use Rattle.base_limits.specs.declared.Width.the-variants.{Bits32}
 use Rattle.lang_kinds.specs.Kinds as kind
-use Rattle.prog_tables.specs.Layout.{placeLabel}
+use Rattle.prog_tables.specs.Layout.{placeLabel, importLabel}
 use Rattle.prog_tables.specs.Tests.{both, oneOf, some, someBelow}
 use Rattle.prog_tables.specs.Statement.{Row}
 use Rattle.prog_tables.specs.Label.{isData, isFunctionLabel}
@@ -53,7 +53,7 @@ noFunction f c n = not (both (ltb n c) (eqb (f n .kind) kind.function))
 -- a label of kind k with number n is broken, its name aside
 unfoldable pub aimFault : (ℕ → Row) → ℕ → ℕ → ℕ → ℕ → Bool
 aimFault f c d k n =
-    ifTrue (isData k) (ltb d n) (ifTrue (isFunctionLabel k) (noFunction f c n) (ifEq k placeLabel (leb c n) true))
+    ifTrue (isData k) (ltb d n) (ifTrue (isFunctionLabel k) (noFunction f c n) (ifEq k placeLabel (leb c n) (not (eqb k importLabel))))
 
 -- what is broken beside the rows, n bytes of data being lent: the count of labels, the data's length, a label
 unfoldable pub restFault : Program → ℕ → Bool

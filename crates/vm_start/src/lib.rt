@@ -81,7 +81,7 @@ fn aim_fault(t: &[u32], c: u32, d: u32, k: u32, n: u32) -> bool
     if k == LabelKind::PLACE {
         return c <= n;
     }
-    true
+    k != LabelKind::IMPORT
 }
 
 // Whether a label row is broken.

@@ -32,7 +32,7 @@ use Rattle.vm_definitions.specs.declared.Read.the-variants.{Got, Bad}
 use Rattle.vm_definitions.specs.declared.Worked.{Worked}
 use Rattle.vm_definitions.specs.declared.Worked.the-variants.{Value, Stop}
 use Rattle.vm_calls.specs.Outcomes.{oneStep, halted, after, calling, atCalling, tailCalling, handing, assigning, settingByte, settingWord}
-use Rattle.vm_statements.proofs.Forms.{test-bare, test-uncalled}
+use Rattle.vm_statements.proofs.Forms.{test-bare, test-row}
 use Rattle.vm_statements.specs.Three.{threeWords}
 use Rattle.vm_statements.specs.declared.Three.{Three}
 use Rattle.vm_statements.specs.declared.Three.the-variants.{All, Unread}
@@ -116,7 +116,7 @@ three-slots t n = rw (slot-0 t n, slot-1 t n, slot-2 t n)
 
 test-used : (k e n : ℕ) → isTest k ≡ true → usedBy k e n ≡ 2
 unfolding usedBy ifTrue
-test-used k e n h = rw (test-bare k h, test-uncalled k e h, h)
+test-used k e n h = rw (test-bare k h, test-row k h, h)
 
 byte-used : (k e n : ℕ) → k ≡ 8 → usedBy k e n ≡ 3
 unfolding usedBy hasExpression isCall isTest ifTrue ifEq ifLt

@@ -13,7 +13,7 @@ use Rattle.base_limits.specs.declared.Width.the-variants.{Bits32}
 use Rattle.base_limits.specs.declared.Machine.{Machine}
 use Rattle.base_limits.specs.Record.{goingOn}
 use Rattle.prog_tables.specs.Tests.{both, oneOf}
-use Rattle.prog_tables.specs.Statement.{Row, hasExpression, isTest, rowAt}
+use Rattle.prog_tables.specs.Statement.{Row, hasExpression, isTest, isCallExpression, rowAt}
 use Rattle.prog_tables.specs.Program.{rowsAlone}
 use Rattle.vm_definitions.specs.Access.{storeFrom}
 use Rattle.vm_definitions.specs.Frames.{isCalling}
@@ -37,20 +37,20 @@ module _ (t : List ℕ) (c : ℕ) (r : Machine) (st m : List ℕ) where
   -- `let` and `set` of a local, by their expression
   module _ (e : ℕ) (o : Outcome) (st′ : List ℕ) (h : hasExpression (row .kind) ≡ true) (d : e ≡ row .expr) where
     pub local-call : e ≡ 2 → left o st′ m ≡ after calling t c r st m → left o st′ m ≡ after settingLocal t c r st m
-    unfolding isCalling ifTrue
+    unfolding isCalling isCallExpression ifEq ifTrue
     local-call q p = rw (h, ← d, q, one-true (eqb (row .kind) 11)) p
 
-    pub local-other : (e ≡ 2 → ⊥) → row .kind < 8 → left o st′ m ≡ after assigning t c r st m → left o st′ m ≡ after settingLocal t c r st m
+    pub local-other : Ready (rowAt t) c r st (length m) → (e ≡ 2 → ⊥) → row .kind < 8 → left o st′ m ≡ after assigning t c r st m → left o st′ m ≡ after settingLocal t c r st m
     unfolding isCalling ifTrue
-    local-other q l p = rw (h, ← d, ne-eqb e 2 q, ne-eqb (row .kind) 11 (λ j. omega (arith, l, j))) p
+    local-other y q l p = rw (h, forms.uncalled t c r st (length m) y h (λ j. q (d ∙ j)), ne-eqb (row .kind) 11 (λ j. omega (arith, l, j))) p
 
   -- `set @`
   module _ (e : ℕ) (o : Outcome) (k : row .kind ≡ 7) (d : e ≡ row .expr) where
     pub at-call : (st′ : List ℕ) → e ≡ 2 → left o st′ m ≡ after atCalling t c r st m → left o st′ m ≡ after effectOf t c r st m
     at-call st′ q p = becomes (atCalling (rowsAlone t c) (world r st m)) o st′ m (forms.of-at-call (rowsAlone t c) (world r st m) k (sym d ∙ q)) p
 
-    pub at-other : (m′ : List ℕ) → (e ≡ 2 → ⊥) → left o st m′ ≡ after setAtOf t c r st m → left o st m′ ≡ after effectOf t c r st m
-    at-other m′ q p = becomes (setAtOf (rowsAlone t c) (world r st m)) o st m′ (forms.of-at (rowsAlone t c) (world r st m) k (λ j. q (d ∙ j))) p
+    pub at-other : (m′ : List ℕ) → Ready (rowAt t) c r st (length m) → (e ≡ 2 → ⊥) → left o st m′ ≡ after setAtOf t c r st m → left o st m′ ≡ after effectOf t c r st m
+    at-other m′ y q p = becomes (setAtOf (rowsAlone t c) (world r st m)) o st m′ (forms.of-at (rowsAlone t c) (world r st m) k (forms.at-other t c r st (length m) y k (λ j. q (d ∙ j)) .plain)) p
 
   -- `return`
   module _ (e : ℕ) (o : Outcome) (k : row .kind ≡ 13) (d : e ≡ row .expr) where
@@ -60,8 +60,10 @@ module _ (t : List ℕ) (c : ℕ) (r : Machine) (st m : List ℕ) where
     pub return-bare : (st′ m′ : List ℕ) → e ≡ 0 → left o st′ m′ ≡ after (handing 0) t c r st m → left o st′ m′ ≡ after effectOf t c r st m
     return-bare st′ m′ q p = becomes (handing 0 (rowsAlone t c) (world r st m)) o st′ m′ (forms.of-return-bare (rowsAlone t c) (world r st m) k (sym d ∙ q)) p
 
-    pub return-other : (st′ m′ : List ℕ) → (e ≡ 0 → ⊥) → (e ≡ 2 → ⊥) → left o st′ m′ ≡ after returning t c r st m → left o st′ m′ ≡ after effectOf t c r st m
-    return-other st′ m′ z q p = becomes (returning (rowsAlone t c) (world r st m)) o st′ m′ (forms.of-return (rowsAlone t c) (world r st m) k (λ j. z (d ∙ j)) (λ j. q (d ∙ j))) p
+    pub return-other : (st′ m′ : List ℕ) → Ready (rowAt t) c r st (length m) → (e ≡ 0 → ⊥) → (e ≡ 2 → ⊥) → left o st′ m′ ≡ after returning t c r st m → left o st′ m′ ≡ after effectOf t c r st m
+    return-other st′ m′ y z q p =
+        becomes (returning (rowsAlone t c) (world r st m)) o st′ m′
+        (forms.of-return (rowsAlone t c) (world r st m) k (λ j. z (d ∙ j)) (forms.return-other t c r st (length m) y k (λ j. z (d ∙ j)) (λ j. q (d ∙ j)) .plain)) p
 
   -- the statement of kind k
   module _ (k : ℕ) (o : Outcome) (e : k ≡ row .kind) where

@@ -7,7 +7,7 @@ use Prim.Native.Nat.{ℕ, suc, _+_, _*_, _<_, _≤_}
 use native.Mathlib.Omega.{arith}
 use lib.Dec.{eqb, ltb}
 use borrow.Author.Tests.{eq-eqb, ne-eqb, lt-ltb, le-ltb}
-use Rattle.base_prelude.specs.Choice.{ifLt, ifEq, ifTrue}
+use Rattle.base_prelude.specs.Choice.{pick, ifLt, ifEq, ifTrue}
 use lib.Arith.{lt-of-le-ne}
 use Rattle.base_prelude.proofs.Choice.{true-false, either, either-eq}
 use Rattle.base_limits.specs.declared.Width.{Width}
@@ -15,16 +15,17 @@ use Rattle.base_limits.specs.declared.Width.the-variants.{Bits32}
 use Rattle.base_limits.specs.declared.Machine.{Machine}
 use Rattle.prog_tables.specs.Layout.{callExpression, noExpression}
 use Rattle.prog_tables.specs.Tests.{both, oneOf}
-use Rattle.prog_tables.specs.Statement.{Row, hasExpression, isTest, isCall, expressionUses, usedBy, rowAt}
+use Rattle.prog_tables.specs.Statement.{Row, hasExpression, isTest, isCallRow, isCall, isImport, isCallExpression, expressionUses, usedBy, rowAt}
 use Rattle.prog_tables.specs.Program.{Program}
 use Rattle.prog_tables.specs.Faults.{expressionListed}
-use Rattle.vm_definitions.specs.Frames.{isReturn, isCalling, leavesGood}
+use Rattle.vm_definitions.specs.Frames.{isReturn, isCalling, importing, leavesGood}
 use Rattle.vm_definitions.specs.Step.{World, Effect, rowOf, blockOf, endBlockOf, testOf, setAtOf, goesTo, callOf, returnOf, returned, workedOf, effectOf}
 use Rattle.vm_definitions.specs.declared.Worked.the-variants.{Value}
 use Rattle.vm_calls.specs.Outcomes.{calling, atCalling, tailCalling, handing, assigning, settingByte, settingWord, Expressed, Calls}
 use Rattle.vm_statements.specs.Ready.{Ready, settingLocal}
 use Rattle.prog_tables.proofs.Each.{one-true}
 use Rattle.prog_tables.proofs.Ranges.{test-least}
+use Rattle.prog_tables.proofs.CallRows.{bare-call, bare-import}
 
 -- ---- kinds
 
@@ -36,9 +37,14 @@ none-high k h = rw (le-ltb k 5 (omega arith), le-ltb k 8 (omega arith), ne-eqb k
 pub test-bare : (k : ℕ) → isTest k ≡ true → hasExpression k ≡ false
 test-bare k e = none-high k (test-least k e)
 
+pub test-row : (k : ℕ) → isTest k ≡ true → isCallRow k ≡ false
+test-row k h = let l = test-least k h in rw (ne-eqb k 11 (λ q. omega (arith, l, q)), ne-eqb k 12 (λ q. omega (arith, l, q)))
+
 pub test-uncalled : (k e : ℕ) → isTest k ≡ true → isCall k e ≡ false
-unfolding isCall ifEq ifTrue
-test-uncalled k e h = let l = test-least k h in rw (ne-eqb k 11 (λ q. omega (arith, l, q)), ne-eqb k 12 (λ q. omega (arith, l, q)), none-high k l)
+test-uncalled k e h = bare-call k e (test-bare k h) (test-row k h)
+
+pub test-own : (k e : ℕ) → isTest k ≡ true → isImport k e ≡ false
+test-own k e h = bare-import k e (test-bare k h) (test-row k h)
 
 no-expression : (k : ℕ) → (k ≡ 5 → ⊥) → (k ≡ 6 → ⊥) → (k ≡ 7 → ⊥) → (k ≡ 13 → ⊥) → hasExpression k ≡ false
 unfolding hasExpression
@@ -80,12 +86,12 @@ module _ (prog : Program) (x : World) where
   of-set e = rw e
 
   pub of-at-call : kind ≡ 7 → expr ≡ 2 → effectOf prog x ≡ atCalling prog x
-  unfolding effectOf isCalling hasExpression callOf ifTrue ifEq ifLt
+  unfolding effectOf isCalling hasExpression isCallExpression callOf ifTrue ifEq ifLt
   of-at-call e d = rw (e, d)
 
-  pub of-at : kind ≡ 7 → (expr ≡ 2 → ⊥) → effectOf prog x ≡ setAtOf prog x
+  pub of-at : kind ≡ 7 → isCallExpression expr ≡ false → effectOf prog x ≡ setAtOf prog x
   unfolding effectOf isCalling isReturn isTest hasExpression ifTrue ifEq ifLt
-  of-at e d = rw (e, ne-eqb _ _ d)
+  of-at e d = rw (e, d)
 
   pub of-set-byte : kind ≡ 8 → effectOf prog x ≡ settingByte prog x
   unfolding effectOf isCalling isReturn isTest hasExpression ifTrue ifEq ifLt
@@ -104,16 +110,16 @@ module _ (prog : Program) (x : World) where
   of-tail-call e = rw e
 
   pub of-return-call : kind ≡ 13 → expr ≡ 2 → effectOf prog x ≡ calling prog x
-  unfolding effectOf isCalling hasExpression callOf ifTrue ifEq ifLt
+  unfolding effectOf isCalling hasExpression isCallExpression callOf ifTrue ifEq ifLt
   of-return-call e d = rw (e, d)
 
   pub of-return-bare : kind ≡ 13 → expr ≡ 0 → effectOf prog x ≡ handing 0 prog x
-  unfolding effectOf isCalling isReturn hasExpression returnOf returned ifTrue ifEq ifLt
+  unfolding effectOf isCalling isReturn hasExpression isCallExpression returnOf returned ifTrue ifEq ifLt
   of-return-bare e d = rw (e, d)
 
-  pub of-return : kind ≡ 13 → (expr ≡ 0 → ⊥) → (expr ≡ 2 → ⊥) → effectOf prog x ≡ returned prog x (workedOf prog x)
+  pub of-return : kind ≡ 13 → (expr ≡ 0 → ⊥) → isCallExpression expr ≡ false → effectOf prog x ≡ returned prog x (workedOf prog x)
   unfolding effectOf isCalling isReturn hasExpression returnOf ifTrue ifEq ifLt
-  of-return e d q = rw (e, ne-eqb _ _ d, ne-eqb _ _ q)
+  of-return e d q = rw (e, ne-eqb _ _ d, q)
 
   pub of-test : isTest kind ≡ true → effectOf prog x ≡ testOf prog x
   unfolding effectOf isCalling isReturn ifTrue
@@ -166,6 +172,16 @@ has-7 : (k : ℕ) → k ≡ 7 → hasExpression k ≡ true
 unfolding hasExpression ifLt
 has-7 k e = rw e
 
+-- an expression that is neither a call of a function nor of an imported one
+no-call : (k e : ℕ) → hasExpression k ≡ true → isImport k e ≡ false → (e ≡ 2 → ⊥) → isCallExpression e ≡ false
+unfolding isImport isCallExpression ifEq ifTrue
+no-call k e h i d = rw (ne-eqb e 2 d) (by (eqb e 3) (isCallRow k) (hasExpression k) h i)
+  where
+    by : (a b c : Bool) → c ≡ true → pick a (pick b true c) false ≡ false → a ≡ false
+    by true true c h q = q
+    by true false c h q = true-false (sym h ∙ q)
+    by false b c h q = refl
+
 -- only `return` may have no expression
 none : (k e : ℕ) → k < 8 → e ≡ 0 → expressionListed k e ≡ true → ⊥
 unfolding expressionListed ifEq
@@ -173,33 +189,55 @@ none k e l z q = true-false (sym (rw (z, ne-eqb k 13 (λ j. omega (arith, l, j))
 
 -- ---- what a row has
 
+call-row : (e : ℕ) → isImport 11 e ≡ false → isCall 11 e ≡ true
+unfolding isImport isCall ifEq ifTrue
+call-row e = by (eqb e 3)
+  where
+    by : (a : Bool) → pick a true false ≡ false → pick a false true ≡ true
+    by true q = true-false q
+    by false q = refl
+
+tail-row : (e : ℕ) → isImport 12 e ≡ false → isCall 12 e ≡ true
+unfolding isImport isCall ifEq ifTrue
+tail-row e = by (eqb e 3)
+  where
+    by : (a : Bool) → pick a true false ≡ false → pick a false true ≡ true
+    by true q = true-false q
+    by false q = refl
+
 module _ (t : List ℕ) (c : ℕ) (r : Machine) (st : List ℕ) (m : ℕ) (h : Ready (rowAt t) c r st m) where
   abbrev row : Row
   row = rowAt t (r .next)
 
   pub bare-calls : row .kind ≡ 11 → Calls row c
-  unfolding isCall usedBy hasExpression ifEq ifLt ifTrue
-  bare-calls e = record { callee = h .callee (rw e); used = rw e }
+  unfolding usedBy hasExpression ifEq ifLt ifTrue
+  bare-calls e = record { callee = h .callee (ap (λ (k : ℕ). isCall k (row .expr)) e ∙ call-row (row .expr) (ap (λ (k : ℕ). isImport k (row .expr)) (sym e) ∙ h .own)); used = rw e }
 
   pub tail-calls : row .kind ≡ 12 → Calls row c
-  unfolding isCall usedBy hasExpression ifEq ifLt ifTrue
-  tail-calls e = record { callee = h .callee (rw e); used = rw e }
+  unfolding usedBy hasExpression ifEq ifLt ifTrue
+  tail-calls e = record { callee = h .callee (ap (λ (k : ℕ). isCall k (row .expr)) e ∙ tail-row (row .expr) (ap (λ (k : ℕ). isImport k (row .expr)) (sym e) ∙ h .own)); used = rw e }
 
   pub expression-calls : hasExpression (row .kind) ≡ true → row .expr ≡ 2 → Calls row c
   unfolding isCall usedBy expressionUses ifEq ifTrue
-  expression-calls e d = record { callee = h .callee (called e d); used = rw (e, d) }
+  expression-calls e d = record { callee = h .callee (rw (d, e) (by (eqb (row .kind) 11) (eqb (row .kind) 12))); used = rw (e, d) }
     where
-      called : hasExpression (row .kind) ≡ true → row .expr ≡ 2 → ifEq (row .kind) 11 true (ifEq (row .kind) 12 true (ifTrue (hasExpression (row .kind)) (eqb (row .expr) callExpression) false)) ≡ true
-      called e d = either-eq (λ (z : Bool). z ≡ true) (row .kind) 11 true _ (λ q. refl) (λ q. either-eq (λ (z : Bool). z ≡ true) (row .kind) 12 true _ (λ q. refl) (λ q. rw (e, d)))
+      by : (a b : Bool) → pick a true (pick b true true) ≡ true
+      by true b = refl
+      by false true = refl
+      by false false = refl
+
+  -- its expression is no call
+  pub uncalled : hasExpression (row .kind) ≡ true → (row .expr ≡ 2 → ⊥) → isCallExpression (row .expr) ≡ false
+  uncalled e d = no-call (row .kind) (row .expr) e (h .own) d
 
   pub expression-other : hasExpression (row .kind) ≡ true → row .kind < 8 → (row .expr ≡ 2 → ⊥) → Expressed row
-  expression-other e l d = record { has = e; listed = h .listed e; some = λ z. bare (h .listed e) z; plain = d }
+  expression-other e l d = record { has = e; listed = h .listed e; some = λ z. bare (h .listed e) z; plain = uncalled e d }
     where
       bare : expressionListed (row .kind) (row .expr) ≡ true → row .expr ≡ 0 → ⊥
       bare q z = none (row .kind) (row .expr) l z q
 
   pub return-other : row .kind ≡ 13 → (row .expr ≡ 0 → ⊥) → (row .expr ≡ 2 → ⊥) → Expressed row
-  return-other e z d = record { has = has-13 (row .kind) e; listed = h .listed (has-13 (row .kind) e); some = z; plain = d }
+  return-other e z d = record { has = has-13 (row .kind) e; listed = h .listed (has-13 (row .kind) e); some = z; plain = uncalled (has-13 (row .kind) e) d }
 
   pub return-calls : row .kind ≡ 13 → row .expr ≡ 2 → Calls row c
   return-calls e d = expression-calls (has-13 (row .kind) e) d
@@ -215,9 +253,9 @@ module _ (t : List ℕ) (c : ℕ) (r : Machine) (st : List ℕ) (m : ℕ) (h : R
   unfolding isReturn
   end-leaves e = h .leaves (rw e)
 
-  pub return-leaves : row .kind ≡ 13 → (row .expr ≡ 2 → ⊥) → leavesGood Bits32 (rowAt t) c m st (suc (r .frame)) (r .frame) ≡ true
+  pub return-leaves : row .kind ≡ 13 → isCallExpression (row .expr) ≡ false → leavesGood Bits32 (rowAt t) c m st (suc (r .frame)) (r .frame) ≡ true
   unfolding isReturn ifTrue
-  return-leaves e d = h .leaves (rw (e, ne-eqb _ _ d))
+  return-leaves e d = h .leaves (rw (e, d))
 
   -- the same, from what the code has read
   module _ (e : ℕ) (d : e ≡ row .expr) where
@@ -240,7 +278,8 @@ module _ (t : List ℕ) (c : ℕ) (r : Machine) (st : List ℕ) (m : ℕ) (h : R
     return-expressed q z n = return-other q (λ j. z (d ∙ j)) (λ j. n (d ∙ j))
 
     pub bare-leaves : row .kind ≡ 13 → e ≡ 0 → leavesGood Bits32 (rowAt t) c m st (suc (r .frame)) (r .frame) ≡ true
-    bare-leaves q z = return-leaves q (λ j. omega (arith, d, z, j))
+    unfolding isCallExpression ifEq
+    bare-leaves q z = return-leaves q (rw (← d, z))
 
   pub expressed-leaves : row .kind ≡ 13 → Expressed row → leavesGood Bits32 (rowAt t) c m st (suc (r .frame)) (r .frame) ≡ true
   expressed-leaves q x = return-leaves q (x .plain)

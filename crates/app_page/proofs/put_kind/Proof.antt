@@ -47,6 +47,19 @@ returns-3 : tie.Need-returns-3
 returns-3 c =
     (search kinds, search needs)
 
+slice-aggregate-put-text-4 : tie.Need-slice-aggregate-put-text-4
+slice-aggregate-put-text-4 c = search needs
+
+put-text-requires-4 : tie.Need-put-text-requires-4
+put-text-requires-4 c κs = search needs
+
+same-length-4 : tie.Need-same-length-4
+same-length-4 c = search needs
+
+returns-4 : tie.Need-returns-4
+returns-4 c =
+    (search kinds, search needs)
+
 pub put-kind-spec : {M : Type 1} → statement M
 put-kind-spec =
     tie.close
@@ -62,4 +75,8 @@ put-kind-spec =
     slice-aggregate-put-text-3
     put-text-requires-3
     same-length-3
-    returns-3)
+    returns-3
+    slice-aggregate-put-text-4
+    put-text-requires-4
+    same-length-4
+    returns-4)

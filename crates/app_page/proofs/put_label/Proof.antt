@@ -29,6 +29,12 @@ add-word-at-2 c = search needs
 word-at-requires-3 : tie.Need-word-at-requires-3
 word-at-requires-3 c κs = search needs
 
+add-word-at-3 : tie.Need-add-word-at-3
+add-word-at-3 c = search needs
+
+word-at-requires-4 : tie.Need-word-at-requires-4
+word-at-requires-4 c κs = search needs
+
 name-at-requires : tie.Need-name-at-requires
 name-at-requires c κs = search needs
 
@@ -55,6 +61,8 @@ put-label-spec =
     word-at-requires-2
     add-word-at-2
     word-at-requires-3
+    add-word-at-3
+    word-at-requires-4
     name-at-requires
     put-label-head-requires
     put-label-tail-requires

@@ -9,8 +9,8 @@ use Rattle.app_page.proofs.put_label_tail.Lts as lts
 use Rattle.app_page.proofs.put_byte.Reads as put-byte-reads
 use Rattle.app_page.proofs.put_decimal.Reads as put-decimal-reads
 use Rattle.app_page.proofs.put_exported.Reads as put-exported-reads
-use Rattle.app_page.proofs.put_function.Reads as put-function-reads
 use Rattle.app_page.proofs.put_kind.Reads as put-kind-reads
+use Rattle.app_page.proofs.put_label_sizes.Reads as put-label-sizes-reads
 
 put-kind-requires : tie.Need-put-kind-requires
 put-kind-requires c κs = search needs
@@ -21,8 +21,8 @@ put-decimal-requires c κs = search needs
 put-exported-requires : tie.Need-put-exported-requires
 put-exported-requires c κs = search needs
 
-put-function-requires : tie.Need-put-function-requires
-put-function-requires c κs = search needs
+put-label-sizes-requires : tie.Need-put-label-sizes-requires
+put-label-sizes-requires c κs = search needs
 
 put-byte-requires : tie.Need-put-byte-requires
 put-byte-requires c κs = search needs
@@ -41,7 +41,7 @@ put-label-tail-spec =
     put-kind-requires
     put-decimal-requires
     put-exported-requires
-    put-function-requires
+    put-label-sizes-requires
     put-byte-requires
     same-length
     returns)

@@ -6,7 +6,7 @@ use Rattle.c_voodoo.proofs.voodoo_run.Reads as reads
 use Rattle.c_voodoo.proofs.voodoo_run.Lts as lts
 use Rattle.c_words.proofs.load_record.Reads as load-record-reads
 use Rattle.c_words.proofs.reply_outcome.Reads as reply-outcome-reads
-use Rattle.c_words.proofs.reply_unfit.Reads as reply-unfit-reads
+use Rattle.c_words.proofs.reply_refusal.Reads as reply-refusal-reads
 use Rattle.c_words.proofs.unfit_number.Reads as unfit-number-reads
 use Rattle.vm_run.proofs.run.Reads as run-reads
 
@@ -28,8 +28,8 @@ enum-told c = search needs
 unfit-number-requires : tie.Need-unfit-number-requires
 unfit-number-requires c κs = search needs
 
-reply-unfit-requires : tie.Need-reply-unfit-requires
-reply-unfit-requires c κs = search needs
+reply-refusal-requires : tie.Need-reply-refusal-requires
+reply-refusal-requires c κs = search needs
 
 same-length : tie.Need-same-length
 same-length c = search needs
@@ -65,7 +65,7 @@ voodoo-run-spec =
     reply-outcome-requires
     enum-told
     unfit-number-requires
-    reply-unfit-requires
+    reply-refusal-requires
     same-length
     same-length-2
     same-length-3

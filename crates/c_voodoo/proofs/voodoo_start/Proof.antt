@@ -7,12 +7,12 @@ use Rattle.c_voodoo.proofs.voodoo_start.Tie as tie
 use Rattle.c_voodoo.proofs.voodoo_start.Reads as reads
 use Rattle.c_voodoo.proofs.voodoo_start.Lts as lts
 use Rattle.c_words.proofs.reply_opening.Reads as reply-opening-reads
-use Rattle.c_words.proofs.reply_unfit.Reads as reply-unfit-reads
+use Rattle.c_words.proofs.reply_refusal.Reads as reply-refusal-reads
 use Rattle.base_limits.proofs.Machine.fresh.Reads as fresh-reads
 use Rattle.vm_start.proofs.start.Reads as start-reads
 
-reply-unfit-requires : tie.Need-reply-unfit-requires
-reply-unfit-requires c κs = search needs
+reply-refusal-requires : tie.Need-reply-refusal-requires
+reply-refusal-requires c κs = search needs
 
 same-length : tie.Need-same-length
 same-length c = search needs
@@ -50,7 +50,7 @@ pub voodoo-start-spec : {M : Type 1} → statement M
 voodoo-start-spec =
     tie.close
     (tie.spec
-    reply-unfit-requires
+    reply-refusal-requires
     same-length
     returns
     fresh-requires

@@ -8,7 +8,7 @@ use Rattle.c_voodoo.proofs.voodoo_step.Reads as reads
 use Rattle.c_voodoo.proofs.voodoo_step.Lts as lts
 use Rattle.c_words.proofs.load_record.Reads as load-record-reads
 use Rattle.c_words.proofs.reply_outcome.Reads as reply-outcome-reads
-use Rattle.c_words.proofs.reply_unfit.Reads as reply-unfit-reads
+use Rattle.c_words.proofs.reply_refusal.Reads as reply-refusal-reads
 use Rattle.vm_run.proofs.step.Reads as step-reads
 
 load-record-requires : tie.Need-load-record-requires
@@ -26,8 +26,8 @@ reply-outcome-requires c κs = search needs
 enum-told : tie.Need-enum-told
 enum-told c = search needs
 
-reply-unfit-requires : tie.Need-reply-unfit-requires
-reply-unfit-requires c κs = search needs
+reply-refusal-requires : tie.Need-reply-refusal-requires
+reply-refusal-requires c κs = search needs
 
 same-length : tie.Need-same-length
 same-length c = search needs
@@ -64,7 +64,7 @@ voodoo-step-spec =
     step-requires
     reply-outcome-requires
     enum-told
-    reply-unfit-requires
+    reply-refusal-requires
     same-length
     same-length-2
     same-length-3

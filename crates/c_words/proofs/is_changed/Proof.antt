@@ -1,6 +1,4 @@
 use Rattle.c_words.proofs.Cases.{change-ways}
-use native.Mathlib.Omega.{arith}
-use mathlib.Core.Path.{_≡_, refl, sym, _∙_, ap, subst}
 use borrow.Author.Needs.{needs}
 use Rattle.c_words.proofs.is_changed.Statement.{statement}
 use Rattle.c_words.proofs.is_changed.Tie as tie
@@ -12,16 +10,12 @@ returns : tie.Need-returns
 returns c =
     search change-ways
 
+state-number-requires : tie.Need-state-number-requires
+state-number-requires c κs = search needs
+
 returns-2 : tie.Need-returns-2
 returns-2 c =
     search change-ways
 
-state-number-requires : tie.Need-state-number-requires
-state-number-requires c κs = search needs
-
-returns-3 : tie.Need-returns-3
-returns-3 c =
-    search change-ways
-
 pub is-changed-spec : {M : Type 1} → statement M
-is-changed-spec = tie.close (tie.spec returns returns-2 state-number-requires returns-3)
+is-changed-spec = tie.close (tie.spec returns state-number-requires returns-2)

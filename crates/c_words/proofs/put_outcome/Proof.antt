@@ -1,6 +1,4 @@
 use Rattle.c_words.proofs.Cases.{outcome-number, outcome-words}
-use native.Mathlib.Omega.{arith}
-use mathlib.Core.Path.{_≡_, refl, sym, _∙_, ap, subst}
 use borrow.Author.Needs.{needs}
 use Rattle.c_words.proofs.put_outcome.Statement.{statement}
 use Rattle.c_words.proofs.put_outcome.Tie as tie
@@ -8,11 +6,11 @@ use Rattle.c_words.proofs.put_outcome.Reads as reads
 use Rattle.c_words.proofs.put_outcome.Lts as lts
 use Rattle.c_words.proofs.broken_number.Reads as broken-number-reads
 use Rattle.c_words.proofs.broken_place.Reads as broken-place-reads
-use Rattle.c_words.proofs.finished_flag.Reads as finished-flag-reads
-use Rattle.c_words.proofs.finished_word.Reads as finished-word-reads
+use Rattle.c_words.proofs.flagged_word.Reads as flagged-word-reads
 use Rattle.c_words.proofs.high_half.Reads as high-half-reads
 use Rattle.c_words.proofs.low_half.Reads as low-half-reads
 use Rattle.c_words.proofs.put_six.Reads as put-six-reads
+use Rattle.c_words.proofs.state_flag.Reads as state-flag-reads
 
 broken-number-requires : tie.Need-broken-number-requires
 broken-number-requires c κs = search needs
@@ -26,11 +24,11 @@ low-half-requires c κs = search needs
 high-half-requires : tie.Need-high-half-requires
 high-half-requires c κs = search needs
 
-finished-flag-requires : tie.Need-finished-flag-requires
-finished-flag-requires c κs = search needs
+state-flag-requires : tie.Need-state-flag-requires
+state-flag-requires c κs = search needs
 
-finished-word-requires : tie.Need-finished-word-requires
-finished-word-requires c κs = search needs
+flagged-word-requires : tie.Need-flagged-word-requires
+flagged-word-requires c κs = search needs
 
 put-six-requires : tie.Need-put-six-requires
 put-six-requires c κs = search needs
@@ -50,8 +48,8 @@ put-outcome-spec =
     broken-place-requires
     low-half-requires
     high-half-requires
-    finished-flag-requires
-    finished-word-requires
+    state-flag-requires
+    flagged-word-requires
     put-six-requires
     same-length
     returns)

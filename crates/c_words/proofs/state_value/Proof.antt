@@ -1,6 +1,4 @@
 use Rattle.c_words.specs.Record.{stateValue}
-use native.Mathlib.Omega.{arith}
-use mathlib.Core.Path.{_≡_, refl, sym, _∙_, ap, subst}
 use borrow.Author.Needs.{needs}
 use Rattle.c_words.proofs.state_value.Statement.{statement}
 use Rattle.c_words.proofs.state_value.Tie as tie
@@ -15,6 +13,9 @@ enum-known-s c = search needs
 
 enum-known-s-2 : tie.Need-enum-known-s-2
 enum-known-s-2 c = search needs
+
+enum-known-s-3 : tie.Need-enum-known-s-3
+enum-known-s-3 c = search needs
 
 returns : tie.Need-returns
 unfolding stateValue
@@ -31,6 +32,20 @@ unfolding stateValue
 returns-3 c =
     cc
 
+returns-4 : tie.Need-returns-4
+unfolding stateValue
+returns-4 c =
+    cc
+
 pub state-value-spec : {M : Type 1} → statement M
 state-value-spec =
-    tie.close (tie.spec enum-told enum-known-s enum-known-s-2 returns returns-2 returns-3)
+    tie.close
+    (tie.spec
+    enum-told
+    enum-known-s
+    enum-known-s-2
+    enum-known-s-3
+    returns
+    returns-2
+    returns-3
+    returns-4)

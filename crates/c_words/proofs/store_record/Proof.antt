@@ -1,14 +1,14 @@
 use Rattle.c_words.proofs.Cases.{record-stored}
-use native.Mathlib.Omega.{arith}
-use mathlib.Core.Path.{_≡_, refl, sym, _∙_, ap, subst}
 use borrow.Author.Needs.{needs}
 use Rattle.c_words.proofs.store_record.Statement.{statement}
 use Rattle.c_words.proofs.store_record.Tie as tie
 use Rattle.c_words.proofs.store_record.Reads as reads
 use Rattle.c_words.proofs.store_record.Lts as lts
+use Rattle.c_words.proofs.put_pause.Reads as put-pause-reads
 use Rattle.c_words.proofs.put_three.Reads as put-three-reads
 use Rattle.c_words.proofs.put_word.Reads as put-word-reads
 use Rattle.c_words.proofs.state_number.Reads as state-number-reads
+use Rattle.c_words.proofs.state_pause.Reads as state-pause-reads
 use Rattle.c_words.proofs.state_place.Reads as state-place-reads
 use Rattle.c_words.proofs.state_value.Reads as state-value-reads
 
@@ -30,6 +30,12 @@ state-place-requires c κs = search needs
 put-word-requires : tie.Need-put-word-requires
 put-word-requires c κs = search needs
 
+state-pause-requires : tie.Need-state-pause-requires
+state-pause-requires c κs = search needs
+
+put-pause-requires : tie.Need-put-pause-requires
+put-pause-requires c κs = search needs
+
 same-length : tie.Need-same-length
 same-length c = search needs
 
@@ -47,5 +53,7 @@ store-record-spec =
     put-three-requires-2
     state-place-requires
     put-word-requires
+    state-pause-requires
+    put-pause-requires
     same-length
     returns)

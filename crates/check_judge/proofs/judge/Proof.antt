@@ -8,6 +8,7 @@ use Rattle.check_judge.proofs.judge.Reads as reads
 use Rattle.check_judge.proofs.judge.Lts as lts
 use Rattle.check_judge.proofs.judge_tokens.Reads as judge-tokens-reads
 use Rattle.lex_source.proofs.lex.Reads as lex-reads
+use Rattle.res_hosts.proofs.mark_hosts.Reads as mark-hosts-reads
 
 lex-requires : tie.Need-lex-requires
 lex-requires c κs = search needs
@@ -15,8 +16,16 @@ lex-requires c κs = search needs
 enum-known-n : tie.Need-enum-known-n
 enum-known-n c = search needs
 
+cast-mark-hosts : tie.Need-cast-mark-hosts
+cast-mark-hosts c =
+    search (token-count, needs)
+
+mark-hosts-requires : tie.Need-mark-hosts-requires
+mark-hosts-requires c κs = search needs
+
 cast-judge-tokens : tie.Need-cast-judge-tokens
-cast-judge-tokens c = search needs
+cast-judge-tokens c =
+    search (token-count, needs)
 
 cast-judge-tokens-2 : tie.Need-cast-judge-tokens-2
 cast-judge-tokens-2 c =
@@ -24,7 +33,7 @@ cast-judge-tokens-2 c =
 
 judge-tokens-requires : tie.Need-judge-tokens-requires
 judge-tokens-requires c κs =
-    search (token-long, needs)
+    token-long _ _ _ _ _ _ _ (c .before .before .before .before .before .before .before .before .before .lex .ensures .1) (c .before .before .before .before .mark-hosts .ensures)
 
 enum-known-number : tie.Need-enum-known-number
 enum-known-number c = search needs
@@ -43,6 +52,8 @@ judge-spec =
     (tie.spec
     lex-requires
     enum-known-n
+    cast-mark-hosts
+    mark-hosts-requires
     cast-judge-tokens
     cast-judge-tokens-2
     judge-tokens-requires

@@ -73,11 +73,19 @@ unfolding standsIn
 returns-8 c =
     search tests depth 16
 
+between-requires-8 : tie.Need-between-requires-8
+between-requires-8 c κs = search needs
+
+returns-9 : tie.Need-returns-9
+unfolding standsIn
+returns-9 c =
+    search tests depth 16
+
 refused-range-requires : tie.Need-refused-range-requires
 refused-range-requires c κs = search needs
 
-returns-9 : tie.Need-returns-9
-returns-9 c =
+returns-10 : tie.Need-returns-10
+returns-10 c =
     search stands-refused
 
 pub stands-in-spec : {M : Type 1} → statement M
@@ -100,5 +108,7 @@ stands-in-spec =
     returns-7
     between-requires-7
     returns-8
+    between-requires-8
+    returns-9
     refused-range-requires
-    returns-9)
+    returns-10)

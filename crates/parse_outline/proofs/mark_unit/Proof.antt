@@ -1,33 +1,25 @@
-use Rattle.parse_outline.specs.Labels.{markUnit}
-use native.Mathlib.Omega.{arith}
-use mathlib.Core.Path.{_≡_, refl, sym, _∙_, ap, subst}
+use Rattle.parse_outline.proofs.Cases.{import-fits, unit-is}
 use borrow.Author.Needs.{needs}
 use Rattle.parse_outline.proofs.mark_unit.Statement.{statement}
 use Rattle.parse_outline.proofs.mark_unit.Tie as tie
 use Rattle.parse_outline.proofs.mark_unit.Reads as reads
 use Rattle.parse_outline.proofs.mark_unit.Lts as lts
-use Rattle.parse_outline.proofs.label_kind.Reads as label-kind-reads
-use Rattle.parse_outline.proofs.label_number.Reads as label-number-reads
-use Rattle.parse_outline.proofs.mark_from.Reads as mark-from-reads
+use Rattle.parse_outline.proofs.mark_before.Reads as mark-before-reads
+use Rattle.parse_outline.proofs.mark_import.Reads as mark-import-reads
 
-label-kind-requires : tie.Need-label-kind-requires
-label-kind-requires c κs = search needs
+mark-before-requires : tie.Need-mark-before-requires
+mark-before-requires c κs = search needs
 
-label-number-requires : tie.Need-label-number-requires
-label-number-requires c κs = search needs
-
-mark-from-requires : tie.Need-mark-from-requires
-mark-from-requires c κs = search needs
+mark-import-requires : tie.Need-mark-import-requires
+mark-import-requires c κs =
+    search (import-fits, needs)
 
 same-length : tie.Need-same-length
 same-length c = search needs
 
 returns : tie.Need-returns
-unfolding markUnit
 returns c =
-    cc
+    search unit-is
 
 pub mark-unit-spec : {M : Type 1} → statement M
-mark-unit-spec =
-    tie.close
-    (tie.spec label-kind-requires label-number-requires mark-from-requires same-length returns)
+mark-unit-spec = tie.close (tie.spec mark-before-requires mark-import-requires same-length returns)

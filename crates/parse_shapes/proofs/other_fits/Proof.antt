@@ -58,8 +58,18 @@ returns-5 : tie.Need-returns-5
 returns-5 c =
     search others
 
+add-is-name-2 : tie.Need-add-is-name-2
+add-is-name-2 c = search needs
+
+is-name-requires-2 : tie.Need-is-name-requires-2
+is-name-requires-2 c κs = search needs
+
 returns-6 : tie.Need-returns-6
 returns-6 c =
+    search others
+
+returns-7 : tie.Need-returns-7
+returns-7 c =
     search others
 
 pub other-fits-spec : {M : Type 1} → statement M
@@ -80,4 +90,7 @@ other-fits-spec =
     add-is-string
     is-string-requires
     returns-5
-    returns-6)
+    add-is-name-2
+    is-name-requires-2
+    returns-6
+    returns-7)

@@ -1,6 +1,4 @@
 use Rattle.parse_units.proofs.UnitSteps.{unit-stepping, unit-step-fits, unit-fits, unit-small}
-use native.Mathlib.Omega.{arith}
-use mathlib.Core.Path.{_≡_, refl, sym, _∙_, ap, subst}
 use borrow.Author.Needs.{needs}
 use Rattle.parse_units.proofs.step_unit.Statement.{statement}
 use Rattle.parse_units.proofs.step_unit.Tie as tie
@@ -9,6 +7,7 @@ use Rattle.parse_units.proofs.step_unit.Lts as lts
 use Rattle.parse_lines.proofs.line_kind.Reads as line-kind-reads
 use Rattle.parse_lines.proofs.unit_at.Reads as unit-at-reads
 use Rattle.parse_units.proofs.ground_in.Reads as ground-in-reads
+use Rattle.parse_units.proofs.line_on.Reads as line-on-reads
 use Rattle.parse_units.proofs.row_at.Reads as row-at-reads
 use Rattle.parse_units.proofs.step_on.Reads as step-on-reads
 use Rattle.parse_units.proofs.unit_fault.Reads as unit-fault-reads
@@ -25,6 +24,9 @@ row-at-requires c κs = search needs
 
 ground-in-requires : tie.Need-ground-in-requires
 ground-in-requires c κs = search needs
+
+line-on-requires : tie.Need-line-on-requires
+line-on-requires c κs = search needs
 
 unit-fault-requires : tie.Need-unit-fault-requires
 unit-fault-requires c κs =
@@ -46,7 +48,7 @@ returns-2 c =
 
 step-on-requires : tie.Need-step-on-requires
 step-on-requires c κs =
-    unit-step-fits _ _ _ _ _ _ _ _ _ _ (c .before .before .before .before .before .before .before .before .unit-at .ensures) (c .before .before .before .before .before .before .before .line-kind .ensures) (c .before .before .before .before .before .row-at .ensures) (c .before .before .before .before .ground-in .ensures) (c .before .before .before .unit-fault .ensures) (search needs) (search needs)
+    unit-step-fits _ _ _ _ _ _ _ _ _ _ _ (c .before .before .before .before .before .before .before .before .before .unit-at .ensures) (c .before .before .before .before .before .before .before .before .line-kind .ensures) (c .before .before .before .before .before .before .row-at .ensures) (c .before .before .before .before .before .ground-in .ensures) (c .before .before .before .before .line-on .ensures) (c .before .before .before .unit-fault .ensures) (search needs) (search needs)
 
 same-length-3 : tie.Need-same-length-3
 same-length-3 c = search needs
@@ -63,6 +65,7 @@ step-unit-spec =
     line-kind-requires
     row-at-requires
     ground-in-requires
+    line-on-requires
     unit-fault-requires
     same-length
     returns

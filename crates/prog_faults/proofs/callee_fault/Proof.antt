@@ -1,77 +1,26 @@
 use Rattle.prog_faults.proofs.Cases.{callee-ways}
-use native.Mathlib.Omega.{arith}
-use mathlib.Core.Path.{_≡_, refl, sym, _∙_, ap, subst}
 use borrow.Author.Needs.{needs}
 use Rattle.prog_faults.proofs.callee_fault.Statement.{statement}
 use Rattle.prog_faults.proofs.callee_fault.Tie as tie
 use Rattle.prog_faults.proofs.callee_fault.Reads as reads
 use Rattle.prog_faults.proofs.callee_fault.Lts as lts
-use Rattle.prog_tables.proofs.callee_at.Reads as callee-at-reads
-use Rattle.prog_tables.proofs.count_at.Reads as count-at-reads
-use Rattle.prog_tables.proofs.expression_at.Reads as expression-at-reads
-use Rattle.prog_tables.proofs.is_call.Reads as is-call-reads
-use Rattle.prog_tables.proofs.kind_at.Reads as kind-at-reads
-use Rattle.prog_tables.proofs.parameters_at.Reads as parameters-at-reads
+use Rattle.prog_faults.proofs.function_fault.Reads as function-fault-reads
+use Rattle.prog_faults.proofs.import_fault.Reads as import-fault-reads
 
-kind-at-requires : tie.Need-kind-at-requires
-kind-at-requires c κs = search needs
-
-expression-at-requires : tie.Need-expression-at-requires
-expression-at-requires c κs = search needs
-
-is-call-requires : tie.Need-is-call-requires
-is-call-requires c κs = search needs
-
-callee-at-requires : tie.Need-callee-at-requires
-callee-at-requires c κs = search needs
-
-kind-at-requires-2 : tie.Need-kind-at-requires-2
-kind-at-requires-2 c κs = search needs
-
-parameters-at-requires : tie.Need-parameters-at-requires
-parameters-at-requires c κs = search needs
-
-count-at-requires : tie.Need-count-at-requires
-count-at-requires c κs = search needs
+function-fault-requires : tie.Need-function-fault-requires
+function-fault-requires c κs = search needs
 
 returns : tie.Need-returns
 returns c =
     search callee-ways
 
+import-fault-requires : tie.Need-import-fault-requires
+import-fault-requires c κs = search needs
+
 returns-2 : tie.Need-returns-2
 returns-2 c =
     search callee-ways
 
-returns-3 : tie.Need-returns-3
-returns-3 c =
-    search callee-ways
-
-returns-4 : tie.Need-returns-4
-returns-4 c =
-    search callee-ways
-
-returns-5 : tie.Need-returns-5
-returns-5 c =
-    search callee-ways
-
-returns-6 : tie.Need-returns-6
-returns-6 c =
-    search callee-ways
-
 pub callee-fault-spec : {M : Type 1} → statement M
 callee-fault-spec =
-    tie.close
-    (tie.spec
-    kind-at-requires
-    expression-at-requires
-    is-call-requires
-    callee-at-requires
-    kind-at-requires-2
-    parameters-at-requires
-    count-at-requires
-    returns
-    returns-2
-    returns-3
-    returns-4
-    returns-5
-    returns-6)
+    tie.close (tie.spec function-fault-requires returns import-fault-requires returns-2)

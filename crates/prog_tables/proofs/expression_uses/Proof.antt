@@ -1,6 +1,4 @@
 use Rattle.prog_tables.proofs.Cases.{uses}
-use native.Mathlib.Omega.{arith}
-use mathlib.Core.Path.{_≡_, refl, sym, _∙_, ap, subst}
 use borrow.Author.Needs.{needs}
 use Rattle.prog_tables.proofs.expression_uses.Statement.{statement}
 use Rattle.prog_tables.proofs.expression_uses.Tie as tie
@@ -16,12 +14,12 @@ returns-2 : tie.Need-returns-2
 returns-2 c =
     search uses
 
-is-operator-requires : tie.Need-is-operator-requires
-is-operator-requires c κs = search needs
-
 returns-3 : tie.Need-returns-3
 returns-3 c =
     search uses
+
+is-operator-requires : tie.Need-is-operator-requires
+is-operator-requires c κs = search needs
 
 returns-4 : tie.Need-returns-4
 returns-4 c =
@@ -39,15 +37,20 @@ returns-7 : tie.Need-returns-7
 returns-7 c =
     search uses
 
+returns-8 : tie.Need-returns-8
+returns-8 c =
+    search uses
+
 pub expression-uses-spec : {M : Type 1} → statement M
 expression-uses-spec =
     tie.close
     (tie.spec
     returns
     returns-2
-    is-operator-requires
     returns-3
+    is-operator-requires
     returns-4
     returns-5
     returns-6
-    returns-7)
+    returns-7
+    returns-8)

@@ -1,6 +1,4 @@
 use Rattle.prog_tables.proofs.Cases.{used}
-use native.Mathlib.Omega.{arith}
-use mathlib.Core.Path.{_≡_, refl, sym, _∙_, ap, subst}
 use borrow.Author.Needs.{needs}
 use Rattle.prog_tables.proofs.used_by.Statement.{statement}
 use Rattle.prog_tables.proofs.used_by.Tie as tie
@@ -8,7 +6,7 @@ use Rattle.prog_tables.proofs.used_by.Reads as reads
 use Rattle.prog_tables.proofs.used_by.Lts as lts
 use Rattle.prog_tables.proofs.expression_uses.Reads as expression-uses-reads
 use Rattle.prog_tables.proofs.has_expression.Reads as has-expression-reads
-use Rattle.prog_tables.proofs.is_call.Reads as is-call-reads
+use Rattle.prog_tables.proofs.is_call_row.Reads as is-call-row-reads
 use Rattle.prog_tables.proofs.is_test.Reads as is-test-reads
 
 has-expression-requires : tie.Need-has-expression-requires
@@ -21,8 +19,8 @@ returns : tie.Need-returns
 returns c =
     search used
 
-is-call-requires : tie.Need-is-call-requires
-is-call-requires c κs = search needs
+is-call-row-requires : tie.Need-is-call-row-requires
+is-call-row-requires c κs = search needs
 
 returns-2 : tie.Need-returns-2
 returns-2 c =
@@ -54,7 +52,7 @@ used-by-spec =
     has-expression-requires
     expression-uses-requires
     returns
-    is-call-requires
+    is-call-row-requires
     returns-2
     is-test-requires
     returns-3

@@ -7,8 +7,10 @@ use Rattle.res_exports.proofs.export_part.Statement.{statement}
 use Rattle.res_exports.proofs.export_part.Tie as tie
 use Rattle.res_exports.proofs.export_part.Reads as reads
 use Rattle.res_exports.proofs.export_part.Lts as lts
+use Rattle.base_prelude.proofs.least.Reads as least-reads
 use Rattle.res_exports.proofs.carried_by.Reads as carried-by-reads
 use Rattle.res_exports.proofs.find_definition.Reads as find-definition-reads
+use Rattle.res_exports.proofs.import_fault.Reads as import-fault-reads
 use Rattle.res_exports.proofs.judge_export.Reads as judge-export-reads
 
 find-definition-requires : tie.Need-find-definition-requires
@@ -34,8 +36,21 @@ returns : tie.Need-returns
 returns c =
     search exporting
 
+add-import-fault : tie.Need-add-import-fault
+add-import-fault c = search needs
+
+import-fault-requires : tie.Need-import-fault-requires
+import-fault-requires c κs = search needs
+
+least-requires : tie.Need-least-requires
+least-requires c κs = search needs
+
 returns-2 : tie.Need-returns-2
 returns-2 c =
+    search exporting
+
+returns-3 : tie.Need-returns-3
+returns-3 c =
     search exporting
 
 pub export-part-spec : {M : Type 1} → statement M
@@ -49,4 +64,8 @@ export-part-spec =
     judge-export-requires
     same-length
     returns
-    returns-2)
+    add-import-fault
+    import-fault-requires
+    least-requires
+    returns-2
+    returns-3)

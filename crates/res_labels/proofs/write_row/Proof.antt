@@ -6,12 +6,13 @@ use Rattle.res_labels.proofs.write_row.Statement.{statement}
 use Rattle.res_labels.proofs.write_row.Tie as tie
 use Rattle.res_labels.proofs.write_row.Reads as reads
 use Rattle.res_labels.proofs.write_row.Lts as lts
+use Rattle.parse_lines.proofs.value_at.Reads as value-at-reads
+use Rattle.res_labels.proofs.final_arguments.Reads as final-arguments-reads
 use Rattle.res_labels.proofs.final_kind.Reads as final-kind-reads
 use Rattle.res_labels.proofs.final_number.Reads as final-number-reads
 use Rattle.res_labels.proofs.flag_at.Reads as flag-at-reads
 use Rattle.res_labels.proofs.outline_word.Reads as outline-word-reads
 use Rattle.res_labels.proofs.put_words.Reads as put-words-reads
-use Rattle.parse_lines.proofs.value_at.Reads as value-at-reads
 
 outline-word-requires : tie.Need-outline-word-requires
 outline-word-requires c κs = search needs
@@ -21,6 +22,9 @@ outline-word-requires-2 c κs = search needs
 
 final-number-requires : tie.Need-final-number-requires
 final-number-requires c κs = search needs
+
+final-arguments-requires : tie.Need-final-arguments-requires
+final-arguments-requires c κs = search needs
 
 outline-word-requires-3 : tie.Need-outline-word-requires-3
 outline-word-requires-3 c κs = search needs
@@ -52,6 +56,7 @@ write-row-spec =
     outline-word-requires
     outline-word-requires-2
     final-number-requires
+    final-arguments-requires
     outline-word-requires-3
     value-at-requires
     flag-at-requires

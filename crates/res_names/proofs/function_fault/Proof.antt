@@ -7,9 +7,10 @@ use Rattle.res_names.proofs.function_fault.Tie as tie
 use Rattle.res_names.proofs.function_fault.Reads as reads
 use Rattle.res_names.proofs.function_fault.Lts as lts
 use Rattle.parse_lines.proofs.key_at.Reads as key-at-reads
+use Rattle.prog_tables.proofs.parameters_at.Reads as parameters-at-reads
+use Rattle.res_names.proofs.import_fault.Reads as import-fault-reads
 use Rattle.res_scope.proofs.label_kind.Reads as label-kind-reads
 use Rattle.res_scope.proofs.label_statement.Reads as label-statement-reads
-use Rattle.prog_tables.proofs.parameters_at.Reads as parameters-at-reads
 
 label-kind-requires : tie.Need-label-kind-requires
 label-kind-requires c κs = search needs
@@ -31,8 +32,8 @@ returns-2 : tie.Need-returns-2
 returns-2 c =
     search callees
 
-key-at-requires-2 : tie.Need-key-at-requires-2
-key-at-requires-2 c κs = search needs
+import-fault-requires : tie.Need-import-fault-requires
+import-fault-requires c κs = search needs
 
 returns-3 : tie.Need-returns-3
 returns-3 c =
@@ -48,5 +49,5 @@ function-fault-spec =
     returns
     key-at-requires
     returns-2
-    key-at-requires-2
+    import-fault-requires
     returns-3)

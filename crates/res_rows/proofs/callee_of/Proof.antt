@@ -7,7 +7,7 @@ use Rattle.res_rows.proofs.callee_of.Tie as tie
 use Rattle.res_rows.proofs.callee_of.Reads as reads
 use Rattle.res_rows.proofs.callee_of.Lts as lts
 use Rattle.prog_frames.proofs.locals_at.Reads as locals-at-reads
-use Rattle.res_rows.proofs.label_target.Reads as label-target-reads
+use Rattle.res_rows.proofs.callee_target.Reads as callee-target-reads
 use Rattle.res_scope.proofs.meaning_of.Reads as meaning-of-reads
 
 locals-at-requires : tie.Need-locals-at-requires
@@ -27,8 +27,8 @@ returns-2 c =
 meaning-of-requires : tie.Need-meaning-of-requires
 meaning-of-requires c κs = search needs
 
-label-target-requires : tie.Need-label-target-requires
-label-target-requires c κs = search needs
+callee-target-requires : tie.Need-callee-target-requires
+callee-target-requires c κs = search needs
 
 returns-3 : tie.Need-returns-3
 returns-3 c =
@@ -43,5 +43,5 @@ callee-of-spec =
     returns
     returns-2
     meaning-of-requires
-    label-target-requires
+    callee-target-requires
     returns-3)

@@ -6,16 +6,17 @@ use Rattle.res_rows.proofs.head_of.Statement.{statement}
 use Rattle.res_rows.proofs.head_of.Tie as tie
 use Rattle.res_rows.proofs.head_of.Reads as reads
 use Rattle.res_rows.proofs.head_of.Lts as lts
+use Rattle.prog_tables.proofs.func_at.Reads as func-at-reads
+use Rattle.prog_tables.proofs.scope_at.Reads as scope-at-reads
+use Rattle.prog_tables.proofs.up_at.Reads as up-at-reads
 use Rattle.res_rows.proofs.a_of.Reads as a-of-reads
 use Rattle.res_rows.proofs.address_of.Reads as address-of-reads
 use Rattle.res_rows.proofs.b_of.Reads as b-of-reads
 use Rattle.res_rows.proofs.callee_of.Reads as callee-of-reads
 use Rattle.res_rows.proofs.count_from.Reads as count-from-reads
+use Rattle.res_rows.proofs.expr_of.Reads as expr-of-reads
 use Rattle.res_rows.proofs.operand_kind.Reads as operand-kind-reads
 use Rattle.res_rows.proofs.operand_number.Reads as operand-number-reads
-use Rattle.prog_tables.proofs.func_at.Reads as func-at-reads
-use Rattle.prog_tables.proofs.scope_at.Reads as scope-at-reads
-use Rattle.prog_tables.proofs.up_at.Reads as up-at-reads
 
 add-i : tie.Need-add-i
 add-i c = search needs
@@ -37,6 +38,9 @@ a-of-requires c κs = search needs
 
 b-of-requires : tie.Need-b-of-requires
 b-of-requires c κs = search needs
+
+expr-of-requires : tie.Need-expr-of-requires
+expr-of-requires c κs = search needs
 
 callee-of-requires : tie.Need-callee-of-requires
 callee-of-requires c κs = search needs
@@ -65,6 +69,7 @@ head-of-spec =
     up-at-requires
     a-of-requires
     b-of-requires
+    expr-of-requires
     callee-of-requires
     count-from-requires
     operand-kind-requires

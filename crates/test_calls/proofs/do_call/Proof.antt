@@ -1,7 +1,7 @@
 -- `test_calls::do_call` meets its contract.
 -- Assumes nothing.
-use Rattle.test_calls.proofs.Cases.{do-call-ways}
 use borrow.Author.Needs.{needs}
+use Rattle.test_calls.proofs.Cases.{do-call-ways}
 use Rattle.test_calls.proofs.do_call.Statement.{statement}
 use Rattle.test_calls.proofs.do_call.Tie as tie
 
@@ -28,11 +28,24 @@ returns-2 : tie.Need-returns-2
 returns-2 c =
     search do-call-ways
 
-do-step-requires : tie.Need-do-step-requires
-do-step-requires c κs = search needs
+slice-aggregate-starts-with-2 : tie.Need-slice-aggregate-starts-with-2
+slice-aggregate-starts-with-2 c = search needs
+
+starts-with-requires-2 : tie.Need-starts-with-requires-2
+starts-with-requires-2 c κs = search needs
+
+read-resume-requires : tie.Need-read-resume-requires
+read-resume-requires c κs = search needs
 
 returns-3 : tie.Need-returns-3
 returns-3 c =
+    search do-call-ways
+
+do-step-requires : tie.Need-do-step-requires
+do-step-requires c κs = search needs
+
+returns-4 : tie.Need-returns-4
+returns-4 c =
     search do-call-ways
 
 pub do-call-spec : {M : Type 1} → statement M
@@ -46,5 +59,9 @@ do-call-spec =
     starts-with-requires
     read-run-requires
     returns-2
+    slice-aggregate-starts-with-2
+    starts-with-requires-2
+    read-resume-requires
+    returns-3
     do-step-requires
-    returns-3)
+    returns-4)

@@ -1,11 +1,17 @@
 -- `test_cases::check_source` meets its contract.
 -- Assumes nothing.
+use borrow.Author.Needs.{needs}
+use Rattle.test_cases.proofs.Cases.{check-source-is}
 use Prim.Native.Nat.{ℕ}
 use lib.ListN.{length-replicate}
-use Rattle.test_cases.proofs.Cases.{check-source-is}
-use borrow.Author.Needs.{needs}
 use Rattle.test_cases.proofs.check_source.Statement.{statement}
 use Rattle.test_cases.proofs.check_source.Tie as tie
+
+lister-words-requires : tie.Need-lister-words-requires
+lister-words-requires c κs = search needs
+
+lister-names-requires : tie.Need-lister-names-requires
+lister-names-requires c κs = search needs
 
 slice-aggregate-check : tie.Need-slice-aggregate-check
 slice-aggregate-check c = search needs
@@ -21,6 +27,12 @@ slice-aggregate-check-4 c = search needs
 
 slice-aggregate-check-5 : tie.Need-slice-aggregate-check-5
 slice-aggregate-check-5 c = search needs
+
+slice-aggregate-check-6 : tie.Need-slice-aggregate-check-6
+slice-aggregate-check-6 c = search needs
+
+slice-aggregate-check-7 : tie.Need-slice-aggregate-check-7
+slice-aggregate-check-7 c = search needs
 
 check-requires : tie.Need-check-requires
 check-requires c κs = search needs
@@ -51,7 +63,9 @@ copy-bytes-requires-2 c κs = search needs
 
 returns : tie.Need-returns
 returns c =
-    check-source-is _ _ _ _ _ _ _ _ _ _ _ _ _ _ _ _ _ _ (length-replicate {A = ℕ} 32768 0) (length-replicate {A = ℕ} 27648 0) (length-replicate {A = ℕ} 1024 0) (length-replicate {A = ℕ} 16384 0) (length-replicate {A = ℕ} 32768 0)
+    check-source-is _ _ _ _ _ _ _ _ _ _ _ _ _ _ _ _ _ _ _ _ (length-replicate {A = ℕ} 32768 0) (length-replicate {A = ℕ} 27648 0) (length-replicate {A = ℕ} 1024 0) (length-replicate {A = ℕ} 16384 0) (length-replicate {A = ℕ} 32768 0)
+    (c .before .before .before .before .before .before .before .before .before .before .before .before .before .before .before .before .before .before .before .before .before .before .before .before .before .before .lister-words .ensures)
+    (c .before .before .before .before .before .before .before .before .before .before .before .before .before .before .before .before .before .before .before .before .before .before .before .before .before .lister-names .ensures)
     (c .before .before .before .before .before .before .before .before .before .before .before .before .before .before .before .before .before .check .ensures)
     (c .before .before .before .before .before .before .before .before .before .put-words .ensures)
     (c .before .before .before .before .before .before .put-words2 .ensures)
@@ -62,11 +76,15 @@ pub check-source-spec : {M : Type 1} → statement M
 check-source-spec =
     tie.close
     (tie.spec
+    lister-words-requires
+    lister-names-requires
     slice-aggregate-check
     slice-aggregate-check-2
     slice-aggregate-check-3
     slice-aggregate-check-4
     slice-aggregate-check-5
+    slice-aggregate-check-6
+    slice-aggregate-check-7
     check-requires
     slice-aggregate-put-words
     put-words-requires

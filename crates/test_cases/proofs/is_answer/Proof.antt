@@ -1,7 +1,7 @@
 -- `test_cases::is_answer` meets its contract.
 -- Assumes nothing.
-use Rattle.test_cases.proofs.Cases.{is-answer-ways}
 use borrow.Author.Needs.{needs}
+use Rattle.test_cases.proofs.Cases.{is-answer-ways}
 use Rattle.test_cases.proofs.is_answer.Statement.{statement}
 use Rattle.test_cases.proofs.is_answer.Tie as tie
 
@@ -75,6 +75,16 @@ returns-7 : tie.Need-returns-7
 returns-7 c =
     search is-answer-ways
 
+slice-aggregate-starts-with-8 : tie.Need-slice-aggregate-starts-with-8
+slice-aggregate-starts-with-8 c = search needs
+
+starts-with-requires-8 : tie.Need-starts-with-requires-8
+starts-with-requires-8 c κs = search needs
+
+returns-8 : tie.Need-returns-8
+returns-8 c =
+    search is-answer-ways
+
 pub is-answer-spec : {M : Type 1} → statement M
 is-answer-spec =
     tie.close
@@ -99,4 +109,7 @@ is-answer-spec =
     returns-6
     slice-aggregate-starts-with-7
     starts-with-requires-7
-    returns-7)
+    returns-7
+    slice-aggregate-starts-with-8
+    starts-with-requires-8
+    returns-8)

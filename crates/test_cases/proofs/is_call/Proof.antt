@@ -1,7 +1,7 @@
 -- `test_cases::is_call` meets its contract.
 -- Assumes nothing.
-use Rattle.test_cases.proofs.Cases.{is-call-ways}
 use borrow.Author.Needs.{needs}
+use Rattle.test_cases.proofs.Cases.{is-call-ways}
 use Rattle.test_cases.proofs.is_call.Statement.{statement}
 use Rattle.test_cases.proofs.is_call.Tie as tie
 
@@ -22,14 +22,24 @@ returns-2 : tie.Need-returns-2
 returns-2 c =
     search is-call-ways
 
+slice-aggregate-starts-with-2 : tie.Need-slice-aggregate-starts-with-2
+slice-aggregate-starts-with-2 c = search needs
+
+starts-with-requires-2 : tie.Need-starts-with-requires-2
+starts-with-requires-2 c κs = search needs
+
+returns-3 : tie.Need-returns-3
+returns-3 c =
+    search is-call-ways
+
 slice-aggregate-same : tie.Need-slice-aggregate-same
 slice-aggregate-same c = search needs
 
 same-requires : tie.Need-same-requires
 same-requires c κs = search needs
 
-returns-3 : tie.Need-returns-3
-returns-3 c =
+returns-4 : tie.Need-returns-4
+returns-4 c =
     search is-call-ways
 
 pub is-call-spec : {M : Type 1} → statement M
@@ -41,6 +51,9 @@ is-call-spec =
     slice-aggregate-starts-with
     starts-with-requires
     returns-2
+    slice-aggregate-starts-with-2
+    starts-with-requires-2
+    returns-3
     slice-aggregate-same
     same-requires
-    returns-3)
+    returns-4)

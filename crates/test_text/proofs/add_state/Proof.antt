@@ -1,7 +1,7 @@
 -- `test_text::add_state` meets its contract.
 -- Assumes nothing.
-use Rattle.test_text.proofs.Cases.{states}
 use borrow.Author.Needs.{needs}
+use Rattle.test_text.proofs.Cases.{states}
 use Rattle.test_text.proofs.add_state.Statement.{statement}
 use Rattle.test_text.proofs.add_state.Tie as tie
 
@@ -26,6 +26,12 @@ enum-known-q-2 c = search needs
 add-stopped-requires : tie.Need-add-stopped-requires
 add-stopped-requires c κs = search needs
 
+enum-known-q-3 : tie.Need-enum-known-q-3
+enum-known-q-3 c = search needs
+
+add-paused-requires : tie.Need-add-paused-requires
+add-paused-requires c κs = search needs
+
 returns : tie.Need-returns
 returns c =
     search states
@@ -36,6 +42,10 @@ returns-2 c =
 
 returns-3 : tie.Need-returns-3
 returns-3 c =
+    search states
+
+returns-4 : tie.Need-returns-4
+returns-4 c =
     search states
 
 pub add-state-spec : {M : Type 1} → statement M
@@ -49,6 +59,9 @@ add-state-spec =
     add-finished-requires
     enum-known-q-2
     add-stopped-requires
+    enum-known-q-3
+    add-paused-requires
     returns
     returns-2
-    returns-3)
+    returns-3
+    returns-4)

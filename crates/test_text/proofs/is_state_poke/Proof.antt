@@ -44,8 +44,21 @@ returns-3 : tie.Need-returns-3
 returns-3 c =
     search state-names
 
+slice-aggregate-has-word-4 : tie.Need-slice-aggregate-has-word-4
+slice-aggregate-has-word-4 c = search needs
+
+has-word-requires-4 : tie.Need-has-word-requires-4
+has-word-requires-4 c κs = search needs
+
+is-pause-poke-requires : tie.Need-is-pause-poke-requires
+is-pause-poke-requires c κs = search needs
+
 returns-4 : tie.Need-returns-4
 returns-4 c =
+    search state-names
+
+returns-5 : tie.Need-returns-5
+returns-5 c =
     search state-names
 
 pub is-state-poke-spec : {M : Type 1} → statement M
@@ -64,4 +77,8 @@ is-state-poke-spec =
     has-word-requires-3
     has-values-requires-3
     returns-3
-    returns-4)
+    slice-aggregate-has-word-4
+    has-word-requires-4
+    is-pause-poke-requires
+    returns-4
+    returns-5)

@@ -1,7 +1,7 @@
 -- `test_text::poke_state` meets its contract.
 -- Assumes nothing.
-use Rattle.test_text.proofs.Cases.{state-pokes}
 use borrow.Author.Needs.{needs}
+use Rattle.test_text.proofs.Cases.{state-pokes}
 use Rattle.test_text.proofs.poke_state.Statement.{statement}
 use Rattle.test_text.proofs.poke_state.Tie as tie
 
@@ -43,11 +43,27 @@ returns-2 : tie.Need-returns-2
 returns-2 c =
     search state-pokes
 
+slice-aggregate-has-word-3 : tie.Need-slice-aggregate-has-word-3
+slice-aggregate-has-word-3 c = search needs
+
+has-word-requires-3 : tie.Need-has-word-requires-3
+has-word-requires-3 c κs = search needs
+
+pause-in-requires : tie.Need-pause-in-requires
+pause-in-requires c κs = search needs
+
 with-state-requires-3 : tie.Need-with-state-requires-3
 with-state-requires-3 c κs = search needs
 
 returns-3 : tie.Need-returns-3
 returns-3 c =
+    search state-pokes
+
+with-state-requires-4 : tie.Need-with-state-requires-4
+with-state-requires-4 c κs = search needs
+
+returns-4 : tie.Need-returns-4
+returns-4 c =
     search state-pokes
 
 pub poke-state-spec : {M : Type 1} → statement M
@@ -66,5 +82,10 @@ poke-state-spec =
     narrow-requires-2
     with-state-requires-2
     returns-2
+    slice-aggregate-has-word-3
+    has-word-requires-3
+    pause-in-requires
     with-state-requires-3
-    returns-3)
+    returns-3
+    with-state-requires-4
+    returns-4)

@@ -1,17 +1,15 @@
-use borrow.Author.Needs.{needs}
 use Rattle.vm_guard.proofs.Cases.{frames-ways}
-use native.Mathlib.Omega.{arith}
-use mathlib.Core.Path.{_≡_, refl, sym, _∙_, ap, subst}
+use borrow.Author.Needs.{needs}
 use Rattle.vm_guard.proofs.find_frames.Statement.{statement}
 use Rattle.vm_guard.proofs.find_frames.Tie as tie
 use Rattle.vm_guard.proofs.find_frames.Reads as reads
 use Rattle.vm_guard.proofs.find_frames.Lts as lts
 use Rattle.vm_guard.proofs.find_left.Reads as find-left-reads
 use Rattle.vm_guard.proofs.frame_ends.Reads as frame-ends-reads
-use Rattle.vm_guard.proofs.is_return.Reads as is-return-reads
+use Rattle.vm_guard.proofs.leaves_frame.Reads as leaves-frame-reads
 
-is-return-requires : tie.Need-is-return-requires
-is-return-requires c κs = search needs
+leaves-frame-requires : tie.Need-leaves-frame-requires
+leaves-frame-requires c κs = search needs
 
 frame-ends-requires : tie.Need-frame-ends-requires
 frame-ends-requires c κs = search needs
@@ -35,7 +33,7 @@ pub find-frames-spec : {M : Type 1} → statement M
 find-frames-spec =
     tie.close
     (tie.spec
-    is-return-requires
+    leaves-frame-requires
     frame-ends-requires
     find-left-requires
     returns

@@ -1,17 +1,15 @@
-use borrow.Author.Needs.{needs}
 use Rattle.vm_guard.proofs.Cases.{kept-ways}
-use native.Mathlib.Omega.{arith}
-use mathlib.Core.Path.{_≡_, refl, sym, _∙_, ap, subst}
+use borrow.Author.Needs.{needs}
 use Rattle.vm_guard.proofs.has_kept.Statement.{statement}
 use Rattle.vm_guard.proofs.has_kept.Tie as tie
 use Rattle.vm_guard.proofs.has_kept.Reads as reads
 use Rattle.vm_guard.proofs.has_kept.Lts as lts
-use Rattle.vm_guard.proofs.is_return.Reads as is-return-reads
-use Rattle.vm_guard.proofs.leaves_good.Reads as leaves-good-reads
-use Rattle.vm_guard.proofs.top_at.Reads as top-at-reads
 use Rattle.prog_tables.proofs.a_at.Reads as a-at-reads
 use Rattle.prog_tables.proofs.kind_at.Reads as kind-at-reads
 use Rattle.prog_tables.proofs.word_at.Reads as word-at-reads
+use Rattle.vm_guard.proofs.leaves_frame.Reads as leaves-frame-reads
+use Rattle.vm_guard.proofs.leaves_good.Reads as leaves-good-reads
+use Rattle.vm_guard.proofs.top_at.Reads as top-at-reads
 
 kind-at-requires : tie.Need-kind-at-requires
 kind-at-requires c κs = search needs
@@ -35,21 +33,21 @@ returns : tie.Need-returns
 returns c =
     search kept-ways
 
-top-at-requires : tie.Need-top-at-requires
-top-at-requires c κs = search needs
+leaves-frame-requires : tie.Need-leaves-frame-requires
+leaves-frame-requires c κs = search needs
 
-cast-result-2 : tie.Need-cast-result-2
-cast-result-2 c = search needs
+leaves-good-requires : tie.Need-leaves-good-requires
+leaves-good-requires c κs = search needs
 
 returns-2 : tie.Need-returns-2
 returns-2 c =
     search kept-ways
 
-is-return-requires : tie.Need-is-return-requires
-is-return-requires c κs = search needs
+top-at-requires : tie.Need-top-at-requires
+top-at-requires c κs = search needs
 
-leaves-good-requires : tie.Need-leaves-good-requires
-leaves-good-requires c κs = search needs
+cast-result-2 : tie.Need-cast-result-2
+cast-result-2 c = search needs
 
 returns-3 : tie.Need-returns-3
 returns-3 c =
@@ -70,10 +68,10 @@ has-kept-spec =
     word-at-requires
     cast-result
     returns
+    leaves-frame-requires
+    leaves-good-requires
+    returns-2
     top-at-requires
     cast-result-2
-    returns-2
-    is-return-requires
-    leaves-good-requires
     returns-3
     returns-4)

@@ -1,6 +1,4 @@
 use Rattle.vm_guard.proofs.Cases.{calling-ways}
-use native.Mathlib.Omega.{arith}
-use mathlib.Core.Path.{_≡_, refl, sym, _∙_, ap, subst}
 use borrow.Author.Needs.{needs}
 use Rattle.vm_guard.proofs.is_calling.Statement.{statement}
 use Rattle.vm_guard.proofs.is_calling.Tie as tie
@@ -8,6 +6,7 @@ use Rattle.vm_guard.proofs.is_calling.Reads as reads
 use Rattle.vm_guard.proofs.is_calling.Lts as lts
 use Rattle.prog_tables.proofs.expression_at.Reads as expression-at-reads
 use Rattle.prog_tables.proofs.has_expression.Reads as has-expression-reads
+use Rattle.prog_tables.proofs.is_call_expression.Reads as is-call-expression-reads
 use Rattle.prog_tables.proofs.kind_at.Reads as kind-at-reads
 
 kind-at-requires : tie.Need-kind-at-requires
@@ -22,6 +21,9 @@ has-expression-requires c κs = search needs
 
 expression-at-requires : tie.Need-expression-at-requires
 expression-at-requires c κs = search needs
+
+is-call-expression-requires : tie.Need-is-call-expression-requires
+is-call-expression-requires c κs = search needs
 
 returns-2 : tie.Need-returns-2
 returns-2 c =
@@ -39,5 +41,6 @@ is-calling-spec =
     returns
     has-expression-requires
     expression-at-requires
+    is-call-expression-requires
     returns-2
     returns-3)

@@ -5,7 +5,8 @@ use Rattle.vm_run.proofs.end_plain.Tie as tie
 use Rattle.vm_run.proofs.end_plain.Reads as reads
 use Rattle.vm_run.proofs.end_plain.Lts as lts
 use Rattle.vm_quick_calls.proofs.take_transfer.Reads as take-transfer-reads
-use Rattle.vm_run.proofs.step_within.Reads as step-within-reads
+use Rattle.vm_run.proofs.as_running.Reads as as-running-reads
+use Rattle.vm_run.proofs.take_step.Reads as take-step-reads
 
 -- src/lib.rt:124:9
 take-transfer-requires : tie.Need-take-transfer-requires
@@ -40,8 +41,11 @@ returns : tie.Need-returns
 returns c = search plain-ends
 
 -- src/lib.rt:158:13
-step-within-requires : tie.Need-step-within-requires
-step-within-requires c κs = search needs
+as-running-requires : tie.Need-as-running-requires
+as-running-requires c κs = search needs
+
+take-step-requires : tie.Need-take-step-requires
+take-step-requires c κs = search needs
 
 -- src/lib.rt:108:1
 same-length-3 : tie.Need-same-length-3
@@ -65,7 +69,7 @@ same-length-6 c = search needs
 
 -- src/lib.rt:108:1
 returns-3 : tie.Need-returns-3
-returns-3 c = search plain-ends
+returns-3 c = search (plain-ends, c .before .before .before .before .before .before .before .before .before .before .before .before .before .before .before .before .before .before .before .before .pre)
 
 pub end-plain-spec : {M : Type 1} → statement M
 end-plain-spec =
@@ -79,7 +83,8 @@ end-plain-spec =
     same-length
     same-length-2
     returns
-    step-within-requires
+    as-running-requires
+    take-step-requires
     same-length-3
     same-length-4
     returns-2

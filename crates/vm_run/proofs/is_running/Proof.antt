@@ -1,6 +1,4 @@
 use Rattle.vm_run.specs.Within.{isRunning}
-use native.Mathlib.Omega.{arith}
-use mathlib.Core.Path.{_≡_, refl, sym, _∙_, ap, subst}
 use borrow.Author.Needs.{needs}
 use Rattle.vm_run.proofs.is_running.Statement.{statement}
 use Rattle.vm_run.proofs.is_running.Tie as tie
@@ -15,6 +13,9 @@ enum-told-2 c = search needs
 
 enum-known-state : tie.Need-enum-known-state
 enum-known-state c = search needs
+
+enum-told-3 : tie.Need-enum-told-3
+enum-told-3 c = search needs
 
 returns : tie.Need-returns
 unfolding isRunning
@@ -31,6 +32,20 @@ unfolding isRunning
 returns-3 c =
     cc
 
+returns-4 : tie.Need-returns-4
+unfolding isRunning
+returns-4 c =
+    cc
+
 pub is-running-spec : {M : Type 1} → statement M
 is-running-spec =
-    tie.close (tie.spec enum-told enum-told-2 enum-known-state returns returns-2 returns-3)
+    tie.close
+    (tie.spec
+    enum-told
+    enum-told-2
+    enum-known-state
+    enum-told-3
+    returns
+    returns-2
+    returns-3
+    returns-4)

@@ -1,6 +1,4 @@
-use Rattle.vm_run.proofs.Cases.{taking, take-ready}
-use native.Mathlib.Omega.{arith}
-use mathlib.Core.Path.{_≡_, refl, sym, _∙_, ap, subst}
+use Rattle.vm_run.proofs.Cases.{taking, take-passed}
 use borrow.Author.Needs.{needs}
 use Rattle.vm_run.proofs.take_step.Statement.{statement}
 use Rattle.vm_run.proofs.take_step.Tie as tie
@@ -8,7 +6,7 @@ use Rattle.vm_run.proofs.take_step.Reads as reads
 use Rattle.vm_run.proofs.take_step.Lts as lts
 use Rattle.vm_guard.proofs.find_broken.Reads as find-broken-reads
 use Rattle.vm_run.proofs.give_back.Reads as give-back-reads
-use Rattle.vm_statements.proofs.execute.Reads as execute-reads
+use Rattle.vm_run.proofs.obey.Reads as obey-reads
 
 find-broken-requires : tie.Need-find-broken-requires
 find-broken-requires c κs = search needs
@@ -16,9 +14,9 @@ find-broken-requires c κs = search needs
 enum-told : tie.Need-enum-told
 enum-told c = search needs
 
-execute-requires : tie.Need-execute-requires
-execute-requires c κs =
-    take-ready _ _ _ _ _ _ _ _ _ (c .before .before .before .before .find-broken .ensures) (c .before .before .enum-told .given .1)
+obey-requires : tie.Need-obey-requires
+obey-requires c κs =
+    take-passed _ _ _ _ _ _ _ _ _ (c .before .before .before .before .find-broken .ensures) (c .before .before .enum-told .given .1)
 
 enum-known-b : tie.Need-enum-known-b
 enum-known-b c = search needs
@@ -62,7 +60,7 @@ take-step-spec =
     (tie.spec
     find-broken-requires
     enum-told
-    execute-requires
+    obey-requires
     enum-known-b
     give-back-requires
     enum-told-2

@@ -1,0 +1,4 @@
+pub mod First
+pub mod Cases
+pub mod Laws
+pub mod Examples
