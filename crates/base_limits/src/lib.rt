@@ -1,4 +1,6 @@
 // The machine's type: its limits as associated constants, and the run record.
+#![tactic(auto)]
+
 ghost use Rattle.std.specs.Prelude.{◌≡◌};
 ghost use Rattle.base_limits.specs.Limits.{limits_of};
 ghost use Rattle.base_limits.specs.Width.{bits_of, bytes_of, data_limit};
@@ -6,14 +8,14 @@ ghost use Rattle.base_limits.specs.Record.{fresh_of, going_on, moved_to, ended, 
 ghost use Rattle.base_limits.specs.declared.Width.TheVariants.{Bits32};
 
 // The width of a word.
-#[derive(Drop)]
+#[derive(Clone, Copy)]
 pub enum Width {
     Bits32,
     Bits16,
 }
 
 // A call to an imported function, which the host answers: the imported name's number, the number of arguments and their words, 0 beyond them.
-#[derive(Drop)]
+#[derive(Clone, Copy)]
 pub struct Pause {
     pub number: u32,
     pub count: u32,
@@ -28,7 +30,7 @@ pub struct Pause {
 }
 
 // The state of a run: running, finished with a value, stopped with a number at a statement, or paused at a call to an imported function.
-#[derive(Drop)]
+#[derive(Clone, Copy)]
 pub enum State {
     Running,
     Finished(u32),
@@ -37,7 +39,7 @@ pub enum State {
 }
 
 // The run record: the state, the next statement, the start of the frame in use, the stack words in use, the auto top.
-#[derive(Drop)]
+#[derive(Clone, Copy)]
 pub struct Machine {
     pub state: State,
     pub next: u32,

@@ -1,4 +1,6 @@
 // What two crates need: a total read of a byte, a table cleared, faults as keys.
+#![tactic(auto)]
+
 ghost use Rattle.std.specs.Prelude.{◌≡◌, ◌≤◌, ◌<◌, min, length, eqb};
 ghost use Rattle.base_prelude.specs.Bytes.{byte_at};
 ghost use Rattle.base_prelude.specs.Lists.{cleared_from, same_list};

@@ -1,4 +1,6 @@
 // Words of 32 bits: each function is the definition of specs/Word at the width 32.
+#![tactic(auto)]
+
 ghost use Rattle.std.specs.Prelude.{◌≡◌, ◌<◌, ◌≤◌};
 ghost use Rattle.base_word.specs.Word.{add_of, sub_of, mul_of};
 ghost use Rattle.base_word.specs.Word.{negative, magnitude, negated, signed_word, differ};

@@ -1,4 +1,5 @@
 // What the tracker, a C program, calls.
+#![tactic(auto)]
 ghost use Rattle.std.specs.Prelude.{◌≡◌, length};
 ghost use Rattle.base_limits.specs.declared.Width.TheVariants.{Bits32};
 ghost use Rattle.base_prelude.specs.Lists.{overlay};

@@ -1,4 +1,5 @@
 // Judges a source by every rule but 16, into scratch of the caller's; sees no lent buffer.
+#![tactic(auto)]
 ghost use Rattle.std.specs.Prelude.{◌≡◌, ◌≤◌, length};
 ghost use Rattle.base_limits.specs.Limits as limits;
 ghost use Rattle.res_exports.specs.Exports.{exported};
@@ -15,7 +16,7 @@ use prog_tables::Table;
 use res_data::Measured;
 
 // The numbers of tokens, statements, labels and data bytes.
-#[derive(Drop)]
+#[derive(Clone, Copy)]
 pub struct Counts {
     pub tokens: u32,
     pub statements: u32,

@@ -1,4 +1,5 @@
 // The reader of rule files: bytes to tables and data, or 40, 41, 16.
+#![tactic(auto)]
 ghost use Rattle.std.specs.Prelude.{◌≡◌, true, ◌*◌, ◌≤◌, length};
 ghost use Rattle.base_prelude.specs.Lists.{zeros, overlay};
 ghost use Rattle.base_limits.specs.Limits as limits;

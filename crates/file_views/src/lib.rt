@@ -1,1 +1,2 @@
 // Tables with zeros behind their rows: the same program.
+#![tactic(auto)]

@@ -1,4 +1,6 @@
 // Kinds of lines and statements: where each may stand, what it opens and closes.
+#![tactic(auto)]
+
 ghost use Rattle.std.specs.Prelude.{◌≡◌};
 ghost use Rattle.lang_kinds.specs.Kinds.{kinds_of};
 ghost use Rattle.lang_kinds.specs.Grounds.{grounds_of};

@@ -1,4 +1,6 @@
 // The reserved words: one constant table with the number and the operand counts of each, and the substitutes.
+#![tactic(auto)]
+
 ghost use Rattle.std.specs.Prelude.{◌≡◌, ◌+◌, ◌<◌, ◌≤◌, eqb, get_or};
 ghost use Rattle.base_prelude.specs.Bytes.{byte_at};
 ghost use Rattle.base_prelude.specs.Lists.{same_list};
@@ -141,7 +143,7 @@ impl Substitutes {
 }
 
 // A row of the table: the place of the word's first letter, its length, its number, the least and the most operand tokens.
-#[derive(Drop)]
+#[derive(Clone, Copy)]
 struct Row(usize, usize, u32, u32, u32);
 
 // The letters of all words, in the order of the rows.

@@ -1,4 +1,6 @@
 // Tokens as they are read: gaps, integers, symbols, strings, and the marks `%` and `@`.
+#![tactic(auto)]
+
 ghost use Rattle.std.specs.Prelude.{◌≡◌, ◌+◌, ◌*◌, ◌≤◌, ◌<◌, ◌-◌, ◌^◌, min, length};
 ghost use Rattle.base_limits.specs.Limits.{word_values};
 ghost use Rattle.base_limits.specs.Width.{bits_of};
@@ -33,7 +35,7 @@ pub enum Number {
 
 // A token: its kind, first byte, first byte of its text, next byte, its text's size and hash, an integer's word and whether
 // it is in range.
-#[derive(Drop)]
+#[derive(Clone, Copy)]
 pub struct Lexeme {
     pub kind: u32,
     pub first: usize,
@@ -47,7 +49,7 @@ pub struct Lexeme {
 
 // What is read at a place: the source's end, a byte that starts no token, a token with a bad escape, a string that does not
 // end, or a token.
-#[derive(Drop)]
+#[derive(Clone, Copy)]
 pub enum Reading {
     End,
     Lone(usize),

@@ -1,4 +1,6 @@
 // Characters and texts: continuations, escapes, and the decoded bytes of symbols and strings.
+#![tactic(auto)]
+
 ghost use Rattle.std.specs.Prelude.{◌≡◌, ◌+◌, ◌≤◌, ◌<◌, length};
 ghost use Rattle.base_prelude.specs.Lists.{same_list, overlay};
 ghost use Rattle.lex_spelling.specs.Classes.{is_blank, is_letter, is_digit, is_name_byte, is_separator};

@@ -1,4 +1,5 @@
 // Units and lines of tokens, and the rules that need no state.
+#![tactic(auto)]
 ghost use Rattle.std.specs.Prelude.{◌≡◌, ◌+◌, ◌*◌, ◌-◌, ◌^◌, ◌≤◌, ◌<◌, length};
 ghost use Rattle.base_limits.specs.Limits as limits;
 ghost use Rattle.lang_kinds.specs.TokenRow as field;
@@ -11,7 +12,7 @@ use lang_kinds::{Kind, Token, TokenRow};
 use lang_words::{Substitutes, Word};
 
 // A unit's first label or magic word, its magic word, and the token behind its line.
-#[derive(Drop)]
+#[derive(Clone, Copy)]
 pub struct Span {
     pub first: u32,
     pub word: u32,

@@ -1,4 +1,5 @@
 // The outline as a whole: statement rows, label rows, and the stage's answer.
+#![tactic(auto)]
 ghost use Rattle.std.specs.Prelude.{◌≡◌, ◌+◌, ◌*◌, ◌-◌, ◌≤◌, ◌<◌, length};
 ghost use Rattle.base_limits.specs.Limits as limits;
 ghost use Rattle.prog_tables.specs.Layout.{label_words};
@@ -38,7 +39,7 @@ pub enum Parsed {
 }
 
 // Between two units: the next token, the next row, the section, the labels so far.
-#[derive(Drop)]
+#[derive(Clone, Copy)]
 pub struct Marks {
     pub at: u32,
     pub row: u32,

@@ -1,4 +1,5 @@
 // Tokens to the outline: places, sections, nesting, labels and limits.
+#![tactic(auto)]
 ghost use Rattle.std.specs.Prelude.{◌≡◌, ◌+◌, ◌*◌, ◌-◌, ◌≤◌, ◌<◌, length, true, false};
 ghost use Rattle.base_limits.specs.Limits as limits;
 ghost use Rattle.base_prelude.specs.Choice.{if_eq, if_true};
@@ -91,7 +92,7 @@ pub fn all_outline_words() -> OutlineRows
 }
 
 // A row of the outline.
-#[derive(Drop)]
+#[derive(Clone, Copy)]
 pub struct Row {
     pub kind: u32,
     pub func: u32,
@@ -104,7 +105,7 @@ pub struct Row {
 }
 
 // The state between two units: the next token, the first free row, the open row, the section, locals in scope, open blocks, labels.
-#[derive(Drop)]
+#[derive(Clone, Copy)]
 pub struct State {
     pub at: u32,
     pub count: u32,

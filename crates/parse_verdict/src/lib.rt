@@ -1,1 +1,2 @@
 // No code: theorems on the verdict of the parser.
+#![tactic(auto)]

@@ -1,1 +1,2 @@
 // No code: theorems on well-formed tables.
+#![tactic(auto)]

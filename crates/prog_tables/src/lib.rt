@@ -1,4 +1,5 @@
 // What a program is: rows of statements and labels, operands.
+#![tactic(auto)]
 ghost use Rattle.std.specs.Prelude.{◌≡◌, ◌+◌, ◌≤◌, ◌<◌, length, get_or, []};
 ghost use Rattle.prog_tables.specs.Layout.{statement_row, operand_slots, sizes_of, numbers_of};
 ghost use Rattle.prog_tables.specs.Places.{place_of, kind_from, func_from, aFrom, bFrom, expr_from, address_kind, address_place, first_place, second_place, third_place, slot_place, slot_at, token_in, next_in};
@@ -10,7 +11,7 @@ use lang_kinds::Kind;
 use lang_words::Word;
 
 // An operand: a constant, a local's word, a data address, or the word at one of these. Unlisted is any other kind.
-#[derive(Drop)]
+#[derive(Clone, Copy)]
 pub enum Operand {
     Constant(u32),
     Local(u32),

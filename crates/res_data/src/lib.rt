@@ -1,4 +1,5 @@
 // The data image: how long data is, where each line of it stands, and its bytes.
+#![tactic(auto)]
 ghost use Rattle.std.specs.Prelude.{◌≡◌, ◌+◌, ◌-◌, ◌≤◌, ◌<◌, length};
 ghost use Rattle.base_limits.specs.Limits as limits;
 ghost use Rattle.base_prelude.specs.Lists.{overlay};
@@ -13,7 +14,7 @@ use lang_kinds::{Ground, Kind, TokenRow};
 use parse_lines::Span;
 
 // Between two units: the next token, the section, the bytes of data so far.
-#[derive(Drop)]
+#[derive(Clone, Copy)]
 pub struct Cursor {
     pub at: u32,
     pub section: u32,

@@ -1,4 +1,5 @@
 // What a name means at a statement: the let, parameter or label that has it; and the parts of a statement.
+#![tactic(auto)]
 ghost use Rattle.std.specs.Prelude.{◌≡◌, ◌+◌, ◌-◌, ◌≤◌, ◌<◌, min};
 ghost use Rattle.base_limits.specs.Limits as limits;
 ghost use Rattle.prog_tables.specs.Layout.{no_expression, call_expression};
@@ -14,7 +15,7 @@ use lang_words::Word;
 use prog_tables::{ExpressionKind, OutlineLabel, Table};
 
 // What a name means: the let at a row, a parameter by its number, a label by its number, or nothing.
-#[derive(Drop)]
+#[derive(Clone, Copy)]
 pub enum Meaning {
     Let(u32),
     Parameter(u32),
@@ -23,7 +24,7 @@ pub enum Meaning {
 }
 
 // The parts of a statement: the kind of its expression, the token of the function it calls (0: none), its first operand token.
-#[derive(Drop)]
+#[derive(Clone, Copy)]
 pub struct Parts {
     pub expr: u32,
     pub callee: u32,

@@ -1,1 +1,2 @@
 // Names as bytes: theorems alone.
+#![tactic(auto)]

@@ -1,4 +1,5 @@
 // Runs the lexer on the cases of standard input and prints those that differ.
+#![tactic(auto)]
 ghost use Rattle.std.specs.Prelude.{◌≤◌, ◌<◌, length};
 
 use base_limits::Machine;
@@ -19,7 +20,7 @@ type Source = [u8; Case::SOURCE];
 type Table = [u32; Machine::TOKEN_WORDS];
 
 // The lines and cases read, how many differ, and the case that is read.
-#[derive(Drop)]
+#[derive(Clone, Copy)]
 struct State {
     line: u64,
     cases: u64,
@@ -38,7 +39,7 @@ struct State {
 }
 
 // What the lexer answers: tokens, or a refusal (0: none).
-#[derive(Drop)]
+#[derive(Clone, Copy)]
 struct Answer {
     rows: usize,
     number: u32,

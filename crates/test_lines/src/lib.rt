@@ -1,4 +1,6 @@
 // Files of cases: lines, fields, numbers, source text with bytes in hex.
+#![tactic(auto)]
+
 ghost use Rattle.std.specs.Prelude.{◌≡◌, ◌-◌, ◌%◌, ◌<◌, ◌≤◌, length, take, drop};
 ghost use Rattle.base_limits.specs.Limits.{word_values};
 ghost use Rattle.test_lines.specs.Lines.{one_more, width_of, is_comment, line_end, starts_with, place_of};

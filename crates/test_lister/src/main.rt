@@ -1,4 +1,5 @@
 // Runs the check and the page on the cases of standard input and prints those that differ.
+#![tactic(auto)]
 ghost use Rattle.std.specs.Prelude.{◌≤◌, ◌<◌, length};
 
 use app_page::Page;
@@ -18,7 +19,7 @@ const PAGE: usize = 81920;
 type Text = [u8; Case::SOURCE];
 
 // The lines and cases read, how many differ, and the case that is read.
-#[derive(Drop)]
+#[derive(Clone, Copy)]
 struct State {
     line: u64,
     cases: u64,

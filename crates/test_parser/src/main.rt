@@ -1,4 +1,5 @@
 // Runs the parser on the cases of standard input and prints those that differ.
+#![tactic(auto)]
 ghost use Rattle.std.specs.Prelude.{◌≤◌, ◌<◌, length};
 
 use base_limits::Machine;
@@ -23,7 +24,7 @@ type Rows = [u32; Outline::WORDS];
 type Labels = [u32; Outline::LABEL_WORDS];
 
 // The lines and cases read, how many differ, and the case that is read.
-#[derive(Drop)]
+#[derive(Clone, Copy)]
 struct State {
     line: u64,
     cases: u64,
@@ -40,7 +41,7 @@ struct State {
 }
 
 // Statements and labels, or a refusal (0: none).
-#[derive(Drop)]
+#[derive(Clone, Copy)]
 struct Answer {
     number: u32,
     place: u64,

@@ -1,4 +1,5 @@
 // The state of a case: its source, what is lent, and what its lines change and compare between calls.
+#![tactic(auto)]
 ghost use Rattle.std.specs.Prelude.{◌≡◌};
 ghost use Rattle.test_lines.specs.Sources.{source};
 ghost use Rattle.test_state.specs.Progress.{on, all_lent, first_of, opened_of, failed_of, sized_of, bodied_of, checked_of, shown_of, answered_of, unanswered_of, counted_of, lent_of, machine_of};
@@ -41,7 +42,7 @@ impl Fault {
 }
 
 // Words and bytes lent of each buffer.
-#[derive(Drop)]
+#[derive(Clone, Copy)]
 pub struct Lent {
     pub statements: usize,
     pub labels: usize,
@@ -52,7 +53,7 @@ pub struct Lent {
 }
 
 // The counts handed to each call.
-#[derive(Drop)]
+#[derive(Clone, Copy)]
 pub struct Counts {
     pub statements: u32,
     pub labels: u32,
@@ -60,7 +61,7 @@ pub struct Counts {
 }
 
 // The lines and cases read, how many differ, and the case that is read.
-#[derive(Drop)]
+#[derive(Clone, Copy)]
 pub struct Progress {
     pub line: u64,
     pub cases: u64,

@@ -1,1 +1,2 @@
 // No code: theorems on the check as a whole.
+#![tactic(auto)]

@@ -1,1 +1,2 @@
 // No code: demand 3 for accepted sources.
+#![tactic(auto)]

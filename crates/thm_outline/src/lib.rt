@@ -1,1 +1,2 @@
 // No code: theorems on the rows and labels of an accepted outline.
+#![tactic(auto)]

@@ -1,1 +1,2 @@
 // No code: theorems on whole programs.
+#![tactic(auto)]

@@ -1,1 +1,2 @@
 // No code: theorems on the tables of an accepted source.
+#![tactic(auto)]

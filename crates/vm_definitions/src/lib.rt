@@ -1,4 +1,5 @@
 // The word machine: what a read, an expression, a return, a step and a start may come to.
+#![tactic(auto)]
 use base_limits::Machine;
 
 // An operand's word, or stop 32.
@@ -30,7 +31,7 @@ pub enum Resumption {
 }
 
 // Refusal 35: not given, given at a statement, given with no place.
-#[derive(Drop)]
+#[derive(Clone, Copy)]
 pub enum Broken {
     No,
     At(u32),
@@ -46,7 +47,7 @@ pub enum Started {
 }
 
 // What a step or a run gives back: the record, the steps counted, refusal 35.
-#[derive(Drop)]
+#[derive(Clone, Copy)]
 pub struct Outcome {
     pub machine: Machine,
     pub count: u64,

@@ -1,0 +1,10 @@
+use Rattle.base_prelude.specs.Fault.{key}
+use native.Mathlib.Omega.{arith}
+use mathlib.Core.Path.{◌≡◌, refl, sym, ◌∙◌, ap, subst}
+use borrow.Author.Rules.{rules}
+use Rattle.base_prelude.proofs.fault.Goals as goal
+
+pub returns : goal.returns
+unfolding key
+returns c =
+    search rules

@@ -1,0 +1,11 @@
+use Rattle.base_word.proofs.Laws.{magnitude-pos}
+use Rattle.std.proofs.Common.{arith, rules}
+use Rattle.base_word.proofs.left_over.Goals as goal
+
+pub nonzero_rem-magnitude_of : goal.nonzero_rem-magnitude_of
+nonzero_rem-magnitude_of c =
+    omega (arith, magnitude-pos 32 c.args.b (omega arith) (omega arith))
+
+pub returns : goal.returns
+returns c =
+    cc

@@ -1,0 +1,36 @@
+use borrow.Author.Rules.{rules}
+use Rattle.base_prelude.proofs.Choice.{tests}
+use Rattle.lang_kinds.specs.Nesting.{statement_in, rows_of, enters, leaves, ground_of, is_frame}
+use native.Mathlib.Omega.{arith}
+use mathlib.Core.Path.{◌≡◌, refl, sym, ◌∙◌, ap, subst}
+use Rattle.lang_kinds.proofs.ground_of.Goals as goal
+
+pub returns-then-k-eq-FUNCTION : goal.returns-then-k-eq-FUNCTION
+unfolding statement_in rows_of enters leaves ground_of is_frame
+returns-then-k-eq-FUNCTION c =
+    search tests depth 16
+
+pub returns-then-k-eq-BLOCK : goal.returns-then-k-eq-BLOCK
+unfolding statement_in rows_of enters leaves ground_of is_frame
+returns-then-k-eq-BLOCK c =
+    search tests depth 16
+
+pub returns-then-k-lt-IFEQ : goal.returns-then-k-lt-IFEQ
+unfolding statement_in rows_of enters leaves ground_of is_frame
+returns-then-k-lt-IFEQ c =
+    search tests depth 16
+
+pub returns-then-k-lt-ELSE : goal.returns-then-k-lt-ELSE
+unfolding statement_in rows_of enters leaves ground_of is_frame
+returns-then-k-lt-ELSE c =
+    search tests depth 16
+
+pub returns-then-k-eq-ELSE : goal.returns-then-k-eq-ELSE
+unfolding statement_in rows_of enters leaves ground_of is_frame
+returns-then-k-eq-ELSE c =
+    search tests depth 16
+
+pub returns : goal.returns
+unfolding statement_in rows_of enters leaves ground_of is_frame
+returns c =
+    search tests depth 16

@@ -1,0 +1,6 @@
+use borrow.Author.Rules.{rules}
+use Rattle.lang_words.proofs.agrees.Goals as goal
+
+pub returns : goal.returns
+returns c =
+    cc

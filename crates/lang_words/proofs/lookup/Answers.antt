@@ -1,0 +1,25 @@
+use borrow.Author.Rules.{rules}
+use Prim.Native.Nat.{◌-◌}
+use Rattle.lang_words.specs.Words.{is_spelled}
+use Rattle.lang_words.proofs.Searching.{Searching, named-fits, naming}
+use Rattle.lang_words.proofs.lookup.Goals as goal
+
+pub loop-k-init : goal.loop-k-init
+loop-k-init c =
+    search naming
+
+pub is_word-requires : goal.is_word-requires
+is_word-requires c =
+    search (named-fits)
+
+pub returns-then-is_word : goal.returns-then-is_word
+returns-then-is_word c =
+    search naming
+
+pub loop-k-preserved : goal.loop-k-preserved
+loop-k-preserved c =
+    search naming
+
+pub returns : goal.returns
+returns c =
+    search naming

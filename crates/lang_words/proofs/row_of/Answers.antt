@@ -1,0 +1,21 @@
+use borrow.Author.Rules.{rules}
+use Prim.Native.Nat.{◌-◌}
+use Rattle.lang_words.specs.Words.{is_number}
+use Rattle.lang_words.proofs.Searching.{Searching, numbering}
+use Rattle.lang_words.proofs.row_of.Goals as goal
+
+pub loop-k-init : goal.loop-k-init
+loop-k-init c =
+    search numbering
+
+pub returns-then-row-number : goal.returns-then-row-number
+returns-then-row-number c =
+    search numbering
+
+pub loop-k-preserved : goal.loop-k-preserved
+loop-k-preserved c =
+    search numbering
+
+pub returns : goal.returns
+returns c =
+    search numbering

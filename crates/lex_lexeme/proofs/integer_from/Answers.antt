@@ -1,0 +1,13 @@
+use Rattle.lex_lexeme.proofs.Cases.{integers}
+use native.Mathlib.Omega.{arith}
+use mathlib.Core.Path.{◌≡◌, refl, sym, ◌∙◌, ap, subst}
+use borrow.Author.Rules.{rules}
+use Rattle.lex_lexeme.proofs.integer_from.Goals as goal
+
+pub returns-in-Word : goal.returns-in-Word
+returns-in-Word c =
+    search integers
+
+pub returns-in-OutOfRange : goal.returns-in-OutOfRange
+returns-in-OutOfRange c =
+    search integers

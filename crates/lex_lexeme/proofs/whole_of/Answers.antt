@@ -1,0 +1,13 @@
+use Rattle.lex_lexeme.proofs.Digits.{widths}
+use native.Mathlib.Omega.{arith}
+use mathlib.Core.Path.{◌≡◌, refl, sym, ◌∙◌, ap, subst}
+use borrow.Author.Rules.{rules}
+use Rattle.lex_lexeme.proofs.whole_of.Goals as goal
+
+pub returns-in-Bits32 : goal.returns-in-Bits32
+returns-in-Bits32 c =
+    search widths
+
+pub returns-in-Bits16 : goal.returns-in-Bits16
+returns-in-Bits16 c =
+    search widths

@@ -1,0 +1,15 @@
+use Rattle.lex_spelling.specs.Text.{escaped}
+use native.Mathlib.Omega.{arith}
+use mathlib.Core.Path.{◌≡◌, refl, sym, ◌∙◌, ap, subst}
+use borrow.Author.Rules.{rules}
+use Rattle.lex_spelling.proofs.as_character.Goals as goal
+
+pub returns-in-Byte : goal.returns-in-Byte
+unfolding escaped
+returns-in-Byte c =
+    cc
+
+pub returns-in-Bad : goal.returns-in-Bad
+unfolding escaped
+returns-in-Bad c =
+    cc

@@ -1,0 +1,23 @@
+use borrow.Author.Rules.{rules}
+use Prim.Native.Nat.{◌-◌}
+use lib.ListN.{length}
+use Rattle.lex_spelling.proofs.Ends.{Blanks, blanking}
+use native.Mathlib.Omega.{arith}
+use mathlib.Core.Path.{◌≡◌, refl, sym, ◌∙◌, ap, subst}
+use Rattle.lex_spelling.proofs.blanks_end.Goals as goal
+
+pub loop-i-init : goal.loop-i-init
+loop-i-init c =
+    search blanking
+
+pub loop-i-preserved : goal.loop-i-preserved
+loop-i-preserved c =
+    search blanking
+
+pub returns-else-is_blank : goal.returns-else-is_blank
+returns-else-is_blank c =
+    search blanking
+
+pub returns : goal.returns
+returns c =
+    search blanking

@@ -1,0 +1,31 @@
+use borrow.Author.Rules.{rules}
+use Prim.Native.Nat.{◌-◌}
+use lib.ListN.{length}
+use Rattle.lex_spelling.proofs.Loops.{Copying, copying, copying-byte}
+use native.Mathlib.Omega.{arith}
+use mathlib.Core.Path.{◌≡◌, refl, sym, ◌∙◌, ap, subst}
+use Rattle.lex_spelling.proofs.copy_text.Goals as goal
+
+pub loop-k-init : goal.loop-k-init
+loop-k-init c =
+    search copying
+
+pub narrow-requires : goal.narrow-requires
+narrow-requires c =
+    search copying-byte
+
+pub loop-k-preserved : goal.loop-k-preserved
+loop-k-preserved c =
+    search copying
+
+pub returns-in-Broken : goal.returns-in-Broken
+returns-in-Broken c =
+    search copying
+
+pub returns-in-Stop : goal.returns-in-Stop
+returns-in-Stop c =
+    search copying
+
+pub returns : goal.returns
+returns c =
+    search copying

@@ -1,0 +1,27 @@
+use borrow.Author.Rules.{rules}
+use Prim.Native.Nat.{◌-◌}
+use lib.ListN.{length}
+use Rattle.lex_spelling.proofs.Ends.{Joins, joining, joins-less}
+use native.Mathlib.Omega.{arith}
+use mathlib.Core.Path.{◌≡◌, refl, sym, ◌∙◌, ap, subst}
+use Rattle.lex_spelling.proofs.join.Goals as goal
+
+pub loop-i-init : goal.loop-i-init
+loop-i-init c =
+    search joining
+
+pub loop-i-smaller : goal.loop-i-smaller
+loop-i-smaller c =
+    search joins-less
+
+pub loop-i-preserved : goal.loop-i-preserved
+loop-i-preserved c =
+    search joining
+
+pub returns-else-is_joint : goal.returns-else-is_joint
+returns-else-is_joint c =
+    search joining
+
+pub returns : goal.returns
+returns c =
+    search joining

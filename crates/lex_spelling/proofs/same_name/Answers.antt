@@ -1,0 +1,27 @@
+use borrow.Author.Rules.{rules}
+use Prim.Native.Nat.{◌-◌}
+use lib.ListN.{length}
+use Rattle.lex_spelling.proofs.Loops.{Comparing, comparing, comparing-less}
+use native.Mathlib.Omega.{arith}
+use mathlib.Core.Path.{◌≡◌, refl, sym, ◌∙◌, ap, subst}
+use Rattle.lex_spelling.proofs.same_name.Goals as goal
+
+pub loop-one-init : goal.loop-one-init
+loop-one-init c =
+    search (comparing, rules)
+
+pub loop-one-smaller : goal.loop-one-smaller
+loop-one-smaller c =
+    search comparing-less
+
+pub loop-one-preserved : goal.loop-one-preserved
+loop-one-preserved c =
+    search comparing
+
+pub returns-in-Differ : goal.returns-in-Differ
+returns-in-Differ c =
+    search comparing
+
+pub returns-in-Ended : goal.returns-in-Ended
+returns-in-Ended c =
+    search comparing

@@ -1,0 +1,16 @@
+use Rattle.std.proofs.Common.{◌≡◌, ◌-◌, sym, refl, ap, ◌∙◌, subst, arith, rules}
+use Rattle.test_lines.specs.Sources.{source}
+use Rattle.test_lines.proofs.Loops.{Repeating, repeating}
+use Rattle.test_lines.proofs.add_times.Goals as goal
+
+pub loop-k-init : goal.loop-k-init
+loop-k-init c =
+    search repeating
+
+pub loop-k-preserved : goal.loop-k-preserved
+loop-k-preserved c =
+    search repeating
+
+pub returns : goal.returns
+returns c =
+    search repeating

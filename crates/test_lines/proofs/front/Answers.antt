@@ -1,0 +1,11 @@
+use Rattle.test_lines.proofs.Cases.{fronts}
+use Rattle.std.proofs.Common.{◌≡◌, sym, refl, ap, ◌∙◌, subst, arith, rules}
+use Rattle.test_lines.proofs.front.Goals as goal
+
+pub returns-then-size-text : goal.returns-then-size-text
+returns-then-size-text c =
+    search fronts
+
+pub returns : goal.returns
+returns c =
+    search fronts

@@ -1,0 +1,11 @@
+use Rattle.test_lines.proofs.Cases.{numbers}
+use Rattle.std.proofs.Common.{◌≡◌, sym, refl, ap, ◌∙◌, subst, arith, rules}
+use Rattle.test_lines.proofs.number_at.Goals as goal
+
+pub returns-then-c-gt57 : goal.returns-then-c-gt57
+returns-then-c-gt57 c =
+    search numbers
+
+pub returns : goal.returns
+returns c =
+    search numbers

@@ -1,0 +1,14 @@
+use Rattle.std.proofs.Common.{◌≡◌, sym, refl, ap, ◌∙◌, subst, arith, rules}
+use Rattle.base_prelude.proofs.Choice.{tests}
+use Rattle.test_lines.specs.Sources.{spelled_size}
+use Rattle.test_lines.proofs.spelled_size.Goals as goal
+
+pub returns-then-c-eq126 : goal.returns-then-c-eq126
+unfolding spelled_size
+returns-then-c-eq126 c =
+    (search tests, search rules)
+
+pub returns : goal.returns
+unfolding spelled_size
+returns c =
+    (search tests, search rules)
