@@ -135,6 +135,7 @@ def main():
             except Exception as e:  # left as it is, and named
                 print(f"{where}: {e!r}")
         print(f"{crate}: {count} turned")
+        subprocess.run([sys.executable, os.path.join(os.path.dirname(os.path.abspath(__file__)), "name_clauses.py"), crate], stdout=subprocess.DEVNULL)
 
 
 main()

@@ -1,5 +1,6 @@
 // The lister's page.
 #![tactic(auto)]
+
 ghost use Rattle.std.specs.Prelude.{◌≡◌, [], ◌∷◌, ◌++◌, ◌+◌, ◌*◌, ◌/◌, ◌%◌, ◌≤◌, ◌<◌, length, take, drop};
 ghost use Rattle.base_limits.specs.Limits.{word_values};
 ghost use Rattle.prog_tables.specs.Label.{label_at};

@@ -1,4 +1,4 @@
-// What the tracker, a C program, calls.
+// What the tracker, a C program, calls; crates/c_voodoo_c exports it.
 #![tactic(auto)]
 ghost use Rattle.std.specs.Prelude.{◌≡◌, length};
 ghost use Rattle.base_limits.specs.declared.Width.TheVariants.{Bits32};
@@ -37,8 +37,7 @@ fn put_answer(x: Checked, out: &mut [u32]) -> u32
 }
 
 // Checks a source of 32-bit words against the host's list; include/voodoo.h says how it is called from C.
-#[unsafe(no_mangle)]
-pub extern "C" fn voodoo_check(
+pub fn voodoo_check(
     source: &[u8],
     hosts: &[u32],
     host_names: &[u8],
@@ -66,8 +65,7 @@ pub extern "C" fn voodoo_check(
 }
 
 // Starts the exported function of that name; include/voodoo.h says how it is called from C.
-#[unsafe(no_mangle)]
-pub extern "C" fn voodoo_start(
+pub fn voodoo_start(
     statements: &[u32],
     count: u32,
     labels: &[u32],
@@ -105,8 +103,7 @@ pub extern "C" fn voodoo_start(
 }
 
 // One step of the lent record; include/voodoo.h says how it is called from C.
-#[unsafe(no_mangle)]
-pub extern "C" fn voodoo_step(
+pub fn voodoo_step(
     statements: &[u32],
     count: u32,
     labels: &[u32],
@@ -141,8 +138,7 @@ pub extern "C" fn voodoo_step(
 }
 
 // Steps of the lent record within a budget; include/voodoo.h says how it is called from C.
-#[unsafe(no_mangle)]
-pub extern "C" fn voodoo_run(
+pub fn voodoo_run(
     statements: &[u32],
     count: u32,
     labels: &[u32],
@@ -179,8 +175,7 @@ pub extern "C" fn voodoo_run(
 }
 
 // Going on with a paused record, the word handed in as the result of its call; include/voodoo.h says how it is called from C.
-#[unsafe(no_mangle)]
-pub extern "C" fn voodoo_resume(
+pub fn voodoo_resume(
     statements: &[u32],
     count: u32,
     labels: &[u32],

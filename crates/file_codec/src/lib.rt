@@ -1,5 +1,6 @@
 // The codecs of rule files: which words of a row a file has; words, fields, rows and labels read.
 #![tactic(auto)]
+
 ghost use Rattle.std.specs.Prelude.{◌≡◌, ◌+◌, ◌*◌, ◌≤◌, ◌<◌, get_or, eqb, min, length};
 ghost use Rattle.prog_tables.specs.StatementRow as row;
 ghost use Rattle.prog_tables.specs.WellFormed.{has_operands};

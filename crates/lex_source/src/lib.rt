@@ -1,5 +1,6 @@
 // Source bytes to the token table.
 #![tactic(auto)]
+
 ghost use Rattle.std.specs.Prelude.{◌≡◌, ◌+◌, ◌*◌, ◌≤◌, ◌<◌, ◌-◌, min, length, take, []};
 ghost use Rattle.base_limits.specs.Limits as limits;
 ghost use Rattle.base_prelude.specs.Fault.{none};

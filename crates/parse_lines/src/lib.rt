@@ -1,5 +1,6 @@
 // Units and lines of tokens, and the rules that need no state.
 #![tactic(auto)]
+
 ghost use Rattle.std.specs.Prelude.{◌≡◌, ◌+◌, ◌*◌, ◌-◌, ◌^◌, ◌≤◌, ◌<◌, length};
 ghost use Rattle.base_limits.specs.Limits as limits;
 ghost use Rattle.lang_kinds.specs.TokenRow as field;

@@ -1,5 +1,6 @@
 // Tokens to the outline: places, sections, nesting, labels and limits.
 #![tactic(auto)]
+
 ghost use Rattle.std.specs.Prelude.{◌≡◌, ◌+◌, ◌*◌, ◌-◌, ◌≤◌, ◌<◌, length, true, false};
 ghost use Rattle.base_limits.specs.Limits as limits;
 ghost use Rattle.base_prelude.specs.Choice.{if_eq, if_true};

@@ -1,5 +1,6 @@
 // Broken rows: refusal 35 for a statement row.
 #![tactic(auto)]
+
 ghost use Rattle.std.specs.Prelude.{◌≡◌, [], ◌∷◌, ◌+◌, ◌*◌, ◌≤◌, ◌<◌, min, eqb};
 ghost use Rattle.prog_tables.specs.Tests.{one_of, some};
 ghost use Rattle.prog_tables.specs.Statement.{used_by, row_at};

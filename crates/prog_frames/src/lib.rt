@@ -1,5 +1,6 @@
 // Nesting and frames: targets, what a frame needs, the words of lets and blocks, the locals in scope.
 #![tactic(auto)]
+
 ghost use Rattle.std.specs.Prelude.{◌≡◌, ◌+◌, ◌*◌, ◌≤◌, ◌<◌, max};
 ghost use Rattle.base_limits.specs.Limits.{statements};
 ghost use Rattle.prog_tables.specs.Statement.{row_at};

@@ -1,5 +1,6 @@
 // The host's list: which entry a name means, and the imported names of tables against it.
 #![tactic(auto)]
+
 ghost use Rattle.std.specs.Prelude.{◌≡◌, ◌+◌, ◌*◌, ◌<◌, get_or};
 ghost use Rattle.prog_tables.specs.Layout.{host_row, host_entries};
 ghost use Rattle.prog_tables.specs.Tests.{all_below};

@@ -113,13 +113,13 @@ module _ (f : ℕ → Row) (c : ℕ) (ok : (n : ℕ) → n < c → stands f n �
   module _ (flat : (s : ℕ) → s < c → depth_of f 17 s ≤ 16) where
     -- a frame around another ends before the other's block
     above : {P : Type 0} (k a s : ℕ) → s < c → encloses f k a s ≡ true → (s ≡ a → P) → (first_let f c 17 a + lets_before f a c < first_let f c 17 s → P) → P
-    above zero a s h e y z = y (around-zero a s e)
-    above (suc k) a s h e y z =
+    above {P = P} zero a s h e y z = y (around-zero a s e)
+    above {P = P} (suc k) a s h e y z =
         elim (ℕ_discrete s a) [
           | yes d ↦ y d
           | no d ↦ elim (ℕ_discrete (f s).kind 3) [
             | no b ↦ true-false (sym e ∙ around-none k a s d b)
-            | yes b ↦ z (above k a (f s).scope (omega (arith, (out s h b).low)) (sym (around-step k a s d b) ∙ e) (first b) (λ g. further b g))
+            | yes b ↦ z (above {P = first_let f c 17 a + lets_before f a c < first_let f c 17 s} k a (f s).scope (omega (arith, (out s h b).low)) (sym (around-step k a s d b) ∙ e) (first b) (λ g. further b g))
           ]
         ]
       where

@@ -1,5 +1,6 @@
 // The names of labels: the part of the name table that is a label's name, cut to the table.
 #![tactic(auto)]
+
 ghost use Rattle.std.specs.Prelude.{◌≡◌, [], ◌+◌, ◌*◌, min, length};
 ghost use Rattle.base_limits.specs.Limits.{name_bytes};
 ghost use Rattle.prog_tables.specs.Label.{label_at};

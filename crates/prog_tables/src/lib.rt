@@ -1,5 +1,6 @@
 // What a program is: rows of statements and labels, operands.
 #![tactic(auto)]
+
 ghost use Rattle.std.specs.Prelude.{◌≡◌, ◌+◌, ◌≤◌, ◌<◌, length, get_or, []};
 ghost use Rattle.prog_tables.specs.Layout.{statement_row, operand_slots, sizes_of, numbers_of};
 ghost use Rattle.prog_tables.specs.Places.{place_of, kind_from, func_from, aFrom, bFrom, expr_from, address_kind, address_place, first_place, second_place, third_place, slot_place, slot_at, token_in, next_in};

@@ -1,5 +1,6 @@
 // The marks of the host's list in the token table: which entry an import's name means.
 #![tactic(auto)]
+
 ghost use Rattle.std.specs.Prelude.{◌≡◌, ◌≤◌, ◌<◌, length, take};
 ghost use Rattle.base_limits.specs.Limits as limits;
 ghost use Rattle.lex_spelling.specs.Text.{name_at};

@@ -1,5 +1,6 @@
 // Counts of rows against the lengths of the lent tables.
 #![tactic(auto)]
+
 ghost use Rattle.std.specs.Prelude.{◌≡◌, ◌*◌, ltb, length};
 ghost use Rattle.base_limits.specs.Limits.{name_bytes};
 ghost use Rattle.prog_tables.specs.Layout.{statement_row, label_row};

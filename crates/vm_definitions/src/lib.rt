@@ -1,5 +1,6 @@
 // The word machine: what a read, an expression, a return, a step and a start may come to.
 #![tactic(auto)]
+
 use base_limits::Machine;
 
 // An operand's word, or stop 32.

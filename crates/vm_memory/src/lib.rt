@@ -1,5 +1,6 @@
 // Stores into a lent stack and a lent memory.
 #![tactic(auto)]
+
 ghost use Rattle.std.specs.Prelude.{◌≡◌, [], ◌∷◌, ◌+◌, ◌-◌, ◌%◌, ◌≤◌, ◌<◌, length, set, take, replicate};
 ghost use Rattle.base_limits.specs.Limits.{word_values};
 ghost use Rattle.base_limits.specs.declared.Width.TheVariants.{Bits32};

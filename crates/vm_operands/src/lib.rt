@@ -1,5 +1,6 @@
 // Memory words, operands and expressions: each function is the definition of vm_definitions/specs at 32 bits.
 #![tactic(auto)]
+
 ghost use Rattle.std.specs.Prelude.{◌≡◌, [], ◌∷◌, ◌+◌, ◌≤◌, ◌<◌, length};
 ghost use Rattle.base_limits.specs.Limits.{memory_bytes};
 ghost use Rattle.base_limits.specs.declared.Width.TheVariants.{Bits32};

@@ -1,5 +1,6 @@
 // Operands, expressions and functions of rows, tested for 35 and read at once. What is not good gives no word, and is left to the exact step.
 #![tactic(auto)]
+
 ghost use Rattle.std.specs.Prelude.{◌≡◌, ◌+◌, ◌*◌, ◌≤◌, ◌<◌, length, get_or};
 ghost use Rattle.base_limits.specs.Limits.{memory_bytes};
 ghost use Rattle.prog_tables.specs.Statement.{operand_at, row_at};

@@ -8,7 +8,7 @@ loop-i-init c =
 
 pub returns-then-blanks-k : goal.returns-then-blanks-k
 returns-then-blanks-k c =
-    (search fielding, search rules)
+    record { value = search fielding; upper_bound = search rules }
 
 pub loop-i-preserved-then-c-eq32 : goal.loop-i-preserved-then-c-eq32
 loop-i-preserved-then-c-eq32 c =
@@ -20,4 +20,4 @@ loop-i-preserved c =
 
 pub returns : goal.returns
 returns c =
-    (search fielding, search rules)
+    record { value = search fielding; upper_bound = search rules }

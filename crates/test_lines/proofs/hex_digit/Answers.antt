@@ -6,34 +6,34 @@ use Rattle.test_lines.proofs.hex_digit.Goals as goal
 pub returns-then-c-lt48 : goal.returns-then-c-lt48
 unfolding hex_of
 returns-then-c-lt48 c =
-    (search tests depth 16, omega arith)
+    record { value = search tests depth 16; upper_bound = omega arith }
 
 pub returns-then-c-lt58 : goal.returns-then-c-lt58
 unfolding hex_of
 returns-then-c-lt58 c =
-    (search tests depth 16, omega arith)
+    record { value = search tests depth 16; upper_bound = omega arith }
 
 pub returns-then-c-lt65 : goal.returns-then-c-lt65
 unfolding hex_of
 returns-then-c-lt65 c =
-    (search tests depth 16, omega arith)
+    record { value = search tests depth 16; upper_bound = omega arith }
 
 pub returns-then-c-lt71 : goal.returns-then-c-lt71
 unfolding hex_of
 returns-then-c-lt71 c =
-    (search tests depth 16, omega arith)
+    record { value = search tests depth 16; upper_bound = omega arith }
 
 pub returns-then-c-lt97 : goal.returns-then-c-lt97
 unfolding hex_of
 returns-then-c-lt97 c =
-    (search tests depth 16, omega arith)
+    record { value = search tests depth 16; upper_bound = omega arith }
 
 pub returns-then-c-lt103 : goal.returns-then-c-lt103
 unfolding hex_of
 returns-then-c-lt103 c =
-    (search tests depth 16, omega arith)
+    record { value = search tests depth 16; upper_bound = omega arith }
 
 pub returns : goal.returns
 unfolding hex_of
 returns c =
-    (search tests depth 16, omega arith)
+    record { value = search tests depth 16; upper_bound = omega arith }

@@ -8,7 +8,7 @@ loop-i-init c =
 
 pub returns-then-byte_at-eq10 : goal.returns-then-byte_at-eq10
 returns-then-byte_at-eq10 c =
-    (search lining, search rules)
+    record { value = search lining; lower_bound = search rules }
 
 pub loop-i-preserved : goal.loop-i-preserved
 loop-i-preserved c =
@@ -16,4 +16,4 @@ loop-i-preserved c =
 
 pub returns : goal.returns
 returns c =
-    (search lining, search rules)
+    record { value = search lining; lower_bound = search rules }

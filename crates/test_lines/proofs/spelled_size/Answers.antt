@@ -6,9 +6,9 @@ use Rattle.test_lines.proofs.spelled_size.Goals as goal
 pub returns-then-c-eq126 : goal.returns-then-c-eq126
 unfolding spelled_size
 returns-then-c-eq126 c =
-    (search tests, search rules)
+    record { value = search tests; lower_bound = search rules }
 
 pub returns : goal.returns
 unfolding spelled_size
 returns c =
-    (search tests, search rules)
+    record { value = search tests; lower_bound = search rules }

@@ -1,0 +1,16 @@
+use Rattle.base_prelude.proofs.Choice.{tests}
+use Rattle.app_page.specs.Bytes.{hex_digit}
+use native.Mathlib.Omega.{arith}
+use mathlib.Core.Path.{◌≡◌, refl, sym, ◌∙◌, ap, subst}
+use borrow.Author.Rules.{rules}
+use Rattle.app_page.proofs.hex_digit.Goals as goal
+
+pub returns-then-d-lt10 : goal.returns-then-d-lt10
+unfolding hex_digit
+returns-then-d-lt10 c =
+    search tests
+
+pub returns : goal.returns
+unfolding hex_digit
+returns c =
+    search tests

@@ -1,0 +1,9 @@
+use Rattle.app_page.proofs.Cases.{part-name, part-short}
+use native.Mathlib.Omega.{arith}
+use mathlib.Core.Path.{◌≡◌, refl, sym, ◌∙◌, ap, subst}
+use borrow.Author.Rules.{rules}
+use Rattle.app_page.proofs.name_at.Goals as goal
+
+pub returns : goal.returns
+returns c =
+    record { result_value = search part-name; result_len_bound = search part-short }

@@ -1,0 +1,13 @@
+use Rattle.lex_source.proofs.Filling.{wholes}
+use native.Mathlib.Omega.{arith}
+use mathlib.Core.Path.{◌≡◌, refl, sym, ◌∙◌, ap, subst}
+use borrow.Author.Rules.{rules}
+use Rattle.lex_source.proofs.lex.Goals as goal
+
+pub returns-then-s-gt-SOURCE_BYTES : goal.returns-then-s-gt-SOURCE_BYTES
+returns-then-s-gt-SOURCE_BYTES c =
+    search (wholes, rules)
+
+pub returns : goal.returns
+returns c =
+    search (wholes, rules)

@@ -1,0 +1,9 @@
+use Rattle.lex_source.proofs.Rows.{take_long}
+use native.Mathlib.Omega.{arith}
+use mathlib.Core.Path.{◌≡◌, refl, sym, ◌∙◌, ap, subst}
+use borrow.Author.Rules.{rules}
+use Rattle.lex_source.proofs.lookup_front.Goals as goal
+
+pub slice_bounds-lookup_in-end : goal.slice_bounds-lookup_in-end
+slice_bounds-lookup_in-end c =
+    search (take_long, rules)

@@ -1,0 +1,17 @@
+use Rattle.lex_source.proofs.Cases.{standing}
+use native.Mathlib.Omega.{arith}
+use mathlib.Core.Path.{◌≡◌, refl, sym, ◌∙◌, ap, subst}
+use borrow.Author.Rules.{rules}
+use Rattle.lex_source.proofs.substitute_value.Goals as goal
+
+pub returns-then-k-eq-BITS_PER_WORD : goal.returns-then-k-eq-BITS_PER_WORD
+returns-then-k-eq-BITS_PER_WORD c =
+    search standing
+
+pub returns-then-k-eq-BYTES_PER_WORD : goal.returns-then-k-eq-BYTES_PER_WORD
+returns-then-k-eq-BYTES_PER_WORD c =
+    search standing
+
+pub returns : goal.returns
+returns c =
+    search standing

@@ -1,0 +1,7 @@
+use Rattle.parse_units.proofs.Cases.{line-least}
+use borrow.Author.Rules.{rules}
+use Rattle.parse_units.proofs.line_faults.Goals as goal
+
+pub returns : goal.returns
+returns c =
+    search line-least

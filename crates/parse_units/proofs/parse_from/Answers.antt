@@ -1,0 +1,26 @@
+use borrow.Author.Rules.{rules}
+use Prim.Native.Nat.{◌-◌}
+use Rattle.parse_units.proofs.UnitSteps.{Parsing, parsing, parsing-less, parsing-fits}
+use native.Mathlib.Omega.{arith}
+use mathlib.Core.Path.{◌≡◌, refl, sym, ◌∙◌, ap, subst}
+use Rattle.parse_units.proofs.parse_from.Goals as goal
+
+pub loop-x-init : goal.loop-x-init
+loop-x-init c =
+    search (parsing, rules)
+
+pub step_unit-requires : goal.step_unit-requires
+step_unit-requires c =
+    search parsing-fits
+
+pub loop-x-smaller : goal.loop-x-smaller
+loop-x-smaller c =
+    search parsing-less
+
+pub loop-x-preserved : goal.loop-x-preserved
+loop-x-preserved c =
+    search parsing
+
+pub returns-in-Done : goal.returns-in-Done
+returns-in-Done c =
+    search parsing

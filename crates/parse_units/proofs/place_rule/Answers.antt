@@ -1,0 +1,17 @@
+use Rattle.parse_units.proofs.Cases.{placing}
+use native.Mathlib.Omega.{arith}
+use mathlib.Core.Path.{◌≡◌, refl, sym, ◌∙◌, ap, subst}
+use borrow.Author.Rules.{rules}
+use Rattle.parse_units.proofs.place_rule.Goals as goal
+
+pub returns-then-g-x : goal.returns-then-g-x
+returns-then-g-x c =
+    search placing
+
+pub returns-then-g-x-2 : goal.returns-then-g-x-2
+returns-then-g-x-2 c =
+    search placing
+
+pub returns : goal.returns
+returns c =
+    search placing

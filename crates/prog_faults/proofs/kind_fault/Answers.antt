@@ -1,0 +1,11 @@
+use Rattle.prog_faults.proofs.Cases.{kind-ways}
+use borrow.Author.Rules.{rules}
+use Rattle.prog_faults.proofs.kind_fault.Goals as goal
+
+pub returns-then-is_listed : goal.returns-then-is_listed
+returns-then-is_listed c =
+    search kind-ways
+
+pub returns : goal.returns
+returns c =
+    search kind-ways

@@ -1,0 +1,6 @@
+use borrow.Author.Rules.{rules}
+use Rattle.prog_faults.proofs.slot_fault.Goals as goal
+
+pub returns : goal.returns
+returns c =
+    cc

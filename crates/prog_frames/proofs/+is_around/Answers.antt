@@ -1,0 +1,22 @@
+use borrow.Author.Rules.{rules}
+use Rattle.prog_frames.proofs.Arms.{around}
+use native.Mathlib.Omega.{arith}
+use mathlib.Core.Path.{◌≡◌, refl, sym, ◌∙◌, ap, subst}
+use Prim.Native.Nat.{ℕ, ◌<◌}
+use Rattle.prog_frames.proofs.+is_around.Goals as goal
+
+pub returns-then-fuel-eq0 : goal.returns-then-fuel-eq0
+returns-then-fuel-eq0 t c =
+    search around
+
+pub returns-then-s-e : goal.returns-then-s-e
+returns-then-s-e t c =
+    search around
+
+pub returns-then-k-eq-BLOCK : goal.returns-then-k-eq-BLOCK
+returns-then-k-eq-BLOCK t c =
+    search around
+
+pub returns : goal.returns
+returns t c =
+    search around

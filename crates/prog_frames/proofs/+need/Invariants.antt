@@ -1,0 +1,18 @@
+use borrow.Author.Rules.{rules}
+use Rattle.prog_frames.proofs.Cases.{Needing, needing}
+use Rattle.prog_tables.specs.Statement.{row_at}
+use Prim.Native.Nat.{◌-◌}
+use native.Mathlib.Omega.{arith}
+use mathlib.Core.Path.{◌≡◌, refl, sym, ◌∙◌, ap, subst}
+use Prim.Native.Nat.{ℕ, ◌<◌}
+use Rattle.prog_frames.proofs.+need.Given as goal
+
+abbrev pub decreases-need : goal.decreases-need
+decreases-need l = l.depth
+
+abbrev pub invariant-loop-i : goal.invariant-loop-i
+invariant-loop-i l =
+    Needing (row_at l.t) l.c l.depth l.s l.lets l.most l.i
+
+abbrev pub decreases-loop-i : goal.decreases-loop-i
+decreases-loop-i l = l.c - l.i

@@ -1,0 +1,15 @@
+use borrow.Author.Rules.{rules}
+use Rattle.prog_frames.proofs.Cases.{Counting, counting-start, counting}
+use Rattle.prog_tables.specs.Statement.{row_at}
+use Prim.Native.Nat.{◌-◌}
+use native.Mathlib.Omega.{arith}
+use mathlib.Core.Path.{◌≡◌, refl, sym, ◌∙◌, ap, subst}
+use Rattle.prog_frames.proofs.lets_before.Given as goal
+
+abbrev pub invariant-loop-i : goal.invariant-loop-i
+invariant-loop-i l =
+    Counting (row_at l.t) l.s l.n l.lets l.i
+
+abbrev pub decreases-loop-i : goal.decreases-loop-i
+decreases-loop-i l =
+    l.n - l.i

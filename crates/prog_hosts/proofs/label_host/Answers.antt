@@ -1,0 +1,7 @@
+use Rattle.prog_hosts.proofs.Labels.{host-of}
+use borrow.Author.Rules.{rules}
+use Rattle.prog_hosts.proofs.label_host.Goals as goal
+
+pub returns : goal.returns
+returns c =
+    search host-of

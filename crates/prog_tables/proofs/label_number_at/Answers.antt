@@ -1,0 +1,8 @@
+use Rattle.prog_tables.specs.Label.{label_at}
+use borrow.Author.Rules.{rules}
+use Rattle.prog_tables.proofs.label_number_at.Goals as goal
+
+pub returns : goal.returns
+unfolding label_at
+returns c =
+    cc

@@ -1,0 +1,6 @@
+use borrow.Author.Rules.{rules}
+use Rattle.prog_tables.proofs.slot_at.Goals as goal
+
+pub returns : goal.returns
+returns c =
+    cc

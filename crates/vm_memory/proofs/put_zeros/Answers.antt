@@ -1,0 +1,19 @@
+use borrow.Author.Rules.{rules}
+use Prim.Native.Nat.{◌-◌}
+use lib.ListN.{length, replicate}
+use Rattle.vm_memory.proofs.Cases.{Putting, zeroing}
+use native.Mathlib.Omega.{arith}
+use mathlib.Core.Path.{◌≡◌, refl, sym, ◌∙◌, ap, subst}
+use Rattle.vm_memory.proofs.put_zeros.Goals as goal
+
+pub loop-i-init : goal.loop-i-init
+loop-i-init c =
+    search zeroing
+
+pub loop-i-preserved : goal.loop-i-preserved
+loop-i-preserved c =
+    search zeroing
+
+pub returns : goal.returns
+returns c =
+    search zeroing

@@ -1,0 +1,17 @@
+use Rattle.vm_operands.proofs.Cases.{fetch-ways, word_in}
+use native.Mathlib.Omega.{arith}
+use mathlib.Core.Path.{◌≡◌, refl, sym, ◌∙◌, ap, subst}
+use borrow.Author.Rules.{rules}
+use Rattle.vm_operands.proofs.fetch.Goals as goal
+
+pub load-requires : goal.load-requires
+load-requires c =
+    search (word_in, rules)
+
+pub returns-then-has_word : goal.returns-then-has_word
+returns-then-has_word c =
+    search fetch-ways
+
+pub returns : goal.returns
+returns c =
+    search fetch-ways

@@ -1,0 +1,20 @@
+use Rattle.vm_definitions.specs.Operators.{answered}
+use native.Mathlib.Omega.{arith}
+use mathlib.Core.Path.{◌≡◌, refl, sym, ◌∙◌, ap, subst}
+use borrow.Author.Rules.{rules}
+use Rattle.vm_operands.proofs.from_answer.Goals as goal
+
+pub returns-in-Word : goal.returns-in-Word
+unfolding answered
+returns-in-Word c =
+    cc
+
+pub returns-in-Division : goal.returns-in-Division
+unfolding answered
+returns-in-Division c =
+    cc
+
+pub returns-in-Shift : goal.returns-in-Shift
+unfolding answered
+returns-in-Shift c =
+    cc

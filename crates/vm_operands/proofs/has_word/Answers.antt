@@ -1,0 +1,13 @@
+use Rattle.vm_operands.proofs.Cases.{word-ways}
+use native.Mathlib.Omega.{arith}
+use mathlib.Core.Path.{◌≡◌, refl, sym, ◌∙◌, ap, subst}
+use borrow.Author.Rules.{rules}
+use Rattle.vm_operands.proofs.has_word.Goals as goal
+
+pub returns-then-a-eq0 : goal.returns-then-a-eq0
+returns-then-a-eq0 c =
+    search word-ways
+
+pub returns : goal.returns
+returns c =
+    search word-ways

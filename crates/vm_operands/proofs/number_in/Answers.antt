@@ -1,0 +1,33 @@
+use Rattle.vm_operands.proofs.Cases.{number-ways}
+use native.Mathlib.Omega.{arith}
+use mathlib.Core.Path.{◌≡◌, refl, sym, ◌∙◌, ap, subst}
+use borrow.Author.Rules.{rules}
+use Rattle.vm_operands.proofs.number_in.Goals as goal
+
+pub returns-in-Constant : goal.returns-in-Constant
+returns-in-Constant c =
+    search number-ways
+
+pub returns-in-Local : goal.returns-in-Local
+returns-in-Local c =
+    search number-ways
+
+pub returns-in-Address : goal.returns-in-Address
+returns-in-Address c =
+    search number-ways
+
+pub returns-in-AtConstant : goal.returns-in-AtConstant
+returns-in-AtConstant c =
+    search number-ways
+
+pub returns-in-AtLocal : goal.returns-in-AtLocal
+returns-in-AtLocal c =
+    search number-ways
+
+pub returns-in-AtAddress : goal.returns-in-AtAddress
+returns-in-AtAddress c =
+    search number-ways
+
+pub returns-in-Unlisted : goal.returns-in-Unlisted
+returns-in-Unlisted c =
+    search number-ways

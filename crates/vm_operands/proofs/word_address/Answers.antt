@@ -1,0 +1,7 @@
+use Rattle.vm_operands.proofs.Cases.{word_address_lem}
+use borrow.Author.Rules.{rules}
+use Rattle.vm_operands.proofs.word_address.Goals as goal
+
+pub returns : goal.returns
+returns c =
+    search word_address_lem
