@@ -1,5 +1,6 @@
 // What a call of the tracker reads and writes: the run record in 16 lent words, and the six words of the answer.
 #![tactic(auto)]
+
 ghost use Rattle.std.specs.Prelude.{◌≡◌, [], ◌∷◌, ◌≤◌, ◌/◌, ◌%◌, length, get_or};
 ghost use Rattle.base_limits.specs.Limits.{word_values};
 ghost use Rattle.base_limits.specs.Record.{pause_of, eight_words};

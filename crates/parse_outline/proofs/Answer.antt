@@ -4,7 +4,7 @@ use mathlib.Core.Path.{◌≡◌, refl, sym, ◌∙◌, ap, ap₂}
 use mathlib.Core.List.{List}
 use Prim.Native.Nat.{ℕ, ◌-◌, ◌%◌, ◌/◌}
 use Rattle.base_limits.specs.declared.Width.{Width}
-use Rattle.parse_units.specs.Parse.{Result, result, parse_of}
+use Rattle.parse_units.specs.Parse.{Result, parse_result, parse_of}
 use Rattle.parse_units.specs.declared.Verdict.{Verdict}
 use Rattle.parse_units.specs.declared.Verdict.TheVariants as verdict
 use Rattle.parse_outline.specs.Labels.{label_rows}
@@ -23,7 +23,7 @@ module _ (v : Verdict) where
 
 pub ruleset answering = (answer-accepted, answer-refused)
 
-pub outline-is : (w : Width) (t : List ℕ) (n : ℕ) (v : Verdict) (a : Parsed) (rows labels : List ℕ) → result v rows ≡ parse_of w t n → labels ≡ label_rows t → a ≡ answer_of v
+pub outline-is : (w : Width) (t : List ℕ) (n : ℕ) (v : Verdict) (a : Parsed) (rows labels : List ℕ) → parse_result v rows ≡ parse_of w t n → labels ≡ label_rows t → a ≡ answer_of v
     → parsed a rows labels ≡ outline_of w t n
 unfolding outline_of
 outline-is w t n v a rows labels p q e =

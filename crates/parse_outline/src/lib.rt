@@ -1,10 +1,11 @@
 // The outline as a whole: statement rows, label rows, and the stage's answer.
 #![tactic(auto)]
+
 ghost use Rattle.std.specs.Prelude.{◌≡◌, ◌+◌, ◌*◌, ◌-◌, ◌≤◌, ◌<◌, length};
 ghost use Rattle.base_limits.specs.Limits as limits;
 ghost use Rattle.prog_tables.specs.Layout.{label_words};
 ghost use Rattle.parse_units.specs.Outline.{outline_words};
-ghost use Rattle.parse_units.specs.Parse.{result, parse_of};
+ghost use Rattle.parse_units.specs.Parse.{parse_result, parse_of};
 ghost use Rattle.parse_outline.specs.Labels.{label_kind, label_number, put_label, marked, mark_token, mark_from, mark_before, mark_import, mark_unit, marking, marks_behind, mark_step, marks_from, label_rows, first_marks, going};
 ghost use Rattle.parse_outline.specs.Fits.{MarksFit};
 ghost use Rattle.parse_outline.specs.Outline.{answer_of, parsed, outline_of};
@@ -48,7 +49,7 @@ pub struct Marks {
 }
 
 fn label_kind(k: u32, section: u32) -> u32
-    ensures* { λ r. ⌜ r ≡ label_kind k section ⌝ }
+    ensures { result ≡ label_kind k section }
 {
     if section < Ground::DATA_SECTION {
         if k == Kind::FUNCTION {
@@ -60,7 +61,7 @@ fn label_kind(k: u32, section: u32) -> u32
 }
 
 fn label_number(section: u32, word: u32, row: u32) -> u32
-    ensures* { λ r. ⌜ r ≡ label_number section word row ⌝ }
+    ensures { result ≡ label_number section word row }
 {
     if section < Ground::DATA_SECTION {
         return row;
@@ -70,7 +71,7 @@ fn label_number(section: u32, word: u32, row: u32) -> u32
 
 fn put_words(x: &mut [u32], c: u32, token: u32, kind: u32, number: u32)
     requires { (length x.old ≡ label_words) × (c < limits.labels) }
-    ensures* { λ _. ⌜ x.new ≡ put_label x.old c token kind number ⌝ }
+    ensures { x.new ≡ put_label x.old c token kind number }
 {
     let w = c as usize * Outline::LABEL_ROW;
     x[w] = token;
@@ -81,7 +82,7 @@ fn put_words(x: &mut [u32], c: u32, token: u32, kind: u32, number: u32)
 
 fn put_label(x: &mut [u32], c: u32, token: u32, kind: u32, number: u32)
     requires { length x.old ≡ label_words }
-    ensures* { λ _. ⌜ x.new ≡ put_label x.old c token kind number ⌝ }
+    ensures { x.new ≡ put_label x.old c token kind number }
 {
     if c < MOST_LABELS {
         put_words(x, c, token, kind, number);
@@ -90,7 +91,7 @@ fn put_label(x: &mut [u32], c: u32, token: u32, kind: u32, number: u32)
 
 fn mark_token(t: &[u32], x: &mut [u32], i: u32, kind: u32, number: u32, c: u32) -> u32
     requires { (length x.old ≡ label_words) × (c < limits.greatest_word) }
-    ensures* { λ r. ⌜ marked r x.new ≡ mark_token t.now i kind number (marked c x.old) ⌝ }
+    ensures { marked result x.new ≡ mark_token t.now i kind number (marked c x.old) }
 {
     if parse_lines::kind_at(t, i) == Token::LABEL {
         put_label(x, c, i, kind, number);
@@ -109,7 +110,7 @@ fn mark_from(
     start: u32,
 ) -> u32
     requires { (length x.old ≡ label_words) × (end ≤ limits.tokens + 1) × (start ≤ limits.tokens + 1) }
-    ensures* { λ r. ⌜ marked r x.new ≡ mark_from (end - first) t.now first kind number (marked start x.old) ⌝ }
+    ensures { marked result x.new ≡ mark_from (end - first) t.now first kind number (marked start x.old) }
 {
     let mut c = start;
     let mut i = first;
@@ -123,7 +124,7 @@ fn mark_from(
 // The labels before a line.
 fn mark_before(t: &[u32], x: &mut [u32], u: Span, k: u32, s: Marks) -> u32
     requires { (length x.old ≡ label_words) × (u.word ≤ limits.tokens + 1) × (s.labels ≤ limits.tokens + 1) }
-    ensures* { λ r. ⌜ marked r x.new ≡ mark_before t.now u k s x.old ⌝ }
+    ensures { marked result x.new ≡ mark_before t.now u k s x.old }
 {
     let kind = label_kind(k, s.section);
     let number = label_number(s.section, u.word, s.row);
@@ -133,7 +134,7 @@ fn mark_before(t: &[u32], x: &mut [u32], u: Span, k: u32, s: Marks) -> u32
 // The label that an import of a listed name is.
 fn mark_import(t: &[u32], x: &mut [u32], u: Span, k: u32, c: u32) -> u32
     requires { (length x.old ≡ label_words) × (u.word ≤ limits.tokens + 1) × (c < limits.greatest_word) }
-    ensures* { λ r. ⌜ marked r x.new ≡ mark_import t.now u k (marked c x.old) ⌝ }
+    ensures { marked result x.new ≡ mark_import t.now u k (marked c x.old) }
 {
     if parse_units::import_labels(t, u, k) == 0 {
         return c;
@@ -145,7 +146,7 @@ fn mark_import(t: &[u32], x: &mut [u32], u: Span, k: u32, c: u32) -> u32
 
 fn mark_unit(t: &[u32], x: &mut [u32], u: Span, k: u32, s: Marks) -> u32
     requires { (length x.old ≡ label_words) × (u.word ≤ limits.tokens + 1) × (s.labels ≤ limits.tokens + 1) }
-    ensures* { λ r. ⌜ marked r x.new ≡ mark_unit t.now u k s x.old ⌝ }
+    ensures { marked result x.new ≡ mark_unit t.now u k s x.old }
 {
     let c = mark_before(t, x, u, k, s);
     mark_import(t, x, u, k, c)
@@ -153,7 +154,7 @@ fn mark_unit(t: &[u32], x: &mut [u32], u: Span, k: u32, s: Marks) -> u32
 
 fn marks_behind(u: Span, k: u32, s: Marks, labels: u32) -> Marks
     requires { s.row ≤ 8195 }
-    ensures* { λ r. ⌜ r ≡ marks_behind u k s labels ⌝ }
+    ensures { result ≡ marks_behind u k s labels }
 {
     Marks {
         at: u.next,
@@ -172,7 +173,7 @@ pub enum Going {
 
 fn mark_step(t: &[u32], x: &mut [u32], s: Marks) -> Going
     requires { MarksFit t.now x.old s }
-    ensures* { λ r. ⌜ going r x.new ≡ mark_step t.now (marking s x.old) ⌝ }
+    ensures { going result x.new ≡ mark_step t.now (marking s x.old) }
 {
     let u = parse_lines::unit_at(t, s.at);
     let k = parse_lines::line_kind(t, u.word);
@@ -185,7 +186,7 @@ fn mark_step(t: &[u32], x: &mut [u32], s: Marks) -> Going
 
 fn marks_from(t: &[u32], x: &mut [u32], start: Marks)
     requires { MarksFit t.now x.old start }
-    ensures* { λ _. ⌜ x.new ≡ marks_from t.now (marking start x.old) ⌝ }
+    ensures { x.new ≡ marks_from t.now (marking start x.old) }
 {
     let mut s = start;
     loop {
@@ -201,7 +202,7 @@ fn marks_from(t: &[u32], x: &mut [u32], start: Marks)
 }
 
 fn first_marks() -> Marks
-    ensures* { λ r. ⌜ r ≡ first_marks ⌝ }
+    ensures { result ≡ first_marks }
 {
     Marks {
         at: 0,
@@ -214,14 +215,14 @@ fn first_marks() -> Marks
 // The label rows of the tokens t; the words are cleared first.
 fn label_rows(t: &[u32], x: &mut [u32])
     requires { (length t.now ≡ limits.token_words) × (length x.old ≡ label_words) }
-    ensures* { λ _. ⌜ x.new ≡ label_rows t.now ⌝ }
+    ensures { x.new ≡ label_rows t.now }
 {
     base_prelude::clear_from(x, 0);
     marks_from(t, x, first_marks());
 }
 
 fn less_one(count: u32) -> u32
-    ensures* { λ r. ⌜ r ≡ count - 1 ⌝ }
+    ensures { result ≡ count - 1 }
 {
     if count < 1 {
         return 0;
@@ -230,7 +231,7 @@ fn less_one(count: u32) -> u32
 }
 
 fn answer_of(v: Verdict) -> Parsed
-    ensures* { λ r. ⌜ r ≡ answer_of v ⌝ }
+    ensures { result ≡ answer_of v }
 {
     match v {
         Verdict::Accepted { count, labels } => Parsed::Accepted {
@@ -246,7 +247,7 @@ fn answer_of(v: Verdict) -> Parsed
 
 fn parse_all(w: Width, n: u32, t: &[u32], rows: &mut [u32], labels: &mut [u32]) -> Parsed
     requires { (length t.now ≡ limits.token_words) × (length rows.old ≡ outline_words) × (length labels.old ≡ label_words) }
-    ensures* { λ r. ⌜ parsed r rows.new labels.new ≡ outline_of w t.now n ⌝ }
+    ensures { parsed result rows.new labels.new ≡ outline_of w t.now n }
 {
     let v = parse_units::parse_rows(w, t, n, rows);
     label_rows(t, labels);
@@ -261,7 +262,7 @@ pub fn parse(
     rows: &mut [u32; Outline::WORDS],
     labels: &mut [u32; Outline::LABEL_WORDS],
 ) -> Parsed
-    ensures* { λ r. ⌜ parsed r rows.new labels.new ≡ outline_of w t.now n ⌝ }
+    ensures { parsed result rows.new labels.new ≡ outline_of w t.now n }
 {
     parse_all(w, n, t, rows, labels)
 }

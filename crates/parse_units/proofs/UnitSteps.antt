@@ -20,7 +20,7 @@ use Rattle.parse_lines.specs.declared.Span.{Span}
 use Rattle.parse_rules.specs.Rules.{labels_rule}
 use Rattle.parse_units.specs.Outline.{row_at, put_row}
 use Rattle.parse_units.specs.Places.{ground_in, line_on, import_labels, unit_fault}
-use Rattle.parse_units.specs.Parse.{World, world, put_state, put_kind, grow_two, grow_by, state_behind, join_state, advance, Result, result, stepped, open_row, fault_in, unit_step_on, unit_step, begin, parse_from, parse_of}
+use Rattle.parse_units.specs.Parse.{World, world, put_state, put_kind, grow_two, grow_by, state_behind, join_state, advance, Result, parse_result, stepped, open_row, fault_in, unit_step_on, unit_step, begin, parse_from, parse_of}
 use Rattle.parse_units.specs.Fits.{StepFits, UnitStepFits}
 use Rattle.parse_units.specs.declared.Row.{Row}
 use Rattle.parse_units.specs.declared.State.{State}
@@ -147,7 +147,7 @@ module _ (w : Width) (t : List ℕ) (n : ℕ) (s : State) (rows : List ℕ) (h :
 pub record Parsing (w : Width) (t : List ℕ) (n : ℕ) (start : State) (rows₀ : List ℕ) (s : State) (rows : List ℕ) : Type 0 where
   pub fits : UnitStepFits t rows s
   pub labels : s.labels ≤ s.at
-  pub runs : Runs (unit_step w t n) (result (Refused none) []) (parse_from w t n (world start rows₀)) (world s rows) (suc (4097 - s.at))
+  pub runs : Runs (unit_step w t n) (parse_result (Refused none) []) (parse_from w t n (world start rows₀)) (world s rows) (suc (4097 - s.at))
 
 module _ (w : Width) (t : List ℕ) (n : ℕ) (start : State) (rows₀ : List ℕ) where
   pub parsing-start : UnitStepFits t rows₀ start → start.labels ≤ start.at → Parsing w t n start rows₀ start rows₀
@@ -173,7 +173,7 @@ module _ (w : Width) (t : List ℕ) (n : ℕ) (start : State) (rows₀ : List �
           runs = runs-go _ _ _ _ _ (4097 - s.at) _ h.runs (sym (more-is y e)) (omega (arith, parsing-less y e));
         }
 
-    pub parsing-done : (v : Verdict) → x ≡ Done v → result v rows' ≡ parse_from w t n (world start rows₀)
+    pub parsing-done : (v : Verdict) → x ≡ Done v → parse_result v rows' ≡ parse_from w t n (world start rows₀)
     parsing-done v e = runs-stop _ _ _ _ _ _ h.runs (sym (ap (λ (z : UnitStep). stepped z rows') (sym e) ∙ p))
 
   pub parsing-fits : (s : State) (rows : List ℕ) → Parsing w t n start rows₀ s rows → UnitStepFits t rows s
@@ -194,7 +194,7 @@ unfolding cleared_from
 cleared-is rows h = let z : length rows - 0 ≡ 8200 = omega arith in ap zeros z
 
 pub parse-is : (w : Width) (t : List ℕ) (n : ℕ) (rows rows' rows'' : List ℕ) (s : State) (r : Verdict) → length rows ≡ 8200 → rows' ≡ cleared_from rows 0 → s ≡ begin
-    → result r rows'' ≡ parse_from w t n (world s rows') → result r rows'' ≡ parse_of w t n
+    → parse_result r rows'' ≡ parse_from w t n (world s rows') → parse_result r rows'' ≡ parse_of w t n
 unfolding parse_of
 parse-is w t n rows rows' rows'' s r h e f q =
     q ∙ ap₂ (λ (x : State) (y : List ℕ). parse_from w t n (world x y)) f (e ∙ cleared-is rows h)

@@ -96,13 +96,13 @@ pub record Result : Type 0 where
   pub verdict : Verdict
   pub outline : List ℕ
 
-abbrev pub result : Verdict → List ℕ → Result
-result v t = record { verdict = v; outline = t }
+abbrev pub parse_result : Verdict → List ℕ → Result
+parse_result v t = record { verdict = v; outline = t }
 
 -- what one step of the code's loop comes to
 abbrev pub stepped : UnitStep → List ℕ → Step World Result
 stepped (More s) t = go (world s t)
-stepped (Done v) t = stop (result v t)
+stepped (Done v) t = stop (parse_result v t)
 
 unfoldable pub open_row : World → Row
 open_row x = row_at x.table x.state.top
@@ -114,8 +114,8 @@ fault_in w t n u x =
 -- the unit at the state's token: refused, the end, or on to the next
 unfoldable pub unit_step_on : Width → List ℕ → ℕ → Span → World → Step World Result
 unit_step_on w t n u x =
-    if_lt (fault_in w t n u x) none (stop (result (Refused (fault_in w t n u x)) x.table))
-    (if_eq (line_kind t u.word) kind.edge (stop (result (Accepted x.state.count x.state.labels) x.table))
+    if_lt (fault_in w t n u x) none (stop (parse_result (Refused (fault_in w t n u x)) x.table))
+    (if_eq (line_kind t u.word) kind.edge (stop (parse_result (Accepted x.state.count x.state.labels) x.table))
     (go (advance t n u (line_kind t u.word) x)))
 
 unfoldable pub unit_step : Width → List ℕ → ℕ → World → Step World Result
@@ -126,7 +126,7 @@ abbrev pub begin : State
 begin = record { at = 0; count = 1; top = 0; section = ground.before_sections; locals = 0; depth = 0; labels = 0 }
 
 unfoldable pub parse_from : Width → List ℕ → ℕ → World → Result
-parse_from w t n x = walk (unit_step w t n) (result (Refused none) []) (suc (length t)) x
+parse_from w t n x = walk (unit_step w t n) (parse_result (Refused none) []) (suc (length t)) x
 
 -- the tokens t of a source of n bytes
 unfoldable pub parse_of : Width → List ℕ → ℕ → Result

@@ -16,7 +16,7 @@ ghost use Rattle.parse_lines.specs.Lines.{line_kind};
 ghost use Rattle.parse_shapes.specs.Shapes.{operand_count};
 ghost use Rattle.base_prelude.specs.Lists.{zeros, is_among};
 ghost use Rattle.lang_kinds.specs.Kinds as kind;
-ghost use Rattle.parse_units.specs.Parse.{world, put_state, put_kind, grow_two, grow_by, locals_behind, depth_behind, section_behind, state_behind, join_state, advance, result, stepped, unit_step, parse_from, parse_of, begin};
+ghost use Rattle.parse_units.specs.Parse.{world, put_state, put_kind, grow_two, grow_by, locals_behind, depth_behind, section_behind, state_behind, join_state, advance, parse_result, stepped, unit_step, parse_from, parse_of, begin};
 ghost use Rattle.parse_units.specs.Fits.{StepFits, UnitStepFits};
 
 use base_limits::{Machine, Width};
@@ -78,7 +78,7 @@ pub struct OutlineRows {
 
 // The constants of OutlineRow are the numbers of specs/OutlineRow.
 pub fn all_outline_words() -> OutlineRows
-    ensures* { λ r. ⌜ r ≡ outline_row_of ⌝ }
+    ensures { result ≡ outline_row_of }
 {
     OutlineRows {
         kind: OutlineRow::KIND,
@@ -132,7 +132,7 @@ pub enum UnitStep {
 }
 
 fn row_at(rows: &[u32], n: u32) -> Row
-    ensures* { λ r. ⌜ r ≡ row_at rows.now n ⌝ }
+    ensures { result ≡ row_at rows.now n }
 {
     Row {
         kind: parse_lines::token_word(rows, n, OutlineRow::KIND),
@@ -148,7 +148,7 @@ fn row_at(rows: &[u32], n: u32) -> Row
 
 fn put_row(rows: &mut [u32], n: u32, r: Row)
     requires { n * outline_row + outline_row ≤ length rows.old }
-    ensures* { λ _. ⌜ rows.new ≡ put_row rows.old n r ⌝ }
+    ensures { rows.new ≡ put_row rows.old n r }
 {
     let w = n as usize * Outline::ROW;
     rows[w] = r.kind;
@@ -162,7 +162,7 @@ fn put_row(rows: &mut [u32], n: u32, r: Row)
 }
 
 fn own_or(k: u32, n: u32, other: u32) -> u32
-    ensures* { λ r. ⌜ r ≡ if_eq k kind.function n other ⌝ }
+    ensures { result ≡ if_eq k kind.function n other }
 {
     if k == Kind::FUNCTION {
         return n;
@@ -171,7 +171,7 @@ fn own_or(k: u32, n: u32, other: u32) -> u32
 }
 
 fn frame_of(top: u32, o: Row) -> u32
-    ensures* { λ r. ⌜ r ≡ if_true (is_frame o.kind) top o.scope ⌝ }
+    ensures { result ≡ if_true (is_frame o.kind) top o.scope }
 {
     if lang_kinds::is_frame(o.kind) {
         return top;
@@ -180,7 +180,7 @@ fn frame_of(top: u32, o: Row) -> u32
 }
 
 fn up_of(k: u32, top: u32, o: Row) -> u32
-    ensures* { λ r. ⌜ r ≡ if_true (leaves k) o.up top ⌝ }
+    ensures { result ≡ if_true (leaves k) o.up top }
 {
     if lang_kinds::is_closer(k) {
         return o.up;
@@ -198,7 +198,7 @@ fn row_in(
     before: u32,
     operands: u32,
 ) -> Row
-    ensures* { λ r. ⌜ r ≡ row_in k n top o token next before operands ⌝ }
+    ensures { result ≡ row_in k n top o token next before operands }
 {
     Row {
         kind: k,
@@ -213,7 +213,7 @@ fn row_in(
 }
 
 fn open_behind(n: u32, r: Row) -> u32
-    ensures* { λ x. ⌜ x ≡ behind n r ⌝ }
+    ensures { result ≡ behind n r }
 {
     if lang_kinds::is_opener(r.kind) {
         return n;
@@ -222,7 +222,7 @@ fn open_behind(n: u32, r: Row) -> u32
 }
 
 fn ground_in(s: State, o: Row) -> u32
-    ensures* { λ r. ⌜ r ≡ ground_in s o ⌝ }
+    ensures { result ≡ ground_in s o }
 {
     if s.top == 0 {
         return s.section;
@@ -232,7 +232,7 @@ fn ground_in(s: State, o: Row) -> u32
 
 // The kind of a line on a ground: an import that stands elsewhere than between functions is left out.
 fn line_on(g: u32, k: u32) -> u32
-    ensures* { λ r. ⌜ r ≡ line_on g k ⌝ }
+    ensures { result ≡ line_on g k }
 {
     if k == Kind::IMPORT_LINE {
         if g == Ground::FUNCTIONS_SECTION {
@@ -244,7 +244,7 @@ fn line_on(g: u32, k: u32) -> u32
 }
 
 fn data_word(w: u32) -> bool
-    ensures* { λ r. ⌜ r ≡ is_among w data_words ⌝ }
+    ensures { result ≡ is_among w data_words }
 {
     if w < Word::ALIGN {
         return false;
@@ -256,7 +256,7 @@ fn data_word(w: u32) -> bool
 }
 
 fn statement_word(w: u32) -> bool
-    ensures* { λ r. ⌜ r ≡ is_among w statement_words ⌝ }
+    ensures { result ≡ is_among w statement_words }
 {
     if w < Word::FUNCTION {
         return false;
@@ -271,7 +271,7 @@ fn statement_word(w: u32) -> bool
 }
 
 fn function_word(w: u32) -> bool
-    ensures* { λ r. ⌜ r ≡ is_among w function_words ⌝ }
+    ensures { result ≡ is_among w function_words }
 {
     if w == Word::FUNCTION {
         return true;
@@ -280,7 +280,7 @@ fn function_word(w: u32) -> bool
 }
 
 fn may_label(g: u32, kind: u32, w: u32) -> bool
-    ensures* { λ r. ⌜ r ≡ may_label g kind w ⌝ }
+    ensures { result ≡ may_label g kind w }
 {
     if kind == Token::SYMBOL {
         if g == Ground::BEFORE_SECTIONS {
@@ -302,7 +302,7 @@ fn may_label(g: u32, kind: u32, w: u32) -> bool
 
 // 8: labels before what they may not name.
 fn label_rule(t: &[u32], n: u32, u: Span, g: u32) -> u64
-    ensures* { λ r. ⌜ r ≡ label_rule t.now n u g ⌝ }
+    ensures { result ≡ label_rule t.now n u g }
 {
     if parse_lines::kind_at(t, u.first) == Token::LABEL {
         if may_label(
@@ -319,7 +319,7 @@ fn label_rule(t: &[u32], n: u32, u: Span, g: u32) -> u64
 
 // 8: a line that may not stand here.
 fn place_rule(t: &[u32], n: u32, u: Span, k: u32, g: u32) -> u64
-    ensures* { λ r. ⌜ r ≡ place_rule t.now n u k g ⌝ }
+    ensures { result ≡ place_rule t.now n u k g }
 {
     let x = lang_kinds::stands_in(k);
     if g < x.lo {
@@ -334,7 +334,7 @@ fn place_rule(t: &[u32], n: u32, u: Span, k: u32, g: u32) -> u64
 // The labels that a line itself is: one for an import of a name that the host lists.
 pub fn import_labels(t: &[u32], u: Span, k: u32) -> u32
     requires { u.word < limits.greatest_word }
-    ensures* { λ r. ⌜ r ≡ import_labels t.now u k ⌝ }
+    ensures { result ≡ import_labels t.now u k }
 {
     if k == Kind::IMPORT_LINE {
         if parse_shapes::is_name(t, u.word + 1) {
@@ -351,7 +351,7 @@ pub fn import_labels(t: &[u32], u: Span, k: u32) -> u32
 // 14: an imported name that is the 257th label.
 fn import_rule(t: &[u32], n: u32, u: Span, k: u32, c: u32) -> u64
     requires { u.word < limits.greatest_word }
-    ensures* { λ r. ⌜ r ≡ import_rule t.now n u k c ⌝ }
+    ensures { result ≡ import_rule t.now n u k c }
 {
     if import_labels(t, u, k) == 0 {
         return 1099511627776;
@@ -360,7 +360,7 @@ fn import_rule(t: &[u32], n: u32, u: Span, k: u32, c: u32) -> u64
 }
 
 fn rows_left(count: u32) -> u32
-    ensures* { λ r. ⌜ r ≡ limits.statements + 1 - count ⌝ }
+    ensures { result ≡ limits.statements + 1 - count }
 {
     if count < FREE_ROWS {
         return FREE_ROWS - count;
@@ -370,7 +370,7 @@ fn rows_left(count: u32) -> u32
 
 // 14: statements.
 fn room_rule(t: &[u32], n: u32, u: Span, k: u32, count: u32) -> u64
-    ensures* { λ r. ⌜ r ≡ room_rule t.now n u k count ⌝ }
+    ensures { result ≡ room_rule t.now n u k count }
 {
     if rows_left(count) < lang_kinds::rows_of(k) {
         return parse_lines::key_at(t, n, u.word, 14);
@@ -380,7 +380,7 @@ fn room_rule(t: &[u32], n: u32, u: Span, k: u32, count: u32) -> u64
 
 // 14: locals in scope.
 fn locals_rule(t: &[u32], n: u32, u: Span, k: u32, locals: u32) -> u64
-    ensures* { λ r. ⌜ r ≡ locals_rule t.now n u k locals ⌝ }
+    ensures { result ≡ locals_rule t.now n u k locals }
 {
     if k == Kind::LET {
         if locals < Machine::LOCALS {
@@ -393,7 +393,7 @@ fn locals_rule(t: &[u32], n: u32, u: Span, k: u32, locals: u32) -> u64
 
 // 14: nested blocks.
 fn depth_rule(t: &[u32], n: u32, u: Span, k: u32, depth: u32) -> u64
-    ensures* { λ r. ⌜ r ≡ depth_rule t.now n u k depth ⌝ }
+    ensures { result ≡ depth_rule t.now n u k depth }
 {
     if k == Kind::BLOCK {
         if depth < Machine::BLOCK_DEPTH {
@@ -406,7 +406,7 @@ fn depth_rule(t: &[u32], n: u32, u: Span, k: u32, depth: u32) -> u64
 
 fn line_faults(w: Width, t: &[u32], n: u32, u: Span, k: u32, g: u32, s: State) -> u64
     requires { (length t.now ≡ limits.token_words) × (u.word ≤ limits.tokens + 1) × (s.labels ≤ limits.tokens + 1) }
-    ensures* { λ r. ⌜ r ≡ least_of (line_faults w t.now n u k g s) ⌝ }
+    ensures { result ≡ least_of (line_faults w t.now n u k g s) }
 {
     let x = parse_rules::labels_rule(t, n, u, s.labels);
     let i = base_prelude::least(import_rule(t, n, u, k, x.count), 1099511627776);
@@ -419,7 +419,7 @@ fn line_faults(w: Width, t: &[u32], n: u32, u: Span, k: u32, g: u32, s: State) -
 
 fn limit_faults(t: &[u32], n: u32, u: Span, k: u32, s: State) -> u64
     requires { u.word ≤ limits.tokens + 1 }
-    ensures* { λ r. ⌜ r ≡ least_of (limit_faults t.now n u k s) ⌝ }
+    ensures { result ≡ least_of (limit_faults t.now n u k s) }
 {
     let a = base_prelude::least(parse_rules::list_rule(t, n, u, k), 1099511627776);
     let b = base_prelude::least(parse_rules::tokens_rule(t, n, u, k), a);
@@ -431,7 +431,7 @@ fn limit_faults(t: &[u32], n: u32, u: Span, k: u32, s: State) -> u64
 // The least fault of a unit.
 fn unit_fault(w: Width, t: &[u32], n: u32, u: Span, k: u32, g: u32, s: State) -> u64
     requires { (length t.now ≡ limits.token_words) × (u.word ≤ limits.tokens + 1) × (s.labels ≤ limits.tokens + 1) }
-    ensures* { λ r. ⌜ r ≡ unit_fault w t.now n u k g s ⌝ }
+    ensures { result ≡ unit_fault w t.now n u k g s }
 {
     base_prelude::least(
         line_faults(w, t, n, u, k, g, s),
@@ -441,7 +441,7 @@ fn unit_fault(w: Width, t: &[u32], n: u32, u: Span, k: u32, g: u32, s: State) ->
 
 fn put_state(s: State, n: u32, r: Row) -> State
     requires { n < limits.greatest_word }
-    ensures* { λ x. ⌜ x ≡ put_state s n r ⌝ }
+    ensures { result ≡ put_state s n r }
 {
     State {
         at: s.at,
@@ -457,7 +457,7 @@ fn put_state(s: State, n: u32, r: Row) -> State
 // One row more.
 fn put_kind(rows: &mut [u32], k: u32, token: u32, next: u32, operands: u32, s: State) -> State
     requires { (length rows.old ≡ outline_words) × (s.count ≤ limits.statements) }
-    ensures* { λ r. ⌜ world r rows.new ≡ put_kind k token next operands (world s rows.old) ⌝ }
+    ensures { world result rows.new ≡ put_kind k token next operands (world s rows.old) }
 {
     let o = row_at(rows, s.top);
     let r = row_in(k, s.count, s.top, o, token, next, s.locals, operands);
@@ -468,7 +468,7 @@ fn put_kind(rows: &mut [u32], k: u32, token: u32, next: u32, operands: u32, s: S
 // The two rows of an else-if line.
 fn grow_two(t: &[u32], rows: &mut [u32], u: Span, k: u32, s: State) -> State
     requires { (length rows.old ≡ outline_words) × (s.count + 1 ≤ limits.statements) × (u.word ≤ limits.tokens + 1) }
-    ensures* { λ r. ⌜ world r rows.new ≡ grow_two t.now u k (world s rows.old) ⌝ }
+    ensures { world result rows.new ≡ grow_two t.now u k (world s rows.old) }
 {
     let x = put_kind(rows, k, u.word, u.word + 1, 0, s);
     let j = lang_kinds::kind_of_word(parse_lines::word_at(t, u.word + 1));
@@ -477,7 +477,7 @@ fn grow_two(t: &[u32], rows: &mut [u32], u: Span, k: u32, s: State) -> State
 
 fn grow(m: u32, t: &[u32], rows: &mut [u32], u: Span, k: u32, s: State) -> State
     requires { (length rows.old ≡ outline_words) × (s.count + m ≤ limits.statements + 1) × (u.word ≤ limits.tokens + 1) }
-    ensures* { λ r. ⌜ world r rows.new ≡ grow_by m t.now u k (world s rows.old) ⌝ }
+    ensures { world result rows.new ≡ grow_by m t.now u k (world s rows.old) }
 {
     if m == 0 {
         return s;
@@ -490,7 +490,7 @@ fn grow(m: u32, t: &[u32], rows: &mut [u32], u: Span, k: u32, s: State) -> State
 
 fn locals_behind(k: u32, operands: u32, before: u32, locals: u32) -> u32
     requires { k ≡ kind.let_local → locals < limits.locals }
-    ensures* { λ r. ⌜ r ≡ locals_behind k operands before locals ⌝ }
+    ensures { result ≡ locals_behind k operands before locals }
 {
     if k == Kind::FUNCTION {
         return operands;
@@ -505,7 +505,7 @@ fn locals_behind(k: u32, operands: u32, before: u32, locals: u32) -> u32
 }
 
 fn less_one(depth: u32) -> u32
-    ensures* { λ r. ⌜ r ≡ depth - 1 ⌝ }
+    ensures { result ≡ depth - 1 }
 {
     if depth < 1 {
         return 0;
@@ -515,7 +515,7 @@ fn less_one(depth: u32) -> u32
 
 fn depth_behind(k: u32, depth: u32) -> u32
     requires { k ≡ kind.block → depth < limits.block_depth }
-    ensures* { λ r. ⌜ r ≡ depth_behind k depth ⌝ }
+    ensures { result ≡ depth_behind k depth }
 {
     if k == Kind::FUNCTION {
         return 0;
@@ -531,7 +531,7 @@ fn depth_behind(k: u32, depth: u32) -> u32
 
 // The section behind a line.
 pub fn section_behind(k: u32, section: u32) -> u32
-    ensures* { λ r. ⌜ r ≡ section_behind k section ⌝ }
+    ensures { result ≡ section_behind k section }
 {
     if k == Kind::SECTION_DATA {
         return Ground::DATA_SECTION;
@@ -550,7 +550,7 @@ pub fn section_behind(k: u32, section: u32) -> u32
 
 fn state_behind(t: &[u32], n: u32, u: Span, k: u32, o: Row, s: State) -> State
     requires { (u.word ≤ limits.tokens + 1) × (s.labels ≤ limits.tokens + 1) × (k ≡ kind.let_local → s.locals < limits.locals) × (k ≡ kind.block → s.depth < limits.block_depth) }
-    ensures* { λ r. ⌜ r ≡ state_behind t.now n u k o s ⌝ }
+    ensures { result ≡ state_behind t.now n u k o s }
 {
     let x = parse_rules::labels_rule(t, n, u, s.labels);
     State {
@@ -565,7 +565,7 @@ fn state_behind(t: &[u32], n: u32, u: Span, k: u32, o: Row, s: State) -> State
 }
 
 fn join_state(s: State, r: State) -> State
-    ensures* { λ x. ⌜ x ≡ join_state s r ⌝ }
+    ensures { result ≡ join_state s r }
 {
     State {
         at: s.at,
@@ -581,7 +581,7 @@ fn join_state(s: State, r: State) -> State
 // The state behind a unit without a fault, its rows written.
 fn step_on(t: &[u32], n: u32, rows: &mut [u32], u: Span, k: u32, s: State) -> State
     requires { StepFits rows.old u k s }
-    ensures* { λ r. ⌜ world r rows.new ≡ advance t.now n u k (world s rows.old) ⌝ }
+    ensures { world result rows.new ≡ advance t.now n u k (world s rows.old) }
 {
     let o = row_at(rows, s.top);
     let b = state_behind(t, n, u, k, o, s);
@@ -591,7 +591,7 @@ fn step_on(t: &[u32], n: u32, rows: &mut [u32], u: Span, k: u32, s: State) -> St
 
 fn step_unit(w: Width, t: &[u32], n: u32, rows: &mut [u32], s: State) -> UnitStep
     requires { UnitStepFits t.now rows.old s }
-    ensures* { λ r. ⌜ stepped r rows.new ≡ unit_step w t.now n (world s rows.old) ⌝ }
+    ensures { stepped result rows.new ≡ unit_step w t.now n (world s rows.old) }
 {
     let u = parse_lines::unit_at(t, s.at);
     let k = parse_lines::line_kind(t, u.word);
@@ -612,7 +612,7 @@ fn step_unit(w: Width, t: &[u32], n: u32, rows: &mut [u32], s: State) -> UnitSte
 
 fn parse_from(w: Width, t: &[u32], n: u32, rows: &mut [u32], start: State) -> Verdict
     requires { UnitStepFits t.now rows.old start × (start.labels ≤ start.at) }
-    ensures* { λ r. ⌜ result r rows.new ≡ parse_from w t.now n (world start rows.old) ⌝ }
+    ensures { parse_result result rows.new ≡ parse_from w t.now n (world start rows.old) }
 {
     let mut s = start;
     loop {
@@ -628,7 +628,7 @@ fn parse_from(w: Width, t: &[u32], n: u32, rows: &mut [u32], start: State) -> Ve
 }
 
 fn start_state() -> State
-    ensures* { λ r. ⌜ r ≡ begin ⌝ }
+    ensures { result ≡ begin }
 {
     State {
         at: 0,
@@ -644,7 +644,7 @@ fn start_state() -> State
 // The outline of the tokens t of a source of n bytes; the rows' words are cleared first.
 pub fn parse_rows(w: Width, t: &[u32], n: u32, rows: &mut [u32]) -> Verdict
     requires { (length t.now ≡ limits.token_words) × (length rows.old ≡ outline_words) }
-    ensures* { λ r. ⌜ result r rows.new ≡ parse_of w t.now n ⌝ }
+    ensures { parse_result result rows.new ≡ parse_of w t.now n }
 {
     base_prelude::clear_from(rows, 0);
     parse_from(w, t, n, rows, start_state())

@@ -20,7 +20,7 @@ use Rattle.parse_lines.proofs.Keys.{key-low}
 use Rattle.parse_rules.specs.Rules.{label_limit, label_key, labelled, label_step, labels_from, labels_rule}
 use Rattle.parse_rules.specs.declared.Labelled.{Labelled}
 use Rattle.parse_units.specs.Places.{ground_in, import_labels, import_rule, line_faults, unit_fault}
-use Rattle.parse_units.specs.Parse.{World, world, Result, result, begin, state_behind, join_state, advance, open_row, fault_in, unit_step_on, unit_step, parse_from, parse_of}
+use Rattle.parse_units.specs.Parse.{World, world, Result, parse_result, begin, state_behind, join_state, advance, open_row, fault_in, unit_step_on, unit_step, parse_from, parse_of}
 use Rattle.parse_units.specs.Fits.{UnitStepFits}
 use Rattle.parse_units.specs.declared.State.{State}
 use Rattle.parse_units.specs.declared.Verdict.{Verdict}
@@ -130,7 +130,7 @@ begin-counted t e = (
 parse-few : (w : Width) (t : List ℕ) (n : ℕ) → length t ≡ 32768 → Few (parse_of w t n).verdict
 unfolding parse_of parse_from
 parse-few w t n e =
-    walk_kept (Counted t) (λ (r : Result). Few r.verdict) (unit_step w t n) (result (Refused none) []) tt (unit-step-counted w t n)
+    walk_kept (Counted t) (λ (r : Result). Few r.verdict) (unit_step w t n) (parse_result (Refused none) []) tt (unit-step-counted w t n)
     (suc (length t)) (world begin (zeros 8200)) (begin-counted t e)
 
 abbrev FewAnswer : Parsed → Type 0

@@ -24,7 +24,7 @@ use Rattle.parse_lines.specs.Lines.{line_kind}
 use Rattle.parse_lines.specs.declared.Span.{Span}
 use Rattle.parse_lines.proofs.Edge.{edge-is}
 use Rattle.parse_units.specs.Places.{ground_in, line_on, unit_fault}
-use Rattle.parse_units.specs.Parse.{World, world, Result, result, begin, state_behind, join_state, advance, open_row, fault_in, unit_step_on, unit_step, parse_from, parse_of}
+use Rattle.parse_units.specs.Parse.{World, world, Result, parse_result, begin, state_behind, join_state, advance, open_row, fault_in, unit_step_on, unit_step, parse_from, parse_of}
 use Rattle.parse_units.specs.Fits.{UnitStepFits}
 use Rattle.parse_units.specs.declared.Verdict.{Verdict}
 use Rattle.parse_units.specs.declared.Verdict.TheVariants.{Accepted, Refused}
@@ -188,11 +188,11 @@ module _ (t : List ℕ) (n : ℕ) (r : Rising t n) where
               ⊎_elim (λ g. omega arith) (λ z. absurd (e z)) (rest-low k x (later-low k (next_world t n x)))
         ])
 
-    unit-step-fault : (x : World) → fault_at w t n x < none → unit_step w t n x ≡ stop (result (Refused (fault_at w t n x)) x.table)
+    unit-step-fault : (x : World) → fault_at w t n x < none → unit_step w t n x ≡ stop (parse_result (Refused (fault_at w t n x)) x.table)
     unfolding unit_step unit_step_on fault_at
     unit-step-fault x h = if_lt-yes _ _ h
 
-    unit-step-edge : (x : World) → none ≤ fault_at w t n x → kind_in t x ≡ 0 → unit_step w t n x ≡ stop (result (Accepted x.state.count x.state.labels) x.table)
+    unit-step-edge : (x : World) → none ≤ fault_at w t n x → kind_in t x ≡ 0 → unit_step w t n x ≡ stop (parse_result (Accepted x.state.count x.state.labels) x.table)
     unfolding unit_step unit_step_on fault_at kind_in
     unit-step-edge x h e = if_lt-no _ _ h ∙ if_eq-yes _ _ e
 
@@ -207,15 +207,15 @@ module _ (t : List ℕ) (n : ℕ) (r : Rising t n) where
         ∙ min-eq_right (omega (arith, least-none (if_eq (kind_in t x) 0 [] (faults_from k w t n (next_world t n x)))))
 
     -- the walk over units finds the least over all of them
-    decides : (k : ℕ) (x : World) → key_of (walk (unit_step w t n) (result (Refused none) []) k x).verdict ≡ least_of (faults_from k w t n x)
+    decides : (k : ℕ) (x : World) → key_of (walk (unit_step w t n) (parse_result (Refused none) []) k x).verdict ≡ least_of (faults_from k w t n x)
     unfolding walk faults_from least_of
     decides zero x = refl
     decides (suc k) x =
         elim (dec_lt (fault_at w t n x) none) [
-          | yes h ↦ ap (λ (y : Result). key_of y.verdict) (walk-stop (unit_step w t n) (result (Refused none) []) k x _ (unit-step-fault x h)) ∙ sym (first-least k x h)
+          | yes h ↦ ap (λ (y : Result). key_of y.verdict) (walk-stop (unit_step w t n) (parse_result (Refused none) []) k x _ (unit-step-fault x h)) ∙ sym (first-least k x h)
           | no h ↦ elim (ℕ_discrete (kind_in t x) 0) [
-            | yes e ↦ ap (λ (y : Result). key_of y.verdict) (walk-stop (unit_step w t n) (result (Refused none) []) k x _ (unit-step-edge x (omega arith) e)) ∙ sym (skip_first k x (omega arith) ∙ rest-edge k x e)
-            | no e ↦ ap (λ (y : Result). key_of y.verdict) (walk-go (unit_step w t n) (result (Refused none) []) k x _ (unit-step-on x (omega arith) e)) ∙ decides k (next_world t n x)
+            | yes e ↦ ap (λ (y : Result). key_of y.verdict) (walk-stop (unit_step w t n) (parse_result (Refused none) []) k x _ (unit-step-edge x (omega arith) e)) ∙ sym (skip_first k x (omega arith) ∙ rest-edge k x e)
+            | no e ↦ ap (λ (y : Result). key_of y.verdict) (walk-go (unit_step w t n) (parse_result (Refused none) []) k x _ (unit-step-on x (omega arith) e)) ∙ decides k (next_world t n x)
                 ∙ sym (skip_first k x (omega arith) ∙ ap least_of (if_eq-no [] (faults_from k w t n (next_world t n x)) e))
           ]
         ]
@@ -269,7 +269,7 @@ begin-fits t e = (record { tokens = e; long = length-replicate {A = ℕ} 8200 0;
 pub parse-real : (w : Width) (t : List ℕ) (n : ℕ) → length t ≡ 32768 → RealV (parse_of w t n).verdict
 unfolding parse_of parse_from
 parse-real w t n e =
-    walk_ends (FitWorld t) (λ (y : Result). RealV y.verdict) (λ (y : World). 4097 - y.state.at) (unit_step w t n) (result (Refused none) []) (unit-step-real w t n)
+    walk_ends (FitWorld t) (λ (y : Result). RealV y.verdict) (λ (y : World). 4097 - y.state.at) (unit_step w t n) (parse_result (Refused none) []) (unit-step-real w t n)
     (suc (length t)) (world begin (zeros 8200)) (omega arith) (begin-fits t e)
 
 real-none : (v : Verdict) → RealV v → key_of v ≡ none → is_accepted v ≡ true

@@ -1,5 +1,6 @@
 // The data image: how long data is, where each line of it stands, and its bytes.
 #![tactic(auto)]
+
 ghost use Rattle.std.specs.Prelude.{◌≡◌, ◌+◌, ◌-◌, ◌≤◌, ◌<◌, length};
 ghost use Rattle.base_limits.specs.Limits as limits;
 ghost use Rattle.base_prelude.specs.Lists.{overlay};

@@ -1,5 +1,6 @@
 // The word that nesting and frames give each row of the statement table.
 #![tactic(auto)]
+
 ghost use Rattle.std.specs.Prelude.{◌≡◌, ◌≤◌, ◌<◌, length};
 ghost use Rattle.base_limits.specs.Limits as limits;
 ghost use Rattle.prog_tables.specs.Statement.{row_at};

@@ -1,5 +1,6 @@
 // The rules on names: unknown names, wrong kinds, second names, argument counts; and the first use of each label.
 #![tactic(auto)]
+
 ghost use Rattle.std.specs.Prelude.{◌≡◌, ◌+◌, ◌-◌, ◌≤◌, ◌<◌, length};
 ghost use Rattle.base_limits.specs.Limits as limits;
 ghost use Rattle.base_prelude.specs.Fault.{none};

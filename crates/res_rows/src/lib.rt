@@ -1,5 +1,6 @@
 // The rows of the statement table, from the skeleton, the frame words, the final label table, and what each name means.
 #![tactic(auto)]
+
 ghost use Rattle.std.specs.Prelude.{◌≡◌, ◌+◌, ◌-◌, ◌*◌, ◌≤◌, ◌<◌, min, eqb, length};
 ghost use Rattle.base_limits.specs.Limits as limits;
 ghost use Rattle.res_scope.specs.Lines.{label_kind};

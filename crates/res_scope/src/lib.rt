@@ -1,5 +1,6 @@
 // What a name means at a statement: the let, parameter or label that has it; and the parts of a statement.
 #![tactic(auto)]
+
 ghost use Rattle.std.specs.Prelude.{◌≡◌, ◌+◌, ◌-◌, ◌≤◌, ◌<◌, min};
 ghost use Rattle.base_limits.specs.Limits as limits;
 ghost use Rattle.prog_tables.specs.Layout.{no_expression, call_expression};

@@ -1,5 +1,6 @@
 // The lent token table: the tokens' rows, and which statement each token begins.
 #![tactic(auto)]
+
 ghost use Rattle.std.specs.Prelude.{◌≡◌, ◌*◌, ◌≤◌, ◌<◌, length};
 ghost use Rattle.base_limits.specs.Limits as limits;
 ghost use Rattle.base_limits.specs.Limits.{token_row};

@@ -21,7 +21,7 @@ use Rattle.parse_lines.specs.declared.Span.{Span}
 use Rattle.parse_shapes.specs.Shapes.{operand_count}
 use Rattle.parse_units.specs.Outline.{row_at, row_in, put_row}
 use Rattle.parse_units.specs.Places.{ground_in}
-use Rattle.parse_units.specs.Parse.{World, world, put_state, put_kind, grow_two, grow_by, join_state, state_behind, advance, Result, result, open_row, fault_in, unit_step_on, unit_step, begin, parse_from, parse_of}
+use Rattle.parse_units.specs.Parse.{World, world, put_state, put_kind, grow_two, grow_by, join_state, state_behind, advance, Result, parse_result, open_row, fault_in, unit_step_on, unit_step, begin, parse_from, parse_of}
 use Rattle.parse_units.specs.Fits.{UnitStepFits}
 use Rattle.parse_units.specs.declared.Row.{Row}
 use Rattle.parse_units.specs.declared.Verdict.{Verdict}
@@ -139,7 +139,7 @@ begin-good t e = (
 parse-order : (w : Width) (t : List ℕ) (n : ℕ) → length t ≡ 32768 → Answer (parse_of w t n).outline (parse_of w t n).verdict
 unfolding parse_of parse_from
 parse-order w t n e =
-    walk_kept (Good t) (λ (r : Result). Answer r.outline r.verdict) (unit_step w t n) (result (verdict.Refused none) []) tt (unit-step-kept w t n) (suc (length t)) (world begin (zeros 8200)) (begin-good t e)
+    walk_kept (Good t) (λ (r : Result). Answer r.outline r.verdict) (unit_step w t n) (parse_result (verdict.Refused none) []) tt (unit-step-kept w t n) (suc (length t)) (world begin (zeros 8200)) (begin-good t e)
 
 abbrev Told : List ℕ → Parsed → Type 0
 Told rows (answer.Accepted c l) = (m : ℕ) → m + 1 < c → (row_at rows (m + 1)).next ≤ (row_at rows (m + 2)).token

@@ -21,7 +21,7 @@ use Rattle.parse_units.proofs.Bounds.{clean-room, clean-lets, clean-deep, unit-c
 use Rattle.parse_units.specs.Outline as outline
 use Rattle.parse_units.specs.Outline.{put_row}
 use Rattle.parse_units.specs.declared.Row as declared
-use Rattle.parse_units.specs.Parse.{World, world, Result, result, begin, put_state, put_kind, grow_two, grow_by, locals_behind, depth_behind, state_behind, join_state, advance, open_row, fault_in, unit_step_on, unit_step, parse_from, parse_of}
+use Rattle.parse_units.specs.Parse.{World, world, Result, parse_result, begin, put_state, put_kind, grow_two, grow_by, locals_behind, depth_behind, state_behind, join_state, advance, open_row, fault_in, unit_step_on, unit_step, parse_from, parse_of}
 use Rattle.parse_units.specs.Places as places
 use Rattle.lang_kinds.specs.Nesting.{stands_in, rows_of, kind_of_word}
 use Rattle.parse_lines.specs.Tokens.{word_at}
@@ -337,5 +337,5 @@ begin-behind =
 pub parse-answers : (w : Width) (t : List ℕ) (n : ℕ) → length t ≡ 32768 → Answers (parse_of w t n)
 unfolding parse_of parse_from
 parse-answers w t n e =
-    walk_kept (Ready t) Answers (unit_step w t n) (result (Refused none) []) (tt, tt) (λ x g. unit-step-ready w t n x g.0 g.1)
+    walk_kept (Ready t) Answers (unit_step w t n) (parse_result (Refused none) []) (tt, tt) (λ x g. unit-step-ready w t n x g.0 g.1)
     (suc (length t)) (world begin (zeros 8200)) (begin-between t e, begin-behind)

@@ -26,7 +26,7 @@ use Rattle.parse_lines.specs.declared.Span.{Span}
 use Rattle.parse_rules.specs.Rules.{labels_rule}
 use Rattle.parse_units.specs.Outline.{row_at}
 use Rattle.parse_units.specs.Places.{ground_in, import_labels, unit_fault}
-use Rattle.parse_units.specs.Parse.{World, world, Result, result, begin, grow_by, state_behind, join_state, advance, section_behind, open_row, fault_in, unit_step, parse_from, parse_of}
+use Rattle.parse_units.specs.Parse.{World, world, Result, parse_result, begin, grow_by, state_behind, join_state, advance, section_behind, open_row, fault_in, unit_step, parse_from, parse_of}
 use Rattle.parse_units.specs.Fits.{UnitStepFits}
 use Rattle.parse_units.specs.declared.Row as outlined
 use Rattle.parse_units.specs.declared.State.{State}
@@ -331,22 +331,22 @@ abbrev Rowed : List ℕ → Result → List ℕ → Type 0
 Rowed t r y = Answered t r.verdict r.outline y
 
 walks-linked : (w : Width) (t : List ℕ) (n fuel : ℕ) (x : World) (m : Marking) → Linked t x m
-    → Rowed t (walk (unit_step w t n) (result (Refused none) []) fuel x) (walk (mark_step t) [] fuel m)
+    → Rowed t (walk (unit_step w t n) (parse_result (Refused none) []) fuel x) (walk (mark_step t) [] fuel m)
 unfolding walk
 walks-linked w t n zero x m h = tt
 walks-linked w t n (suc fuel) x m h =
     elim (dec_lt (fault_in w t n (unit_at t x.state.at) x) none) [
-      | yes l ↦ subst (λ (r : Result). Rowed t r (walk (mark_step t) [] (suc fuel) m)) (sym (walk-stop (unit_step w t n) (result (Refused none) []) fuel x _ (refused-step w t n x l))) tt
+      | yes l ↦ subst (λ (r : Result). Rowed t r (walk (mark_step t) [] (suc fuel) m)) (sym (walk-stop (unit_step w t n) (parse_result (Refused none) []) fuel x _ (refused-step w t n x l))) tt
       | no l ↦
           let c : none ≤ fault_in w t n (unit_at t x.state.at) x = omega arith in
           elim (ℕ_discrete (line_kind t (unit_at t x.state.at).word) 0) [
             | yes e ↦
-                subst (λ (r : Result). Rowed t r (walk (mark_step t) [] (suc fuel) m)) (sym (walk-stop (unit_step w t n) (result (Refused none) []) fuel x _ (end_step w t n x c e)))
+                subst (λ (r : Result). Rowed t r (walk (mark_step t) [] (suc fuel) m)) (sym (walk-stop (unit_step w t n) (parse_result (Refused none) []) fuel x _ (end_step w t n x c e)))
                 (subst (λ (y : List ℕ). Each (Labels t x.table x.state.count) y x.state.labels)
                 (sym (walk-stop (mark_step t) [] fuel m _ (mark-end w t n x m h e) ∙ ap (λ (y : Marked). y.table) (end-plain w t n x m h c e))) h.each)
             | no d ↦
-                subst (λ (r : Result). Rowed t r (walk (mark_step t) [] (suc fuel) m)) (sym (walk-go (unit_step w t n) (result (Refused none) []) fuel x _ (go_step w t n x c d)))
-                (subst (λ (y : List ℕ). Rowed t (walk (unit_step w t n) (result (Refused none) []) fuel (advance t n (unit_at t x.state.at) (line_kind t (unit_at t x.state.at).word) x)) y)
+                subst (λ (r : Result). Rowed t r (walk (mark_step t) [] (suc fuel) m)) (sym (walk-go (unit_step w t n) (parse_result (Refused none) []) fuel x _ (go_step w t n x c d)))
+                (subst (λ (y : List ℕ). Rowed t (walk (unit_step w t n) (parse_result (Refused none) []) fuel (advance t n (unit_at t x.state.at) (line_kind t (unit_at t x.state.at).word) x)) y)
                 (sym (walk-go (mark_step t) [] fuel m _ (mark-go w t n x m h d)))
                 (walks-linked w t n fuel _ _ (linked_on w t n x m h c d)))
           ]

@@ -23,7 +23,7 @@ use Rattle.parse_shapes.specs.Shapes.{operand_count}
 use Rattle.parse_rules.specs.Rules.{shape_rule, tokens_rule, list_rule}
 use Rattle.parse_units.specs.Outline.{row_at, row_in, put_row}
 use Rattle.parse_units.specs.Places.{ground_in, line_faults, limit_faults, unit_fault}
-use Rattle.parse_units.specs.Parse.{World, world, put_state, put_kind, grow_two, grow_by, join_state, advance, Result, result, open_row, fault_in, unit_step_on, unit_step, begin, parse_from, parse_of}
+use Rattle.parse_units.specs.Parse.{World, world, put_state, put_kind, grow_two, grow_by, join_state, advance, Result, parse_result, open_row, fault_in, unit_step_on, unit_step, begin, parse_from, parse_of}
 use Rattle.parse_units.specs.Fits.{UnitStepFits}
 use Rattle.parse_units.specs.declared.Row.{Row}
 use Rattle.parse_units.specs.declared.State.{State}
@@ -169,7 +169,7 @@ begin-good w t n e = (
 parse-lined : (w : Width) (t : List ℕ) (n : ℕ) → length t ≡ 32768 → Answer w t n (parse_of w t n).outline (parse_of w t n).verdict
 unfolding parse_of parse_from
 parse-lined w t n e =
-    walk_kept (Good w t n) (λ (r : Result). Answer w t n r.outline r.verdict) (unit_step w t n) (result (verdict.Refused none) []) tt (unit-step-lined w t n)
+    walk_kept (Good w t n) (λ (r : Result). Answer w t n r.outline r.verdict) (unit_step w t n) (parse_result (verdict.Refused none) []) tt (unit-step-lined w t n)
     (suc (length t)) (world begin (zeros 8200)) (begin-good w t n e)
 
 abbrev Told : Width → List ℕ → ℕ → List ℕ → Parsed → Type 0

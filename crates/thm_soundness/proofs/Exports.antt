@@ -25,7 +25,7 @@ use Rattle.parse_lines.specs.Lines.{line_kind}
 use Rattle.parse_lines.specs.declared.Span.{Span}
 use Rattle.parse_units.specs.Outline.{row_at}
 use Rattle.parse_units.specs.Places.{ground_in, unit_fault}
-use Rattle.parse_units.specs.Parse.{World, world, Result, result, begin, grow_by, state_behind, join_state, advance, section_behind, open_row, fault_in, unit_step, parse_from, parse_of}
+use Rattle.parse_units.specs.Parse.{World, world, Result, parse_result, begin, grow_by, state_behind, join_state, advance, section_behind, open_row, fault_in, unit_step, parse_from, parse_of}
 use Rattle.parse_units.specs.Fits.{UnitStepFits}
 use Rattle.parse_units.specs.declared.Row as outlined
 use Rattle.parse_units.specs.declared.State.{State}
@@ -162,27 +162,27 @@ module _ (w : Width) (t : List ℕ) (n : ℕ) (x : World) (h : Fine t x) where
 -- what holds of a world and the answer of the walk from it, from what holds of the world behind its line
 module _ (w : Width) (t : List ℕ) (n : ℕ) (P : World → Result → Type 0) where
   abbrev Refusing : Type 0
-  Refusing = (x : World) (key : ℕ) (z : List ℕ) → P x (result (Refused key) z)
+  Refusing = (x : World) (key : ℕ) (z : List ℕ) → P x (parse_result (Refused key) z)
 
   abbrev Ending : Type 0
   Ending = (x : World) (h : Fine t x) → none ≤ fault_in w t n (unit_at t x.state.at) x → line_kind t (unit_at t x.state.at).word ≡ 0
-      → P x (result (Accepted x.state.count x.state.labels) x.table)
+      → P x (parse_result (Accepted x.state.count x.state.labels) x.table)
 
   abbrev Going : Type 0
   Going = (x : World) (h : Fine t x) → none ≤ fault_in w t n (unit_at t x.state.at) x → (line_kind t (unit_at t x.state.at).word ≡ 0 → ⊥)
       → (r : Result) → P (advance t n (unit_at t x.state.at) (line_kind t (unit_at t x.state.at).word) x) r → P x r
 
-  by_lines : Refusing → Ending → Going → (fuel : ℕ) (x : World) → Fine t x → P x (walk (unit_step w t n) (result (Refused none) []) fuel x)
+  by_lines : Refusing → Ending → Going → (fuel : ℕ) (x : World) → Fine t x → P x (walk (unit_step w t n) (parse_result (Refused none) []) fuel x)
   unfolding walk
   by_lines a b c zero x h = a x none []
   by_lines a b c (suc fuel) x h =
       elim (dec_lt (fault_in w t n (unit_at t x.state.at) x) none) [
-        | yes l ↦ subst (P x) (sym (walk-stop (unit_step w t n) (result (Refused none) []) fuel x _ (refused-step w t n x l))) (a x _ _)
+        | yes l ↦ subst (P x) (sym (walk-stop (unit_step w t n) (parse_result (Refused none) []) fuel x _ (refused-step w t n x l))) (a x _ _)
         | no l ↦
             let g : none ≤ fault_in w t n (unit_at t x.state.at) x = omega arith in
             elim (ℕ_discrete (line_kind t (unit_at t x.state.at).word) 0) [
-              | yes e ↦ subst (P x) (sym (walk-stop (unit_step w t n) (result (Refused none) []) fuel x _ (end_step w t n x g e))) (b x h g e)
-              | no d ↦ subst (P x) (sym (walk-go (unit_step w t n) (result (Refused none) []) fuel x _ (go_step w t n x g d)))
+              | yes e ↦ subst (P x) (sym (walk-stop (unit_step w t n) (parse_result (Refused none) []) fuel x _ (end_step w t n x g e))) (b x h g e)
+              | no d ↦ subst (P x) (sym (walk-go (unit_step w t n) (parse_result (Refused none) []) fuel x _ (go_step w t n x g d)))
                   (c x h g d _ (by_lines a b c fuel _ (fine-on w t n x h g d)))
             ]
       ]

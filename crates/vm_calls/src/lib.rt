@@ -1,5 +1,6 @@
 // Calls and returns: arguments, new frames, the way a value is handed back; and the answers that statements give.
 #![tactic(auto)]
+
 ghost use Rattle.std.specs.Prelude.{◌≡◌, true, suc, ◌+◌, ◌≤◌, ◌<◌, min, length, take};
 ghost use Rattle.base_limits.specs.Limits.{greatest_word, memory_bytes, stack_words};
 ghost use Rattle.base_limits.specs.declared.Width.TheVariants.{Bits32};

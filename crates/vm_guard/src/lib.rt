@@ -1,5 +1,6 @@
 // Refusal 35 of a step, decided before an operand is read; and the way out of the frames that a return leaves.
 #![tactic(auto)]
+
 ghost use Rattle.std.specs.Prelude.{◌≡◌, suc, ◌+◌, ◌*◌, ◌≤◌, min, eqb, length, get_or};
 ghost use Rattle.base_limits.specs.declared.Width.TheVariants.{Bits32};
 ghost use Rattle.prog_tables.specs.Statement.{row_at};

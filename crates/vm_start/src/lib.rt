@@ -1,5 +1,6 @@
 // Start: refusals 35 and 20 to 23, and the first frame.
 #![tactic(auto)]
+
 ghost use Rattle.std.specs.Prelude.{◌≡◌, ◌+◌, ◌*◌, ◌≤◌, ◌<◌, min, length, take, drop};
 ghost use Rattle.base_limits.specs.Limits.{word_values, greatest_word};
 ghost use Rattle.base_prelude.specs.Lists.{same_list};

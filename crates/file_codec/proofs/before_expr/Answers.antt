@@ -1,0 +1,9 @@
+use Rattle.file_codec.proofs.Counts.{before-expr}
+use native.Mathlib.Omega.{arith}
+use mathlib.Core.Path.{◌≡◌, refl, sym, ◌∙◌, ap, subst}
+use borrow.Author.Rules.{rules}
+use Rattle.file_codec.proofs.before_expr.Goals as goal
+
+pub returns : goal.returns
+returns c =
+    record { 0 = search before-expr; 1 = omega arith }

@@ -1,0 +1,14 @@
+use borrow.Author.Rules.{rules}
+use Prim.Native.Nat.{◌-◌}
+use Rattle.parse_outline.proofs.Marking.{Walking, walking, walking-less, walking-fits}
+use native.Mathlib.Omega.{arith}
+use mathlib.Core.Path.{◌≡◌, refl, sym, ◌∙◌, ap, subst}
+use Rattle.parse_outline.proofs.marks_from.Given as goal
+
+abbrev pub invariant-loop-y : goal.invariant-loop-y
+invariant-loop-y l =
+    Walking l.t l.initial.s l.initial.x l.s l.x
+
+abbrev pub decreases-loop-y : goal.decreases-loop-y
+decreases-loop-y l =
+    4097 - l.s.at

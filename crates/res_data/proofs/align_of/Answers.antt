@@ -1,0 +1,13 @@
+use Rattle.res_data.proofs.Cases.{aligning}
+use native.Mathlib.Omega.{arith}
+use mathlib.Core.Path.{◌≡◌, refl, sym, ◌∙◌, ap, subst}
+use borrow.Author.Rules.{rules}
+use Rattle.res_data.proofs.align_of.Goals as goal
+
+pub returns-then-operand_count-eq0 : goal.returns-then-operand_count-eq0
+returns-then-operand_count-eq0 c =
+    search aligning
+
+pub returns : goal.returns
+returns c =
+    search aligning

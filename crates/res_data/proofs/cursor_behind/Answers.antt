@@ -1,0 +1,10 @@
+use Rattle.res_data.specs.Sizes.{cursor_behind}
+use native.Mathlib.Omega.{arith}
+use mathlib.Core.Path.{◌≡◌, refl, sym, ◌∙◌, ap, subst}
+use borrow.Author.Rules.{rules}
+use Rattle.res_data.proofs.cursor_behind.Goals as goal
+
+pub returns : goal.returns
+unfolding cursor_behind
+returns c =
+    cc

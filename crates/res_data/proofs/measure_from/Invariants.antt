@@ -1,0 +1,14 @@
+use borrow.Author.Rules.{rules}
+use Prim.Native.Nat.{◌-◌}
+use Rattle.res_data.proofs.Walks.{Measuring, measuring, measuring-less, measuring-fits}
+use native.Mathlib.Omega.{arith}
+use mathlib.Core.Path.{◌≡◌, refl, sym, ◌∙◌, ap, subst}
+use Rattle.res_data.proofs.measure_from.Given as goal
+
+abbrev pub invariant-loop-y : goal.invariant-loop-y
+invariant-loop-y l =
+    Measuring l.w l.t l.end l.initial.s l.s
+
+abbrev pub decreases-loop-y : goal.decreases-loop-y
+decreases-loop-y l =
+    4097 - l.s.at

@@ -1,0 +1,23 @@
+use borrow.Author.Rules.{rules}
+use Prim.Native.Nat.{◌-◌}
+use lib.ListN.{length}
+use Rattle.res_data.proofs.Cases.{Writing, writing}
+use native.Mathlib.Omega.{arith}
+use mathlib.Core.Path.{◌≡◌, refl, sym, ◌∙◌, ap, subst}
+use Rattle.res_data.proofs.write_number.Goals as goal
+
+pub loop-k-init : goal.loop-k-init
+loop-k-init c =
+    search writing
+
+pub returns-then-count-k : goal.returns-then-count-k
+returns-then-count-k c =
+    search writing
+
+pub loop-k-preserved : goal.loop-k-preserved
+loop-k-preserved c =
+    search writing
+
+pub returns : goal.returns
+returns c =
+    search writing

@@ -1,0 +1,17 @@
+use Rattle.res_names.proofs.Cases.{seconds}
+use native.Mathlib.Omega.{arith}
+use mathlib.Core.Path.{◌≡◌, refl, sym, ◌∙◌, ap, subst}
+use borrow.Author.Rules.{rules}
+use Rattle.res_names.proofs.is_local_taken.Goals as goal
+
+pub returns-then-m-r : goal.returns-then-m-r
+returns-then-m-r c =
+    search seconds
+
+pub returns-then-kind_at-eq-FUNCTION : goal.returns-then-kind_at-eq-FUNCTION
+returns-then-kind_at-eq-FUNCTION c =
+    search seconds
+
+pub returns : goal.returns
+returns c =
+    search seconds

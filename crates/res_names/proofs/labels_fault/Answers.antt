@@ -1,0 +1,19 @@
+use borrow.Author.Rules.{rules}
+use Prim.Native.Nat.{◌-◌}
+use Rattle.res_scope.specs.Names.{same_number}
+use Rattle.res_names.proofs.Folds.{Labels, labels}
+use native.Mathlib.Omega.{arith}
+use mathlib.Core.Path.{◌≡◌, refl, sym, ◌∙◌, ap, subst}
+use Rattle.res_names.proofs.labels_fault.Goals as goal
+
+pub loop-j-init : goal.loop-j-init
+loop-j-init c =
+    search labels
+
+pub loop-j-preserved : goal.loop-j-preserved
+loop-j-preserved c =
+    search labels
+
+pub returns : goal.returns
+returns c =
+    search labels

@@ -1,0 +1,13 @@
+use Rattle.res_names.proofs.Cases.{seconds}
+use native.Mathlib.Omega.{arith}
+use mathlib.Core.Path.{◌≡◌, refl, sym, ◌∙◌, ap, subst}
+use borrow.Author.Rules.{rules}
+use Rattle.res_names.proofs.let_fault.Goals as goal
+
+pub returns-then-is_local_taken : goal.returns-then-is_local_taken
+returns-then-is_local_taken c =
+    search seconds
+
+pub returns : goal.returns
+returns c =
+    search seconds

@@ -1,0 +1,14 @@
+use Rattle.res_names.proofs.Cases.{statement-is}
+use Rattle.res_scope.proofs.Cases.{first-low}
+use native.Mathlib.Omega.{arith}
+use mathlib.Core.Path.{◌≡◌, refl, sym, ◌∙◌, ap, subst}
+use borrow.Author.Rules.{rules}
+use Rattle.res_names.proofs.statement_part.Goals as goal
+
+pub parts_of-p-requires : goal.parts_of-p-requires
+parts_of-p-requires c =
+    search (first-low, rules)
+
+pub returns : goal.returns
+returns c =
+    search statement-is

@@ -1,0 +1,13 @@
+use Rattle.res_rows.proofs.Cases.{operands}
+use native.Mathlib.Omega.{arith}
+use mathlib.Core.Path.{◌≡◌, refl, sym, ◌∙◌, ap, subst}
+use borrow.Author.Rules.{rules}
+use Rattle.res_rows.proofs.address_operand.Goals as goal
+
+pub returns-then-kind-eq-AT_SYMBOL : goal.returns-then-kind-eq-AT_SYMBOL
+returns-then-kind-eq-AT_SYMBOL c =
+    search operands
+
+pub returns : goal.returns
+returns c =
+    search operands

@@ -1,0 +1,10 @@
+use Rattle.res_rows.specs.Rows.{label_number}
+use native.Mathlib.Omega.{arith}
+use mathlib.Core.Path.{◌≡◌, refl, sym, ◌∙◌, ap, subst}
+use borrow.Author.Rules.{rules}
+use Rattle.res_rows.proofs.label_number.Goals as goal
+
+pub returns : goal.returns
+unfolding label_number
+returns c =
+    search rules

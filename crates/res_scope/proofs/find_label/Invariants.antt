@@ -1,0 +1,16 @@
+use borrow.Author.Rules.{rules}
+use Prim.Native.Nat.{◌-◌, ◌+◌}
+use Rattle.res_scope.specs.Names.{same_number, label_named}
+use Rattle.res_scope.proofs.Searches.{Upward, upward}
+use Rattle.res_scope.proofs.Cases.{label-of, label_same}
+use native.Mathlib.Omega.{arith}
+use mathlib.Core.Path.{◌≡◌, refl, sym, ◌∙◌, ap, subst}
+use Rattle.res_scope.proofs.find_label.Given as goal
+
+abbrev pub invariant-loop-j : goal.invariant-loop-j
+invariant-loop-j l =
+    Upward (label_named (same_number l.t) l.y l.i) l.l 0 l.j
+
+abbrev pub decreases-loop-j : goal.decreases-loop-j
+decreases-loop-j l =
+    l.l - l.j

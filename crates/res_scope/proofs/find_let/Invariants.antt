@@ -1,0 +1,16 @@
+use borrow.Author.Rules.{rules}
+use Prim.Native.Nat.{◌-◌, ◌+◌}
+use Rattle.res_scope.specs.Names.{same_number, let_named}
+use Rattle.res_scope.proofs.Searches.{Downward, downward}
+use Rattle.res_scope.proofs.Cases.{let-of}
+use native.Mathlib.Omega.{arith}
+use mathlib.Core.Path.{◌≡◌, refl, sym, ◌∙◌, ap, subst}
+use Rattle.res_scope.proofs.find_let.Given as goal
+
+abbrev pub invariant-loop-m : goal.invariant-loop-m
+invariant-loop-m l =
+    Downward (let_named (same_number l.t) l.k l.s l.i) l.n l.f l.m
+
+abbrev pub decreases-loop-m : goal.decreases-loop-m
+decreases-loop-m l =
+    l.m - l.f

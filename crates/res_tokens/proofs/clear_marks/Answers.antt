@@ -1,0 +1,26 @@
+use borrow.Author.Rules.{rules}
+use Prim.Native.Nat.{◌-◌}
+use Rattle.res_tokens.proofs.Cases.{Clearing, clearing, clearing-room, clearing-same}
+use native.Mathlib.Omega.{arith}
+use mathlib.Core.Path.{◌≡◌, refl, sym, ◌∙◌, ap, subst}
+use Rattle.res_tokens.proofs.clear_marks.Goals as goal
+
+pub loop-i-init : goal.loop-i-init
+loop-i-init c =
+    search clearing
+
+pub bounds-out-i : goal.bounds-out-i
+bounds-out-i c =
+    search (clearing-room, rules)
+
+pub loop-i-preserved : goal.loop-i-preserved
+loop-i-preserved c =
+    search clearing
+
+pub shape_of-out : goal.shape_of-out
+shape_of-out c =
+    search (clearing-same, rules)
+
+pub returns : goal.returns
+returns c =
+    search clearing

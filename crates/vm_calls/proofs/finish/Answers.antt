@@ -1,0 +1,6 @@
+use borrow.Author.Rules.{rules}
+use Rattle.vm_calls.proofs.finish.Goals as goal
+
+pub returns : goal.returns
+returns c =
+    cc

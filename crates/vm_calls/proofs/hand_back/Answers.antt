@@ -1,0 +1,17 @@
+use Rattle.vm_calls.proofs.Cases.{back, resumed-low}
+use native.Mathlib.Omega.{arith}
+use mathlib.Core.Path.{◌≡◌, refl, sym, ◌∙◌, ap, subst}
+use borrow.Author.Rules.{rules}
+use Rattle.vm_calls.proofs.hand_back.Goals as goal
+
+pub overflow_add-call : goal.overflow_add-call
+overflow_add-call c =
+    omega (arith, resumed-low _ _ _ _ _ _ _ _ _ _ c.requires c.resumption-way.ensures c.way-in-Caller-1.given.1)
+
+pub returns-in-Ends : goal.returns-in-Ends
+returns-in-Ends c =
+    search back
+
+pub returns-in-Caller : goal.returns-in-Caller
+returns-in-Caller c =
+    search back

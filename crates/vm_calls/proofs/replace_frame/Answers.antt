@@ -1,0 +1,13 @@
+use Rattle.vm_calls.proofs.Cases.{frames}
+use native.Mathlib.Omega.{arith}
+use mathlib.Core.Path.{◌≡◌, refl, sym, ◌∙◌, ap, subst}
+use borrow.Author.Rules.{rules}
+use Rattle.vm_calls.proofs.replace_frame.Goals as goal
+
+pub returns-then-st-s : goal.returns-then-st-s
+returns-then-st-s c =
+    search frames
+
+pub returns : goal.returns
+returns c =
+    search frames

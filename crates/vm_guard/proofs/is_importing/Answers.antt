@@ -1,0 +1,6 @@
+use borrow.Author.Rules.{rules}
+use Rattle.vm_guard.proofs.is_importing.Goals as goal
+
+pub returns : goal.returns
+returns c =
+    cc

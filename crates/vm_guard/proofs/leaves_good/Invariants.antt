@@ -1,0 +1,14 @@
+use borrow.Author.Rules.{rules}
+use Rattle.vm_guard.proofs.Cases.{Leaving, leaving}
+use Rattle.prog_tables.specs.Statement.{row_at}
+use native.Mathlib.Omega.{arith}
+use mathlib.Core.Path.{◌≡◌, refl, sym, ◌∙◌, ap, subst}
+use Rattle.vm_guard.proofs.leaves_good.Given as goal
+
+abbrev pub invariant-loop-left : goal.invariant-loop-left
+invariant-loop-left l =
+    Leaving (row_at l.t) l.c l.m l.st l.s l.at l.left
+
+abbrev pub decreases-loop-left : goal.decreases-loop-left
+decreases-loop-left l =
+    l.left

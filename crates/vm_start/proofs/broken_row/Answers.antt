@@ -1,0 +1,24 @@
+use borrow.Author.Rules.{rules}
+use Prim.Native.Nat.{◌-◌}
+use Rattle.prog_tables.specs.Program.{lent_program}
+use Rattle.prog_tables.specs.Faults.{row_fault}
+use Rattle.vm_start.proofs.Cases.{Scanning, scanning}
+use native.Mathlib.Omega.{arith}
+use mathlib.Core.Path.{◌≡◌, refl, sym, ◌∙◌, ap, subst}
+use Rattle.vm_start.proofs.broken_row.Goals as goal
+
+pub loop-i-init : goal.loop-i-init
+loop-i-init c =
+    search scanning
+
+pub returns-then-row_fault : goal.returns-then-row_fault
+returns-then-row_fault c =
+    search scanning
+
+pub loop-i-preserved : goal.loop-i-preserved
+loop-i-preserved c =
+    search scanning
+
+pub returns : goal.returns
+returns c =
+    search scanning
