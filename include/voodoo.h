@@ -62,7 +62,7 @@
  * memcpy and memset, so any number of threads may call them at once, each with its
  * own buffers. Nothing checks that these declarations and the compiled code agree.
  *
- * Link target/staticlib/libc_voodoo.a (x86-64 Linux; `rt staticlib c_voodoo`).
+ * Link target/staticlib/libc_voodoo.a (x86-64 Linux; `.ci/host` makes it).
  */
 #ifndef VOODOO_H
 #define VOODOO_H

@@ -78,6 +78,9 @@ def turn(crate, folder, old):
             changed = old["changed"][at]
             words = [("l.initial." if c else "l.") + v for v, c in zip(variables, changed)]
             words += ["l." + v for v, c in zip(variables, changed) if c]
+            if len(words) < len(params):
+                # a value that the walk kept and the check keeps no more
+                params = [p for p in params if not re.fullmatch(r"t\d+", p) or p in variables]
             if len(words) != len(params):
                 said.append(f"{folder}: {name} has {len(params)} parameters, expected {words}")
             table = dict(zip(params, words))
@@ -92,7 +95,8 @@ def turn(crate, folder, old):
                 goal = goals[places.index(name)][1]
             else:
                 by = {flat(a): b for a, b in goals}
-                goal = by.get(flat(name))
+                needed = re.match(r"tie\.Need-(\S+)", sign).group(1)
+                goal = by.get(flat(needed), by.get(flat(needed.replace("overflow-", ""))))
                 if goal is None:
                     said.append(f"{folder}: no goal for {name}")
                     continue

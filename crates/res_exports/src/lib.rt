@@ -1,5 +1,6 @@
 // Exports: which label each one exports, and the refusals 10, 11 and 17 at its name; those at an import's name.
 #![tactic(auto)]
+
 ghost use Rattle.std.specs.Prelude.{◌≡◌, ◌+◌, ◌-◌, ◌≤◌, ◌<◌, min, eqb, length, get_or};
 ghost use Rattle.base_limits.specs.Limits as limits;
 ghost use Rattle.res_scope.specs.Lines.{label_token};

@@ -1,5 +1,6 @@
 // The label table and the name table.
 #![tactic(auto)]
+
 ghost use Rattle.std.specs.Prelude.{◌≡◌, [], ◌∷◌, ◌+◌, ◌-◌, ◌*◌, ◌≤◌, ◌<◌, length};
 ghost use Rattle.prog_tables.specs.Layout.{label_row};
 ghost use Rattle.base_limits.specs.Limits as limits;

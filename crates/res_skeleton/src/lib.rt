@@ -1,5 +1,6 @@
 // The skeleton of the statement table: what nesting alone gives each row, and the tokens of its line.
 #![tactic(auto)]
+
 ghost use Rattle.std.specs.Prelude.{◌≡◌, ◌+◌, ◌*◌, ◌-◌, ◌≤◌, ◌<◌, length};
 ghost use Rattle.prog_tables.specs.Layout.{statement_words};
 ghost use Rattle.base_limits.specs.Limits as limits;

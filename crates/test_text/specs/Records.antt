@@ -12,8 +12,8 @@ use Rattle.test_text.specs.Fields.{count_fields, has_word}
 use Rattle.test_text.specs.Numbers.{field_value, field_word, are_values, has_values}
 
 -- `next `
-abbrev pub next_word_lem : List ℕ
-next_word_lem = 110 ∷ 101 ∷ 120 ∷ 116 ∷ 32 ∷ []
+abbrev pub next_word : List ℕ
+next_word = 110 ∷ 101 ∷ 120 ∷ 116 ∷ 32 ∷ []
 
 -- `frame `
 abbrev pub frame-word : List ℕ
@@ -46,7 +46,7 @@ paused-word = 112 ∷ 97 ∷ 117 ∷ 115 ∷ 101 ∷ 100 ∷ 32 ∷ []
 -- one of its numbers
 unfoldable pub poke_number : List ℕ → Machine → Machine
 poke_number l r =
-    if_true (has_word l 2 next_word_lem) (moved_to r (field_value l 3 % no_number) r.frame r.used r.top)
+    if_true (has_word l 2 next_word) (moved_to r (field_value l 3 % no_number) r.frame r.used r.top)
     (if_true (has_word l 2 frame-word) (moved_to r r.next (field_value l 3 % no_number) r.used r.top)
     (if_true (has_word l 2 used-word) (moved_to r r.next r.frame (field_value l 3 % no_number) r.top)
     (if_true (has_word l 2 top-word) (moved_to r r.next r.frame r.used (field_value l 3 % no_number)) r)))
@@ -82,7 +82,7 @@ poke_state l r =
 -- whether a line names a number of the record
 unfoldable pub is_number_poke : List ℕ → Bool
 is_number_poke l =
-    if_true (has_word l 2 next_word_lem) true
+    if_true (has_word l 2 next_word) true
     (if_true (has_word l 2 frame-word) true (if_true (has_word l 2 used-word) true (has_word l 2 top-word)))
 
 -- whether a line names a state of the record

@@ -1,5 +1,6 @@
 // The words of machine cases: numbers with a sign, answers as text, and the buffers that a case lends.
 #![tactic(auto)]
+
 ghost use Rattle.std.specs.Prelude.{◌≡◌, ◌+◌, ◌-◌, ◌%◌, ◌<◌, ◌≤◌, [], ◌∷◌, ◌++◌, length, take, replicate, slice_set};
 ghost use Rattle.base_limits.specs.Limits.{word_values};
 ghost use Rattle.base_limits.specs.Record.{eight_words};

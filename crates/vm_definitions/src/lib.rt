@@ -40,7 +40,7 @@ pub enum Broken {
 }
 
 // The answer of a start.
-#[derive(Drop)]
+#[derive(Clone, Copy)]
 pub enum Started {
     Begun,
     Refused(u32),

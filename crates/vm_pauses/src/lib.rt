@@ -1,5 +1,6 @@
 // Calls to imported functions: the pause, and going on with the word that the host hands in.
 #![tactic(auto)]
+
 ghost use Rattle.std.specs.Prelude.{◌≡◌, true, ◌≤◌, ◌<◌, length, get_or, take};
 ghost use Rattle.base_limits.specs.Limits.{greatest_word};
 ghost use Rattle.base_limits.specs.Record.{pause_of};

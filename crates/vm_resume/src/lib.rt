@@ -1,5 +1,6 @@
 // Going on from a pause, with the word that the host hands in.
 #![tactic(auto)]
+
 ghost use Rattle.std.specs.Prelude.{◌≡◌, length};
 ghost use Rattle.base_limits.specs.declared.Width.TheVariants.{Bits32};
 ghost use Rattle.prog_tables.specs.Program.{program_from};

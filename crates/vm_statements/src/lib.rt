@@ -1,5 +1,6 @@
 // Statements: one function for each form, and the statement that a record stands at.
 #![tactic(auto)]
+
 ghost use Rattle.std.specs.Prelude.{◌≡◌, true, [], ◌∷◌, suc, ◌+◌, ◌≤◌, ◌<◌, length, get_or, take, replicate};
 ghost use Rattle.base_limits.specs.Limits.{greatest_word, memory_bytes};
 ghost use Rattle.base_prelude.specs.Choice.{if_true};

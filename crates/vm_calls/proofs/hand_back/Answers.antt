@@ -6,7 +6,7 @@ use Rattle.vm_calls.proofs.hand_back.Goals as goal
 
 pub overflow_add-call : goal.overflow_add-call
 overflow_add-call c =
-    omega (arith, resumed-low _ _ _ _ _ _ _ _ _ _ c.requires c.resumption-way.ensures c.way-in-Caller-1.given.1)
+    omega (arith, resumed-low _ _ _ _ _ _ _ _ _ _ c.requires c.in-Caller.ensures refl)
 
 pub returns-in-Ends : goal.returns-in-Ends
 returns-in-Ends c =

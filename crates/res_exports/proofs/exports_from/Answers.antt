@@ -1,0 +1,31 @@
+use borrow.Author.Rules.{rules}
+use Prim.Native.Nat.{◌-◌}
+use Rattle.res_scope.specs.Names.{same_number}
+use Rattle.res_exports.proofs.Units.{Exporting, exporting, exporting-less, exporting-fits, exporting-same}
+use native.Mathlib.Omega.{arith}
+use mathlib.Core.Path.{◌≡◌, refl, sym, ◌∙◌, ap, subst}
+use Rattle.res_exports.proofs.exports_from.Goals as goal
+
+pub loop-x-init : goal.loop-x-init
+loop-x-init c =
+    search exporting
+
+pub export_step-requires : goal.export_step-requires
+export_step-requires c =
+    search exporting-fits
+
+pub loop-x-smaller : goal.loop-x-smaller
+loop-x-smaller c =
+    search exporting-less
+
+pub loop-x-preserved : goal.loop-x-preserved
+loop-x-preserved c =
+    search exporting
+
+pub shape_of-flags-in-Over : goal.shape_of-flags-in-Over
+shape_of-flags-in-Over c =
+    search (exporting-same, rules)
+
+pub returns-in-Over : goal.returns-in-Over
+returns-in-Over c =
+    search exporting

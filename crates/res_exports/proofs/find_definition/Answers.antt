@@ -1,0 +1,26 @@
+use borrow.Author.Rules.{rules}
+use Prim.Native.Nat.{◌-◌}
+use Rattle.res_exports.proofs.Units.{Seeking, definitions, seeking-less, seeking-fits}
+use native.Mathlib.Omega.{arith}
+use mathlib.Core.Path.{◌≡◌, refl, sym, ◌∙◌, ap, subst}
+use Rattle.res_exports.proofs.find_definition.Goals as goal
+
+pub loop-x-init : goal.loop-x-init
+loop-x-init c =
+    search definitions
+
+pub seek_step-requires : goal.seek_step-requires
+seek_step-requires c =
+    search seeking-fits
+
+pub loop-x-smaller : goal.loop-x-smaller
+loop-x-smaller c =
+    search seeking-less
+
+pub loop-x-preserved : goal.loop-x-preserved
+loop-x-preserved c =
+    search definitions
+
+pub returns-in-Here : goal.returns-in-Here
+returns-in-Here c =
+    search definitions

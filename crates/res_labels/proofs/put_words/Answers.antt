@@ -1,0 +1,22 @@
+use lib.ListN.{length-set}
+use Rattle.res_labels.proofs.Cases.{words-put}
+use native.Mathlib.Omega.{arith}
+use mathlib.Core.Path.{◌≡◌, refl, sym, ◌∙◌, ap, subst}
+use borrow.Author.Rules.{rules}
+use Rattle.res_labels.proofs.put_words.Goals as goal
+
+pub bounds-out-at-2 : goal.bounds-out-at-2
+bounds-out-at-2 c =
+    simp length-set (omega arith)
+
+pub bounds-out-at-3 : goal.bounds-out-at-3
+bounds-out-at-3 c =
+    simp length-set (omega arith)
+
+pub bounds-out-at-4 : goal.bounds-out-at-4
+bounds-out-at-4 c =
+    simp length-set (omega arith)
+
+pub returns : goal.returns
+returns c =
+    search (words-put, rules)

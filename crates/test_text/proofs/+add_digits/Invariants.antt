@@ -1,0 +1,4 @@
+use Rattle.test_text.proofs.+add_digits.Given as goal
+
+abbrev pub decreases-add_digits : goal.decreases-add_digits
+decreases-add_digits l = l.left

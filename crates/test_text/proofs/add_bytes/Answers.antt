@@ -1,0 +1,20 @@
+use Rattle.std.proofs.Common.{◌-◌, rules}
+use Rattle.test_lines.specs.Sources.{source}
+use Rattle.test_text.proofs.Loops.{Showing, showing-start, showing-more, shown-bytes}
+use Rattle.test_text.proofs.add_bytes.Goals as goal
+
+pub returns-then-memory-i : goal.returns-then-memory-i
+returns-then-memory-i c =
+    search shown-bytes
+
+pub returns : goal.returns
+returns c =
+    search shown-bytes
+
+pub loop-k-init : goal.loop-k-init
+loop-k-init c =
+    search showing-start
+
+pub loop-k-preserved : goal.loop-k-preserved
+loop-k-preserved c =
+    search showing-more

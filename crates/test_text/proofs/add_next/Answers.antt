@@ -1,0 +1,7 @@
+use Rattle.test_text.proofs.Cases.{next-added}
+use Rattle.std.proofs.Common.{rules}
+use Rattle.test_text.proofs.add_next.Goals as goal
+
+pub returns : goal.returns
+returns c =
+    search next-added

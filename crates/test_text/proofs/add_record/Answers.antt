@@ -1,0 +1,7 @@
+use Rattle.test_text.proofs.Cases.{record-added}
+use Rattle.std.proofs.Common.{rules}
+use Rattle.test_text.proofs.add_record.Goals as goal
+
+pub returns : goal.returns
+returns c =
+    search record-added

@@ -1,0 +1,11 @@
+use Rattle.std.proofs.Common.{◌-◌, rules}
+use Rattle.test_text.proofs.Loops.{Valuing, valuing}
+use Rattle.test_text.proofs.are_values.Given as goal
+
+abbrev pub invariant-loop-k : goal.invariant-loop-k
+invariant-loop-k l =
+    Valuing l.l l.from l.end l.k
+
+abbrev pub decreases-loop-k : goal.decreases-loop-k
+decreases-loop-k l =
+    l.end - l.k

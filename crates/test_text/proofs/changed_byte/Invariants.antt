@@ -1,0 +1,11 @@
+use Rattle.std.proofs.Common.{◌-◌, rules}
+use Rattle.test_text.proofs.Loops.{Changing, changing}
+use Rattle.test_text.proofs.changed_byte.Given as goal
+
+abbrev pub invariant-loop-i : goal.invariant-loop-i
+invariant-loop-i l =
+    Changing 65537 l.m l.n l.i
+
+abbrev pub decreases-loop-i : goal.decreases-loop-i
+decreases-loop-i l =
+    l.n - l.i

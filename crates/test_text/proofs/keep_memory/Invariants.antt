@@ -1,0 +1,11 @@
+use Rattle.std.proofs.Common.{◌-◌, rules}
+use Rattle.test_text.proofs.Loops.{Keeping, keeping}
+use Rattle.test_text.proofs.keep_memory.Given as goal
+
+abbrev pub invariant-loop-i : goal.invariant-loop-i
+invariant-loop-i l =
+    Keeping 65537 l.most l.initial.m l.m l.i
+
+abbrev pub decreases-loop-i : goal.decreases-loop-i
+decreases-loop-i l =
+    l.most - l.i

@@ -1,0 +1,16 @@
+use Rattle.std.proofs.Common.{◌-◌, rules}
+use Rattle.test_lines.specs.Sources.{source}
+use Rattle.test_text.proofs.Loops.{Lining, lining}
+use Rattle.test_text.proofs.plain_line.Goals as goal
+
+pub loop-k-init : goal.loop-k-init
+loop-k-init c =
+    search lining
+
+pub loop-k-preserved : goal.loop-k-preserved
+loop-k-preserved c =
+    search lining
+
+pub returns : goal.returns
+returns c =
+    search lining

@@ -1,0 +1,7 @@
+use mathlib.Core.Path.{◌≡◌, refl}
+use borrow.Author.Rules.{rules}
+use Rattle.vm_pauses.proofs.hold.Goals as goal
+
+pub returns : goal.returns
+returns c =
+    cc

@@ -1,0 +1,7 @@
+use Rattle.vm_pauses.proofs.Cases.{paused-words}
+use borrow.Author.Rules.{rules}
+use Rattle.vm_pauses.proofs.pause_of.Goals as goal
+
+pub returns : goal.returns
+returns c =
+    search paused-words

@@ -1,0 +1,17 @@
+use Rattle.vm_statements.proofs.Cases.{tested}
+use native.Mathlib.Omega.{arith}
+use mathlib.Core.Path.{◌≡◌, refl, sym, ◌∙◌, ap, subst}
+use borrow.Author.Rules.{rules}
+use Rattle.vm_statements.proofs.run_test.Goals as goal
+
+pub returns-in_default : goal.returns-in_default
+returns-in_default c =
+    search tested
+
+pub returns-in_default-g : goal.returns-in_default-g
+returns-in_default-g c =
+    search tested
+
+pub returns : goal.returns
+returns c =
+    search tested
