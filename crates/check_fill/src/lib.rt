@@ -1,5 +1,6 @@
 // Writes the five lent buffers, once: the rows of a judged source over zeros, or zeros alone.
 #![tactic(auto)]
+
 ghost use Rattle.std.specs.Prelude.{◌≡◌, ◌*◌, ◌≤◌, length};
 ghost use Rattle.prog_tables.specs.Layout.{label_row, statement_row};
 ghost use Rattle.base_limits.specs.Limits as limits;

@@ -1,5 +1,6 @@
 // Judges a source by every rule but 16, into scratch of the caller's; sees no lent buffer.
 #![tactic(auto)]
+
 ghost use Rattle.std.specs.Prelude.{◌≡◌, ◌≤◌, length};
 ghost use Rattle.base_limits.specs.Limits as limits;
 ghost use Rattle.res_exports.specs.Exports.{exported};

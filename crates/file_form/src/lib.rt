@@ -1,5 +1,6 @@
 // The form of a rule file: 40.
 #![tactic(auto)]
+
 ghost use Rattle.std.specs.Prelude.{◌≡◌, true, ◌+◌, ◌≤◌, ◌<◌, length};
 ghost use Rattle.file_codec.specs.Words.{word_in};
 ghost use Rattle.file_codec.specs.Fields.{head_bytes, size_at, behind_at, is_whole, body_at};

@@ -1,5 +1,6 @@
 // The rows of a file of right form, unpacked into tables.
 #![tactic(auto)]
+
 ghost use Rattle.std.specs.Prelude.{◌≡◌, ◌+◌, ◌-◌, ◌*◌, ◌≤◌, ◌<◌, length, get_or};
 ghost use Rattle.base_limits.specs.Limits.{name_bytes};
 ghost use Rattle.prog_tables.specs.Layout.{statement_row, label_row};

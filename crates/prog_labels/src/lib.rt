@@ -1,5 +1,6 @@
 // Rules of labels in well-formed tables: what a label names, and its own name.
 #![tactic(auto)]
+
 ghost use Rattle.std.specs.Prelude.{◌≡◌, []};
 ghost use Rattle.base_prelude.specs.Lists.{same_list};
 ghost use Rattle.prog_tables.specs.Tests.{all_below, some_below};

@@ -197,4 +197,4 @@ pub ruleset ways = (ways-deep, ways-astray, ways-jumps)
 
 pub ruleset call-rules = (ruled-calls, ruled-shape, ruled-forward)
 
-pub ruleset rules = (rules-not, rules-calls)
+pub ruleset row-ways = (rules-not, rules-calls)

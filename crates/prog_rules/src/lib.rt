@@ -1,5 +1,6 @@
 // The rules of well-formed tables that need no frame word: nesting, targets, jumps, calls, shapes.
 #![tactic(auto)]
+
 ghost use Rattle.std.specs.Prelude.{◌≡◌, [], ◌-◌, ◌≤◌, ◌<◌, eqb};
 ghost use Rattle.base_limits.specs.Limits.{statements};
 ghost use Rattle.prog_tables.specs.Layout.{place_label, function_label};

@@ -1,5 +1,6 @@
 // Frame words and scope: the tests of well-formed tables that speak of them, decided by counts of lets.
 #![tactic(auto)]
+
 ghost use Rattle.std.specs.Prelude.{◌≡◌, true, [], ◌+◌, ◌≤◌, ◌<◌, eqb, length, get_or, set};
 ghost use Rattle.base_limits.specs.Limits.{statements, greatest_word};
 ghost use Rattle.base_prelude.specs.Lists.{zeros};

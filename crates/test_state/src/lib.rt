@@ -1,5 +1,6 @@
 // The state of a case: its source, what is lent, and what its lines change and compare between calls.
 #![tactic(auto)]
+
 ghost use Rattle.std.specs.Prelude.{◌≡◌};
 ghost use Rattle.test_lines.specs.Sources.{source};
 ghost use Rattle.test_state.specs.Progress.{on, all_lent, first_of, opened_of, failed_of, sized_of, bodied_of, checked_of, shown_of, answered_of, unanswered_of, counted_of, lent_of, machine_of};

@@ -1,5 +1,6 @@
 // Calls and returns, each taken with few tests. What is not taken is left to the exact step.
 #![tactic(auto)]
+
 ghost use Rattle.std.specs.Prelude.{◌≡◌, ◌+◌, ◌*◌, ◌≤◌, ◌<◌, length, take};
 ghost use Rattle.base_limits.specs.Limits.{word_values, greatest_word, memory_bytes, stack_words};
 ghost use Rattle.prog_tables.specs.Statement.{operand_at, row_at, slots};

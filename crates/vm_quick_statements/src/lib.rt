@@ -1,5 +1,6 @@
 // A plain run: statements inside one frame that neither call nor return, each taken with few tests. What is not taken is left to the exact step.
 #![tactic(auto)]
+
 ghost use Rattle.std.specs.Prelude.{◌≡◌, ◌∷◌, suc, ◌+◌, ◌*◌, ◌≤◌, ◌<◌, length, replicate};
 ghost use Rattle.base_limits.specs.Limits.{word_values, greatest_word, memory_bytes};
 ghost use Rattle.base_prelude.specs.Choice.{if_true};

@@ -155,7 +155,7 @@ module _ (t : List ℕ) (c : ℕ) (l : List ℕ) (k : ℕ) (names : List ℕ) (d
         ∙ counts-fine T.statements_past T.labels_past (within_resume T r st (length m)) (count_of (fault ∙ i))
         ∙ resume-lent t c l k names d r st (length m)))
 
-pub ruleset Going-on = (go-fault, go-within)
+pub ruleset going-ways = (go-fault, go-within)
 
 -- ---- 37
 

@@ -1,11 +1,11 @@
-use Rattle.vm_resume.proofs.Cases.{going_on_lem}
+use Rattle.vm_resume.proofs.Cases.{going-ways}
 use borrow.Author.Rules.{rules}
 use Rattle.vm_resume.proofs.go_on.Goals as goal
 
 pub returns-then-count_fault : goal.returns-then-count_fault
 returns-then-count_fault c =
-    search going_on_lem
+    search going-ways
 
 pub returns : goal.returns
 returns c =
-    search going_on_lem
+    search going-ways

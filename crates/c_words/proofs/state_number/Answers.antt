@@ -1,0 +1,23 @@
+use Rattle.c_words.specs.Record.{state_number}
+use borrow.Author.Rules.{rules}
+use Rattle.c_words.proofs.state_number.Goals as goal
+
+pub returns-in-Running : goal.returns-in-Running
+unfolding state_number
+returns-in-Running c =
+    cc
+
+pub returns-in-Finished : goal.returns-in-Finished
+unfolding state_number
+returns-in-Finished c =
+    cc
+
+pub returns-in-Stopped : goal.returns-in-Stopped
+unfolding state_number
+returns-in-Stopped c =
+    cc
+
+pub returns-in-Paused : goal.returns-in-Paused
+unfolding state_number
+returns-in-Paused c =
+    cc

@@ -1,0 +1,23 @@
+use Rattle.c_words.specs.Reply.{stop_place}
+use borrow.Author.Rules.{rules}
+use Rattle.c_words.proofs.stop_place.Goals as goal
+
+pub returns-in-Running : goal.returns-in-Running
+unfolding stop_place
+returns-in-Running c =
+    cc
+
+pub returns-in-Finished : goal.returns-in-Finished
+unfolding stop_place
+returns-in-Finished c =
+    cc
+
+pub returns-in-Stopped : goal.returns-in-Stopped
+unfolding stop_place
+returns-in-Stopped c =
+    cc
+
+pub returns-in-Paused : goal.returns-in-Paused
+unfolding stop_place
+returns-in-Paused c =
+    cc

@@ -1,0 +1,29 @@
+use Rattle.check_judge.proofs.Lexed.{source-ways, token-count, token-long}
+use native.Mathlib.Omega.{arith}
+use mathlib.Core.Path.{◌≡◌, refl, sym, ◌∙◌, ap, subst}
+use borrow.Author.Rules.{rules}
+use Rattle.check_judge.proofs.judge.Goals as goal
+
+pub overflow_cast-n : goal.overflow_cast-n
+overflow_cast-n c =
+    search (token-count, rules)
+
+pub overflow_cast-s : goal.overflow_cast-s
+overflow_cast-s c =
+    search (token-count, rules)
+
+pub overflow_cast-n-in-Tokens : goal.overflow_cast-n-in-Tokens
+overflow_cast-n-in-Tokens c =
+    search (token-count, rules)
+
+pub judge_tokens-requires : goal.judge_tokens-requires
+judge_tokens-requires c =
+    token-long _ _ _ _ _ _ _ c.lex.ensures.t_after c.mark_hosts.ensures
+
+pub returns-in-Tokens : goal.returns-in-Tokens
+returns-in-Tokens c =
+    search source-ways
+
+pub returns-in-Refused : goal.returns-in-Refused
+returns-in-Refused c =
+    search source-ways

@@ -1,0 +1,21 @@
+use Rattle.file_form.proofs.Cases.{good-ways, whole-fits-by}
+use native.Mathlib.Omega.{arith}
+use mathlib.Core.Path.{◌≡◌, refl, sym, ◌∙◌, ap, subst}
+use borrow.Author.Rules.{rules}
+use Rattle.file_form.proofs.is_good.Goals as goal
+
+pub returns-then-byte_in-tag : goal.returns-then-byte_in-tag
+returns-then-byte_in-tag c =
+    search good-ways
+
+pub body_fits-requires : goal.body_fits-requires
+body_fits-requires c =
+    search whole-fits-by
+
+pub returns-then-is_whole : goal.returns-then-is_whole
+returns-then-is_whole c =
+    search good-ways
+
+pub returns : goal.returns
+returns c =
+    search good-ways

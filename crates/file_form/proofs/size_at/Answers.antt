@@ -1,0 +1,9 @@
+use Rattle.file_form.proofs.Cases.{size-made}
+use native.Mathlib.Omega.{arith}
+use mathlib.Core.Path.{◌≡◌, refl, sym, ◌∙◌, ap, subst}
+use borrow.Author.Rules.{rules}
+use Rattle.file_form.proofs.size_at.Goals as goal
+
+pub returns : goal.returns
+returns c =
+    record { 0 = search size-made; 1 = omega arith }

@@ -1,0 +1,27 @@
+use borrow.Author.Rules.{rules}
+use Rattle.file_form.proofs.Cases.{Skipping, skipping, ends_at, ends_nowhere, within-at, within-nowhere, good-fits-by}
+use Rattle.file_form.specs.Shape.{fits_of}
+use Prim.Native.Nat.{◌-◌}
+use native.Mathlib.Omega.{arith}
+use mathlib.Core.Path.{◌≡◌, refl, sym, ◌∙◌, ap, subst}
+use Rattle.file_form.proofs.skip.Goals as goal
+
+pub loop-i-init : goal.loop-i-init
+loop-i-init c =
+    search skipping
+
+pub behind-p-requires : goal.behind-p-requires
+behind-p-requires c =
+    search good-fits-by
+
+pub loop-i-preserved : goal.loop-i-preserved
+loop-i-preserved c =
+    search skipping
+
+pub returns-else-is_good : goal.returns-else-is_good
+returns-else-is_good c =
+    record { 0 = search ends_nowhere; 1 = search within-nowhere }
+
+pub returns : goal.returns
+returns c =
+    record { 0 = search ends_at; 1 = search within-at }

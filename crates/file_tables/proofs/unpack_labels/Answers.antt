@@ -1,0 +1,27 @@
+use borrow.Author.Rules.{rules}
+use Rattle.file_tables.proofs.Cases.{Fielding, fielding, label-words-length}
+use Rattle.file_codec.specs.Labels.{label_words_in, label_fits}
+use Prim.Native.Nat.{◌-◌}
+use native.Mathlib.Omega.{arith}
+use mathlib.Core.Path.{◌≡◌, refl, sym, ◌∙◌, ap, subst}
+use Rattle.file_tables.proofs.unpack_labels.Goals as goal
+
+pub loop-i-init : goal.loop-i-init
+loop-i-init c =
+    search fielding
+
+pub unpack_label_field-requires : goal.unpack_label_field-requires
+unpack_label_field-requires c =
+    record { 0 = search fielding; 1 = omega arith }
+
+pub behind-p-requires : goal.behind-p-requires
+behind-p-requires c =
+    search fielding
+
+pub loop-i-preserved : goal.loop-i-preserved
+loop-i-preserved c =
+    search fielding
+
+pub returns : goal.returns
+returns c =
+    search fielding

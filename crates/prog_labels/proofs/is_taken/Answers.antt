@@ -1,0 +1,22 @@
+use Rattle.prog_names.proofs.Loops.{Seeking, seeking}
+use Rattle.prog_tables.specs.Label.{label_at}
+use Rattle.base_prelude.specs.Lists.{same_list}
+use Prim.Native.Nat.{◌-◌}
+use borrow.Author.Rules.{rules}
+use Rattle.prog_labels.proofs.is_taken.Goals as goal
+
+pub loop-i-init : goal.loop-i-init
+loop-i-init c =
+    search seeking
+
+pub returns-then-is_named : goal.returns-then-is_named
+returns-then-is_named c =
+    search seeking
+
+pub loop-i-preserved : goal.loop-i-preserved
+loop-i-preserved c =
+    search seeking
+
+pub returns : goal.returns
+returns c =
+    search seeking

@@ -1,0 +1,23 @@
+use Rattle.prog_names.proofs.Loops.{Passing, passing}
+use Rattle.prog_tables.specs.Program.{lent_program}
+use Rattle.prog_tables.specs.Tests.{all}
+use Rattle.prog_rules.specs.Rules.{rule_tests}
+use Prim.Native.Nat.{◌-◌}
+use borrow.Author.Rules.{rules}
+use Rattle.prog_rules.proofs.all_rules.Goals as goal
+
+pub loop-i-init : goal.loop-i-init
+loop-i-init c =
+    search passing
+
+pub loop-i-preserved : goal.loop-i-preserved
+loop-i-preserved c =
+    search passing
+
+pub returns-else-row_rules : goal.returns-else-row_rules
+returns-else-row_rules c =
+    search passing
+
+pub returns : goal.returns
+returns c =
+    search passing

@@ -1,0 +1,14 @@
+use Rattle.prog_names.proofs.Loops.{Passing, passing}
+use Rattle.prog_tables.specs.Statement.{row_at}
+use Rattle.prog_tables.specs.Nesting.{stands}
+use Prim.Native.Nat.{◌-◌}
+use borrow.Author.Rules.{rules}
+use Rattle.prog_rules.proofs.all_stand.Given as goal
+
+abbrev pub invariant-loop-i : goal.invariant-loop-i
+invariant-loop-i l =
+    Passing (stands (row_at l.t)) l.c l.i
+
+abbrev pub decreases-loop-i : goal.decreases-loop-i
+decreases-loop-i l =
+    l.c - l.i

@@ -1,0 +1,11 @@
+use Rattle.prog_rules.proofs.Goals.{call-ways}
+use borrow.Author.Rules.{rules}
+use Rattle.prog_rules.proofs.calls.Goals as goal
+
+pub returns-then-function_calls : goal.returns-then-function_calls
+returns-then-function_calls c =
+    search call-ways
+
+pub returns : goal.returns
+returns c =
+    search call-ways

@@ -1,0 +1,11 @@
+use Rattle.prog_rules.proofs.Nesting.{opening}
+use borrow.Author.Rules.{rules}
+use Rattle.prog_rules.proofs.follows_jump.Goals as goal
+
+pub returns-then-n-eq0 : goal.returns-then-n-eq0
+returns-then-n-eq0 c =
+    search opening
+
+pub returns : goal.returns
+returns c =
+    search opening

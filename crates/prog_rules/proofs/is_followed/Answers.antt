@@ -1,0 +1,11 @@
+use Rattle.prog_rules.proofs.Nesting.{followed}
+use borrow.Author.Rules.{rules}
+use Rattle.prog_rules.proofs.is_followed.Goals as goal
+
+pub returns-then-follows_jump : goal.returns-then-follows_jump
+returns-then-follows_jump c =
+    search followed
+
+pub returns : goal.returns
+returns c =
+    search followed

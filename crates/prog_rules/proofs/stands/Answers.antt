@@ -1,0 +1,11 @@
+use Rattle.prog_rules.proofs.Nesting.{stand}
+use borrow.Author.Rules.{rules}
+use Rattle.prog_rules.proofs.stands.Goals as goal
+
+pub returns-then-stands_there : goal.returns-then-stands_there
+returns-then-stands_there c =
+    search stand
+
+pub returns : goal.returns
+returns c =
+    search stand

@@ -1,0 +1,12 @@
+use borrow.Author.Rules.{rules}
+use Rattle.prog_scope.proofs.Loops.{Noting, counting, noting-long}
+use Prim.Native.Nat.{◌-◌}
+use Rattle.prog_scope.proofs.count_lets.Given as goal
+
+abbrev pub invariant-loop-n : goal.invariant-loop-n
+invariant-loop-n l =
+    Noting l.t l.c l.y l.n
+
+abbrev pub decreases-loop-n : goal.decreases-loop-n
+decreases-loop-n l =
+    l.c - l.n

@@ -1,0 +1,14 @@
+use borrow.Author.Rules.{rules}
+use Rattle.base_prelude.proofs.Choice.{tests}
+use Rattle.prog_tables.specs.Label.{is_data}
+use Rattle.prog_scope.proofs.is_data.Goals as goal
+
+pub returns-then-k-eq-DATA : goal.returns-then-k-eq-DATA
+unfolding is_data
+returns-then-k-eq-DATA c =
+    search (rules, tests)
+
+pub returns : goal.returns
+unfolding is_data
+returns c =
+    search (rules, tests)

@@ -1,0 +1,24 @@
+use borrow.Author.Rules.{rules}
+use Rattle.prog_scope.proofs.Loops.{Climbing, climbing}
+use Rattle.prog_tables.specs.Statement.{row_at}
+use Rattle.prog_scope.proofs.is_on_chain.Goals as goal
+
+pub loop-fuel-init : goal.loop-fuel-init
+loop-fuel-init c =
+    search (climbing, rules)
+
+pub returns-then-is_held : goal.returns-then-is_held
+returns-then-is_held c =
+    search (climbing, rules)
+
+pub returns-then-k-ne-BLOCK : goal.returns-then-k-ne-BLOCK
+returns-then-k-ne-BLOCK c =
+    search (climbing, rules)
+
+pub loop-fuel-preserved : goal.loop-fuel-preserved
+loop-fuel-preserved c =
+    search (climbing, rules)
+
+pub returns : goal.returns
+returns c =
+    search (climbing, rules)

@@ -1,0 +1,7 @@
+use Rattle.prog_scope.proofs.Cases.{helds}
+use borrow.Author.Rules.{rules}
+use Rattle.prog_scope.proofs.next_word.Goals as goal
+
+pub returns : goal.returns
+returns c =
+    search helds

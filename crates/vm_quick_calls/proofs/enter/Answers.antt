@@ -1,0 +1,17 @@
+use Rattle.vm_quick_calls.proofs.Cases.{entering}
+use native.Mathlib.Omega.{arith}
+use mathlib.Core.Path.{◌≡◌, refl, sym, ◌∙◌, ap, subst}
+use borrow.Author.Rules.{rules}
+use Rattle.vm_quick_calls.proofs.enter.Goals as goal
+
+pub returns-then-st-at : goal.returns-then-st-at
+returns-then-st-at c =
+    search entering
+
+pub returns-then-read_arguments : goal.returns-then-read_arguments
+returns-then-read_arguments c =
+    search entering
+
+pub returns : goal.returns
+returns c =
+    search entering

@@ -1,0 +1,17 @@
+use Rattle.vm_quick_calls.proofs.Cases.{handing}
+use native.Mathlib.Omega.{arith}
+use mathlib.Core.Path.{◌≡◌, refl, sym, ◌∙◌, ap, subst}
+use borrow.Author.Rules.{rules}
+use Rattle.vm_quick_calls.proofs.hand.Goals as goal
+
+pub returns-then-c-p : goal.returns-then-c-p
+returns-then-c-p c =
+    search handing
+
+pub returns-then-z-eq0 : goal.returns-then-z-eq0
+returns-then-z-eq0 c =
+    search handing
+
+pub returns : goal.returns
+returns c =
+    search handing

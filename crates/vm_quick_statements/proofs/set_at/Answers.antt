@@ -1,0 +1,25 @@
+use Rattle.vm_quick_statements.proofs.Cases.{ats, word_in}
+use native.Mathlib.Omega.{arith}
+use mathlib.Core.Path.{◌≡◌, refl, sym, ◌∙◌, ap, subst}
+use borrow.Author.Rules.{rules}
+use Rattle.vm_quick_statements.proofs.set_at.Goals as goal
+
+pub returns-then-k-gt-ADDRESS : goal.returns-then-k-gt-ADDRESS
+returns-then-k-gt-ADDRESS c =
+    search ats
+
+pub returns-in_default : goal.returns-in_default
+returns-in_default c =
+    search ats
+
+pub store_at-requires : goal.store_at-requires
+store_at-requires c =
+    (search rules, search rules, search rules, search rules, search word_in)
+
+pub returns-then-has_word : goal.returns-then-has_word
+returns-then-has_word c =
+    search ats
+
+pub returns : goal.returns
+returns c =
+    search ats
