@@ -20,10 +20,10 @@ def split_top(text, mark):
     return [p.strip() for p in parts + [now]]
 
 
-def clauses():
-    """The names of each function's requires and ensures, by the function's name."""
+def clauses(crate):
+    """The names of each function's requires and ensures, by the function's name; the crate's own functions first."""
     found = {}
-    for path in glob.glob("crates/*/src/*.rt"):
+    for path in sorted(glob.glob("crates/*/src/*.rt"), key=lambda p: p.split("/")[1] != crate):
         text = open(path, encoding="utf-8").read()
         for m in re.finditer(r"fn (\w+)\b[^{]*?\)(?: -> [^\n{]*?)?\n((?:    \s*(?:requires|ensures)[^\n]*\n)+)", text):
             asks = re.findall(r"(?m)^\s*requires (\w+) \{", m.group(2))
@@ -33,8 +33,8 @@ def clauses():
 
 
 def main():
-    names = clauses()
     for crate in sys.argv[1:]:
+        names = clauses(crate)
         for path in sorted(glob.glob(f"crates/{crate}/proofs/**/Answers.antt", recursive=True)):
             own = os.path.basename(os.path.dirname(path)).lstrip("+")
             text = open(path, encoding="utf-8").read()

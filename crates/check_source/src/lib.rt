@@ -1,5 +1,6 @@
 // The check: source bytes to tables and a data image, or a refusal with its number and place.
 #![tactic(auto)]
+
 ghost use Rattle.std.specs.Prelude.{◌≡◌, length};
 ghost use Rattle.res_hosts.specs.Marks.{host_list};
 ghost use Rattle.check_fill.specs.Fill.{lent};

@@ -1,6 +1,7 @@
 // Writing rule files: the file of tables, to a lent buffer. Bytes past the buffer's end are counted and not written, so the file's length is
 // what a write to a buffer of one byte counts.
 #![tactic(auto)]
+
 ghost use Rattle.std.specs.Prelude.{◌≡◌, [], ◌∷◌, ◌+◌, ◌≤◌, ◌<◌, length, take, drop};
 ghost use Rattle.base_prelude.specs.Choice.{if_true, if_eq};
 ghost use Rattle.base_limits.specs.Limits as limits;

@@ -1,5 +1,6 @@
 // One step, and a run of steps.
 #![tactic(auto)]
+
 ghost use Rattle.std.specs.Prelude.{◌≡◌, ◌+◌, ◌*◌, ◌≤◌, ◌<◌, length};
 ghost use Rattle.base_limits.specs.Limits.{memory_bytes, stack_words};
 ghost use Rattle.base_limits.specs.Record.{moved_to};

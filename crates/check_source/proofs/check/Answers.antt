@@ -1,0 +1,21 @@
+use Rattle.check_source.proofs.Cases.{check-ways, check-room}
+use native.Mathlib.Omega.{arith}
+use mathlib.Core.Path.{◌≡◌, refl, sym, ◌∙◌, ap, subst}
+use borrow.Author.Rules.{rules}
+use Rattle.check_source.proofs.check.Goals as goal
+
+pub fill-requires : goal.fill-requires
+fill-requires c =
+    check-room _ _ _ _ _ _ _ _ _ _ _ _ _ _ _ refl c.has_room.ensures c.if-has_room.true c.in-Fine.ensures
+
+pub returns-then-has_room : goal.returns-then-has_room
+returns-then-has_room c =
+    search check-ways
+
+pub returns-else-has_room : goal.returns-else-has_room
+returns-else-has_room c =
+    search check-ways
+
+pub returns-in-Refused : goal.returns-in-Refused
+returns-in-Refused c =
+    search check-ways

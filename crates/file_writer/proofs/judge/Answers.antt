@@ -1,0 +1,19 @@
+use Rattle.file_writer.proofs.Ways.{judge-ways}
+use borrow.Author.Rules.{rules}
+use Rattle.file_writer.proofs.judge.Goals as goal
+
+pub returns-then-past_limits : goal.returns-then-past_limits
+returns-then-past_limits c =
+    search judge-ways
+
+pub returns-else-past_limits : goal.returns-else-past_limits
+returns-else-past_limits c =
+    search judge-ways
+
+pub returns-in-At : goal.returns-in-At
+returns-in-At c =
+    search judge-ways
+
+pub returns-in-Somewhere : goal.returns-in-Somewhere
+returns-in-Somewhere c =
+    search judge-ways

@@ -1,0 +1,17 @@
+use borrow.Author.Rules.{rules}
+use Prim.Native.Nat.{◌-◌}
+use lib.ListN.{length}
+use Rattle.app_page.proofs.Loops.{Texting, texting}
+use Rattle.file_writer.proofs.put_bytes.Goals as goal
+
+pub loop-i-init : goal.loop-i-init
+loop-i-init c =
+    search texting
+
+pub loop-i-preserved : goal.loop-i-preserved
+loop-i-preserved c =
+    search texting
+
+pub returns : goal.returns
+returns c =
+    record { out_after = search texting; upper_bound = search rules }

@@ -1,0 +1,17 @@
+use Rattle.prog_verdict.proofs.Cases.{formed-ways}
+use native.Mathlib.Omega.{arith}
+use mathlib.Core.Path.{◌≡◌, refl, sym, ◌∙◌, ap, subst}
+use borrow.Author.Rules.{rules}
+use Rattle.prog_verdict.proofs.is_well_formed.Goals as goal
+
+pub returns-then-d-gt-DATA_BYTES : goal.returns-then-d-gt-DATA_BYTES
+returns-then-d-gt-DATA_BYTES c =
+    search formed-ways
+
+pub returns-then-rows_good : goal.returns-then-rows_good
+returns-then-rows_good c =
+    search formed-ways
+
+pub returns : goal.returns
+returns c =
+    search formed-ways

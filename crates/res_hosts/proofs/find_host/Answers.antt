@@ -1,0 +1,26 @@
+use borrow.Author.Rules.{rules}
+use Prim.Native.Nat.{◌-◌}
+use Rattle.res_hosts.proofs.Cases.{Finding, finding, finding-low}
+use native.Mathlib.Omega.{arith}
+use mathlib.Core.Path.{◌≡◌, refl, sym, ◌∙◌, ap, subst}
+use Rattle.res_hosts.proofs.find_host.Goals as goal
+
+pub loop-i-init : goal.loop-i-init
+loop-i-init c =
+    search finding
+
+pub is_named-requires : goal.is_named-requires
+is_named-requires c =
+    search (finding-low, rules)
+
+pub returns-then-is_named : goal.returns-then-is_named
+returns-then-is_named c =
+    search finding
+
+pub loop-i-preserved : goal.loop-i-preserved
+loop-i-preserved c =
+    search finding
+
+pub returns : goal.returns
+returns c =
+    search finding

@@ -1,0 +1,6 @@
+use borrow.Author.Rules.{rules}
+use Rattle.vm_run.proofs.refuse_counts.Goals as goal
+
+pub returns : goal.returns
+returns c =
+    cc

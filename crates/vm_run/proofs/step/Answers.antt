@@ -1,0 +1,7 @@
+use Rattle.vm_run.proofs.Cases.{step_run}
+use borrow.Author.Rules.{rules}
+use Rattle.vm_run.proofs.step.Goals as goal
+
+pub returns : goal.returns
+returns c =
+    search step_run
