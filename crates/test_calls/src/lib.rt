@@ -1,5 +1,6 @@
 // Start, step, run and going on as the lines of a case call them.
 #![tactic(auto)]
+
 ghost use Rattle.std.specs.Prelude.{◌≡◌};
 ghost use Rattle.base_limits.specs.declared.Width.TheVariants.{Bits32};
 ghost use Rattle.prog_tables.specs.Program.{program_from};

@@ -1,0 +1,7 @@
+use Rattle.test_calls.proofs.Cases.{with-outcome-is}
+use borrow.Author.Rules.{rules}
+use Rattle.test_calls.proofs.with_outcome.Goals as goal
+
+pub returns : goal.returns
+returns c =
+    search with-outcome-is
