@@ -1,5 +1,6 @@
 // The lister: reads a source from standard input and writes its page, which always fits (`app_listing::list_whole`).
 #![tactic(auto)]
+
 use app_listing::Room;
 
 // Room for a source; one that is too long is read so far as to tell.

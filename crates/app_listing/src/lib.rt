@@ -1,5 +1,6 @@
 // The page of a source.
 #![tactic(auto)]
+
 ghost use Rattle.std.specs.Prelude.{◌≡◌, ◌≤◌, length};
 ghost use Rattle.app_page.specs.Page.{shown, shown_on};
 ghost use Rattle.app_listing.specs.Listing.{page_by, list_of};

@@ -1,5 +1,6 @@
 // What the tracker, a C program, calls; crates/c_voodoo_c exports it.
 #![tactic(auto)]
+
 ghost use Rattle.std.specs.Prelude.{◌≡◌, length};
 ghost use Rattle.base_limits.specs.declared.Width.TheVariants.{Bits32};
 ghost use Rattle.base_prelude.specs.Lists.{overlay};

@@ -1,5 +1,6 @@
 // The exports of the static library: each calls the function of c_voodoo of its name and states its clause again.
 #![tactic(auto)]
+
 ghost use Rattle.std.specs.Prelude.{◌≡◌, length};
 ghost use Rattle.base_limits.specs.declared.Width.TheVariants.{Bits32};
 ghost use Rattle.res_hosts.specs.Marks.{host_list};
@@ -24,15 +25,7 @@ pub extern "C" fn voodoo_check(
     ensures { told result tokens.new statements.new labels.new names.new bytes.new res.new ≡ told_of (check_of Bits32 (host_list hosts.now host_names.now) source.now (lent (length tokens.old) (length statements.old) (length labels.old) (length names.old) (length bytes.old))) res.old }
 {
     c_voodoo::voodoo_check(
-        source,
-        hosts,
-        host_names,
-        tokens,
-        statements,
-        labels,
-        names,
-        bytes,
-        res,
+        source, hosts, host_names, tokens, statements, labels, names, bytes, res,
     )
 }
 

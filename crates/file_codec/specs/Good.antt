@@ -1,5 +1,5 @@
 -- "The reader accepts exactly the files whose tables meet the rules of 01 on nesting [..], names [..], exports, frames, `goto` and calls (to
--- labels), counts and limits (imports against the host's list)" (02, 7): the rules are `wellFormed` of crate prog_tables.
+-- labels), counts and limits (imports against the host's list)" (02, 7): the rules are `well_formed` of crate prog_tables.
 -- Assumes nothing.
 use Rattle.std.specs.Prelude.{Bool, List, ℕ}
 use Rattle.base_limits.specs.declared.Width.TheVariants.{Bits32}

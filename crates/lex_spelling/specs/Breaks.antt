@@ -1,4 +1,4 @@
--- "the first byte that breaks the escape" (02, request 1), by the list of escapes alone: proofs/Breaks ties `badPlace` to it.
+-- "the first byte that breaks the escape" (02, request 1), by the list of escapes alone: proofs/Breaks ties `bad_place` to it.
 -- Assumes nothing.
 use Rattle.std.specs.Prelude.{◌≡◌, Bool, true, false, List, [], ◌∷◌, ℕ, zero, suc, ◌+◌, ◌-◌, ◌≤◌, ◌<◌, length}
 use Rattle.base_prelude.specs.Choice.{if_true}

@@ -1,4 +1,4 @@
--- The tests of `wellFormed` that speak of frame words and of what is in scope: those of statement n.
+-- The tests of `well_formed` that speak of frame words and of what is in scope: those of statement n.
 -- Assumes nothing.
 use Rattle.std.specs.Prelude.{ℕ, Bool, List, [], ◌∷◌}
 use Rattle.prog_tables.specs.Program.{Program}

@@ -1,4 +1,4 @@
--- The rules of `wellFormed` on one row that need no frame word: "each test's and `else`'s target the one 01 gives", "`goto` and calls (to
+-- The rules of `well_formed` on one row that need no frame word: "each test's and `else`'s target the one 01 gives", "`goto` and calls (to
 -- labels)", exports, blocks "nested 16 deep" (02, 7); and a label of some kind with some number.
 -- Assumes nothing.
 use Rattle.std.specs.Prelude.{ℕ, ◌-◌, Bool, List, [], ◌∷◌, eqb, leb}
@@ -12,7 +12,7 @@ use Rattle.prog_tables.specs.Program.{Program}
 use Rattle.prog_tables.specs.Nesting.{is_listed, may_stand, ground_in, follows_jump, func_in, scope_in, up_in}
 use Rattle.prog_tables.specs.WellFormed.{shallow, aimed, jumps, calls, shaped, forward_calls}
 
--- the tests of statement n, in the order of `rowTests`
+-- the tests of statement n, in the order of `row_tests`
 unfoldable pub rule_tests : Program → ℕ → List Bool
 rule_tests p n =
     shallow p.rows n

@@ -1,4 +1,4 @@
--- How strong `wellFormed` is at the limits of 01: tables at a limit pass, tables one past it do not.
+-- How strong `well_formed` is at the limits of 01: tables at a limit pass, tables one past it do not.
 -- Assumes nothing.
 use mathlib.Core.Path.{◌≡◌, refl, sym, ◌∙◌, ap}
 use mathlib.Core.Bool.{Bool, true, false, not}

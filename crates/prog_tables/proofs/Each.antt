@@ -1,4 +1,4 @@
--- From `wellFormed` to each rule at each row.
+-- From `well_formed` to each rule at each row.
 -- Assumes nothing.
 use mathlib.Core.Path.{◌≡◌, refl, sym, ◌∙◌, ap}
 use mathlib.Core.Bool.{Bool, true, false}

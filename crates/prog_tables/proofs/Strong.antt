@@ -1,4 +1,4 @@
--- How strong `wellFormed` is: three good tables pass, and tables with one wrong word do not.
+-- How strong `well_formed` is: three good tables pass, and tables with one wrong word do not.
 -- Assumes nothing.
 use mathlib.Core.Path.{◌≡◌, refl}
 use mathlib.Core.Bool.{true, false}

@@ -54,7 +54,7 @@ address_listed Unlisted = false
 
 -- ---- causes, each a test of statement n
 
--- "a kind not listed"; those of operands are in `operandsFault`
+-- "a kind not listed"; those of operands are in `operands_fault`
 unfoldable pub kind_fault : Program → ℕ → Bool
 kind_fault p n = if_true (is_listed (p.rows n).kind) (expression_fault (p.rows n).kind (p.rows n).expr) true
 
@@ -99,7 +99,7 @@ own_word r = if_eq r.kind kind.block (r.a + r.b) r.a
 unfoldable pub has_word : ℕ → Bool
 has_word k = if_lt k kind.block false (ltb k kind.set_at)
 
--- "a parameter, local or block word at or past its function's frame size"; those of operands are in `operandsFault`
+-- "a parameter, local or block word at or past its function's frame size"; those of operands are in `operands_fault`
 unfoldable pub word_fault : Program → ℕ → Bool
 word_fault p n = both (has_word (p.rows n).kind) (leb (size_at p.rows p.count n) (own_word (p.rows n)))
 

@@ -78,7 +78,7 @@ forward_calls p n =
     given (both (is_call (p.rows n).kind (p.rows n).expr) (ltb n (p.rows n).callee))
     (labelled p.labels p.label_count (λ k. eqb k function_label) (p.rows n).callee)
 
--- `set-byte`, `set_word`, calls, tests, and what has an expression
+-- `set-byte`, `set-word`, calls, tests, and what has an expression
 unfoldable pub has_operands : ℕ → Bool
 has_operands k = one_of (has_expression k) (one_of (is_test k) (both (leb kind.set_byte k) (both (leb k kind.tail_call) (not (eqb k kind.goto)))))
 

@@ -1,5 +1,6 @@
 // Checks the source of a case and reads its lines.
 #![tactic(auto)]
+
 ghost use Rattle.std.specs.Prelude.{◌≡◌};
 ghost use Rattle.test_state.specs.Progress.{on};
 ghost use Rattle.test_cases.specs.Checks.{with_checked, kept, check_source, once, check_once};

@@ -1,5 +1,6 @@
 // Runs the check and the page on the cases of standard input and prints those that differ.
 #![tactic(auto)]
+
 ghost use Rattle.std.specs.Prelude.{◌≤◌, ◌<◌, length};
 
 use app_page::Page;

@@ -1,5 +1,6 @@
 // Runs check, start, step, run and resume on the cases of standard input and prints each answer and what differs.
 #![tactic(auto)]
+
 ghost use Rattle.std.specs.Prelude.{◌≤◌, length};
 
 use test_lines::{Case, front, is_comment, line_end, one_more, starts_with};

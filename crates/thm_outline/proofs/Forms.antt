@@ -32,7 +32,7 @@ pub data Form (t : List ℕ) (kind i e : ℕ) : Type 0 where
   naming : 5 ≤ kind → kind < 7 → is_name t (i + 1) ≡ true → expression_from t (i + 2) e ≡ true → e ≤ i + 12 → Form t kind i e
   address : kind ≡ 7 → (kind_at t (i + 1) ≡ 5) ⊎ ((kind_at t (i + 1) ≡ 6) ⊎ (kind_at t (i + 1) ≡ 8)) → expression_from t (i + 2) e ≡ true → e ≤ i + 12
       → Form t kind i e
-  -- `set-byte` and `set_word`
+  -- `set-byte` and `set-word`
   setting : 8 ≤ kind → kind < 10 → operands_from t (i + 1) e ≡ true → e - (i + 1) ≡ 3 → Form t kind i e
   going : kind ≡ 10 → is_name t (i + 1) ≡ true → i + 1 < e → Form t kind i e
   calling : 11 ≤ kind → kind < 13 → call_from t (i + 1) e ≡ true → e ≤ i + 10 → Form t kind i e

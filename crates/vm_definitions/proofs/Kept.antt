@@ -304,7 +304,7 @@ module _ (w : Width) (t : Tables) (good : WellFormed (program_from w t)) (e : En
       (top-eval w x.stack x.machine.frame x.memory x.machine.top (rows t x.machine.next).expr (rows t x.machine.next).operands i.top))
       (λ d. kept-stop 32)
 
-  -- `set-byte` and `set_word`
+  -- `set-byte` and `set-word`
   pub kept-set-byte : (rows t x.machine.next).kind ≡ 8 → (vs : Words) → Kept w t e es (set_byte_by (program_from w t) x vs)
   unfolding set_byte_by
   kept-set-byte k (words vs) =

@@ -323,7 +323,7 @@ module _ (prog : Program) (sum last : ℕ) (x : World) where
     unfolding reads
     import-cause = parts ∙ either-eq (λ (k : ℕ). k ≡ reads) reads 0 behind reads (λ h. behind-none ∙ sym h) (λ h. refl)
 
--- of a world and its ledger: `listed`, `full` and `fullOnly` of specs/Claim
+-- of a world and its ledger: `listed`, `full` and `full_only` of specs/Claim
 module _ (w : Width) (t : Tables) (es : Ledger) (x : World) where
   pub step-listed : 0 < cause_in (program_from w t) es x → Listed (cause_in (program_from w t) es x)
   unfolding cause_in first_cause

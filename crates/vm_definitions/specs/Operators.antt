@@ -105,7 +105,7 @@ operators =
     operator op.xor (gives xor_of) meets_nothing ∷
     []
 
--- no operator: a row whose expression has such a number is 35 before this (`expressionListed`); it gives 0 and meets nothing
+-- no operator: a row whose expression has such a number is 35 before this (`expression_listed`); it gives 0 and meets nothing
 abbrev pub no_operator : Operator
 no_operator = operator no_expression (gives (λ b x y. 0)) meets_nothing
 

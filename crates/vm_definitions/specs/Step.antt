@@ -241,7 +241,7 @@ module _ (p : Program) (x : World) where
       -- "Reaching `else` goes to `end if`"; an `else if..` line begins with "a jump to `end if`"
       (if_eq row_of.kind kind.else (goes_to row_of.a)
       (if_eq row_of.kind kind.else_if (goes_to row_of.a)
-      -- a `function` row and a kind that is not listed are 35 before this (`stepBroken`)
+      -- a `function` row and a kind that is not listed are 35 before this (`step_broken`)
       other))))))))))))))
 
   -- no step takes it: `no_other` (proofs/Named)

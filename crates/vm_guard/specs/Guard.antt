@@ -20,7 +20,7 @@ use Rattle.vm_definitions.specs.declared.Broken.TheVariants.{No, Somewhere}
 unfoldable pub row_bad : Program → ℕ → ℕ → Bool
 row_bad p next i = one_of (row_fault p i) (both (eqb i next) (next_bad p.rows p.count i))
 
--- the record, its frames, and the lent stack and memory, of m bytes, are good: no cause of `recordFault`
+-- the record, its frames, and the lent stack and memory, of m bytes, are good: no cause of `record_fault`
 unfoldable pub record_good : Program → ℕ → Machine → List ℕ → Bool
 record_good p m r st =
     all

@@ -161,7 +161,7 @@ module _ (t : List ℕ) (d size : ℕ) (st : List ℕ) (s : ℕ) (m : List ℕ) 
       either (λ (y : Taken). taken Stays st m ≡ y) (get_or t (n * 27 + 4) 0) 3 _ _ (λ l. refl)
       (λ l. either (λ (y : Taken). taken Stays st m ≡ y) (get_or t (n * 27 + 4) 0) size _ _ (λ h. assign-none x e q) (λ h. refl))
 
-  -- `set-byte` and `set_word`
+  -- `set-byte` and `set-word`
   module _ (x : Three) (p : x ≡ three_read t (n * 27) d size st s m) where
     pub byte-unread : x ≡ Unread → taken Stays st m ≡ quick_byte t d size st s m n top
     unfolding quick_byte byte_by

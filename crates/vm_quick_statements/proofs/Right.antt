@@ -415,7 +415,7 @@ module _ (t : List ℕ) (c : ℕ) (lw : List ℕ) (lc g d size : ℕ) (r : Machi
             either_true Right (word_good Bits32 (length m) x) (stored_at t d size st s m n r.top x) (taken Stays st m)
             (λ w. stored l x (good-read size d st s m (operand_at t (n * 27 + 9)) x e) w (good_work t (n * 27) size d st s m r.top) refl) (λ w. stays)
 
-    -- ---- `set-byte` and `set_word`
+    -- ---- `set-byte` and `set-word`
 
     record All3 (x y z : ℕ) : Type 0 where
       first : Sound size d st s m (operand_at t (n * 27 + 11)) x

@@ -97,7 +97,7 @@ module _ (t : List ℕ) (d size : ℕ) (st : List ℕ) (s : ℕ) (m : List ℕ) 
       (taken Stays st m)
   word_by Unread = taken Stays st m
 
-  -- `set_word`
+  -- `set-word`
   unfoldable pub quick_word : Taken
   quick_word = word_by (three_read t (place_of n) d size st s m)
 

@@ -194,7 +194,7 @@ fn leave_block(t: &[u32], size: u32, st: &[u32], s: u32, m: usize, n: u32) -> Mo
     }
 }
 
-// Base, offset and value of `set-byte` and `set_word`.
+// Base, offset and value of `set-byte` and `set-word`.
 #[derive(Drop)]
 pub enum Three {
     All { base: u32, offset: u32, value: u32 },
@@ -259,7 +259,7 @@ fn set_byte(
     Move::Stays
 }
 
-// `set_word`.
+// `set-word`.
 fn set_word(
     t: &[u32],
     d: u32,

@@ -196,7 +196,7 @@ module _ (t : List ℕ) (c : ℕ) (r : Machine) (st m : List ℕ) where
     unfolding set_at_of if_true effected
     at-bad o h q = rw (← e, ← d, ← i, h, q)
 
-  -- what `set-byte` and `set_word` come to
+  -- what `set-byte` and `set-word` come to
   byte-bad : (o : Outcome) → arguments_of (rows_alone t c) (world r st m) ≡ bad → o ≡ halted r 32 → left o st m ≡ after setting_byte t c r st m
   unfolding set_byte_by effected
   byte-bad o e d = rw (e, d)

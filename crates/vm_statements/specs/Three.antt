@@ -1,4 +1,4 @@
--- The three operands of `set-byte` and `set_word`.
+-- The three operands of `set-byte` and `set-word`.
 -- Assumes nothing.
 use Rattle.std.specs.Prelude.{List, [], ◌∷◌}
 use Rattle.vm_definitions.specs.Operands.{Words, words, bad}

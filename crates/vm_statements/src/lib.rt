@@ -156,7 +156,7 @@ fn set_at(t: &[u32], c: u32, r: Machine, st: &mut [u32], m: &mut [u8]) -> Outcom
     assign_at(t, c, r, st, m)
 }
 
-// Base, offset and value of `set-byte` and `set_word`, or one of them could not be read.
+// Base, offset and value of `set-byte` and `set-word`, or one of them could not be read.
 #[derive(Drop)]
 pub enum Three {
     All { base: u32, offset: u32, value: u32 },
@@ -211,7 +211,7 @@ fn set_byte(t: &[u32], c: u32, r: Machine, st: &[u32], m: &mut [u8]) -> Outcome
     vm_calls::stop(r, 32)
 }
 
-// `set_word`: base, offset and value are read before the address is judged.
+// `set-word`: base, offset and value are read before the address is judged.
 fn set_word(t: &[u32], c: u32, r: Machine, st: &[u32], m: &mut [u8]) -> Outcome
     requires { (r.next < greatest_word) × ((row_at t.now r.next).kind ≡ kind.set_word) }
     ensures { left result st.now m.new ≡ after setting_word t.now c r st.now m.old }

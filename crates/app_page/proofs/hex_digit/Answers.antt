@@ -1,8 +1,5 @@
 use Rattle.base_prelude.proofs.Choice.{tests}
 use Rattle.app_page.specs.Bytes.{hex_digit}
-use native.Mathlib.Omega.{arith}
-use mathlib.Core.Path.{◌≡◌, refl, sym, ◌∙◌, ap, subst}
-use borrow.Author.Rules.{rules}
 use Rattle.app_page.proofs.hex_digit.Goals as goal
 
 pub returns-then-d-lt10 : goal.returns-then-d-lt10

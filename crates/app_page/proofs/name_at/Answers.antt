@@ -1,7 +1,4 @@
 use Rattle.app_page.proofs.Cases.{part-name, part-short}
-use native.Mathlib.Omega.{arith}
-use mathlib.Core.Path.{◌≡◌, refl, sym, ◌∙◌, ap, subst}
-use borrow.Author.Rules.{rules}
 use Rattle.app_page.proofs.name_at.Goals as goal
 
 pub returns : goal.returns

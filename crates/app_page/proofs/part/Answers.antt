@@ -1,7 +1,4 @@
 use Rattle.app_page.proofs.Cases.{parts}
-use native.Mathlib.Omega.{arith}
-use mathlib.Core.Path.{◌≡◌, refl, sym, ◌∙◌, ap, subst}
-use borrow.Author.Rules.{rules}
 use Rattle.app_page.proofs.part.Goals as goal
 
 pub returns-then-s-from : goal.returns-then-s-from

@@ -1,7 +1,4 @@
 use Rattle.app_page.proofs.Cases.{accepted-put}
-use native.Mathlib.Omega.{arith}
-use mathlib.Core.Path.{◌≡◌, refl, sym, ◌∙◌, ap, subst}
-use borrow.Author.Rules.{rules}
 use Rattle.app_page.proofs.put_accepted.Goals as goal
 
 pub returns : goal.returns

@@ -1,6 +1,4 @@
 use Rattle.app_page.proofs.Cases.{field_put}
-use native.Mathlib.Omega.{arith}
-use mathlib.Core.Path.{◌≡◌, refl, sym, ◌∙◌, ap, subst}
 use borrow.Author.Rules.{rules}
 use Rattle.app_page.proofs.put_field.Goals as goal
 

@@ -1,8 +1,5 @@
 use borrow.Author.Rules.{rules}
-use Prim.Native.Nat.{◌-◌}
-use Rattle.app_page.proofs.Loops.{Listing, listing, listing-near}
-use native.Mathlib.Omega.{arith}
-use mathlib.Core.Path.{◌≡◌, refl, sym, ◌∙◌, ap, subst}
+use Rattle.app_page.proofs.Loops.{listing, listing-near}
 use Rattle.app_page.proofs.put_labels.Goals as goal
 
 pub loop-i-init : goal.loop-i-init

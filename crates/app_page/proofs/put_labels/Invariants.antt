@@ -1,8 +1,5 @@
-use borrow.Author.Rules.{rules}
 use Prim.Native.Nat.{◌-◌}
-use Rattle.app_page.proofs.Loops.{Listing, listing, listing-near}
-use native.Mathlib.Omega.{arith}
-use mathlib.Core.Path.{◌≡◌, refl, sym, ◌∙◌, ap, subst}
+use Rattle.app_page.proofs.Loops.{Listing}
 use Rattle.app_page.proofs.put_labels.Given as goal
 
 abbrev pub invariant-loop-i : goal.invariant-loop-i

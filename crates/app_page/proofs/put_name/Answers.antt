@@ -1,9 +1,5 @@
 use borrow.Author.Rules.{rules}
-use Prim.Native.Nat.{◌-◌}
-use lib.ListN.{length}
-use Rattle.app_page.proofs.Loops.{Naming, naming, naming-near}
-use native.Mathlib.Omega.{arith}
-use mathlib.Core.Path.{◌≡◌, refl, sym, ◌∙◌, ap, subst}
+use Rattle.app_page.proofs.Loops.{naming, naming-near}
 use Rattle.app_page.proofs.put_name.Goals as goal
 
 pub loop-i-init : goal.loop-i-init

@@ -1,6 +1,4 @@
 use Rattle.app_page.proofs.Cases.{refusal-put}
-use native.Mathlib.Omega.{arith}
-use mathlib.Core.Path.{◌≡◌, refl, sym, ◌∙◌, ap, subst}
 use borrow.Author.Rules.{rules}
 use Rattle.app_page.proofs.put_refusal.Goals as goal
 

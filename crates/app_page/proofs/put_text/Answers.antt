@@ -1,9 +1,5 @@
 use borrow.Author.Rules.{rules}
-use Prim.Native.Nat.{◌-◌}
-use lib.ListN.{length}
-use Rattle.app_page.proofs.Loops.{Texting, texting, texting-near}
-use native.Mathlib.Omega.{arith}
-use mathlib.Core.Path.{◌≡◌, refl, sym, ◌∙◌, ap, subst}
+use Rattle.app_page.proofs.Loops.{texting, texting-near}
 use Rattle.app_page.proofs.put_text.Goals as goal
 
 pub loop-i-init : goal.loop-i-init

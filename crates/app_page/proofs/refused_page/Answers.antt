@@ -1,7 +1,4 @@
 use Rattle.app_page.proofs.Cases.{pages}
-use native.Mathlib.Omega.{arith}
-use mathlib.Core.Path.{◌≡◌, refl, sym, ◌∙◌, ap, subst}
-use borrow.Author.Rules.{rules}
 use Rattle.app_page.proofs.refused_page.Goals as goal
 
 pub returns-then-out-size_of_page : goal.returns-then-out-size_of_page

@@ -1,9 +1,7 @@
 use lib.ListN.{get_or-eq_default}
 use Rattle.base_prelude.specs.Bytes.{byte_at}
 use Rattle.base_prelude.proofs.Bytes.{get_d-within}
-use native.Mathlib.Omega.{arith}
-use mathlib.Core.Path.{◌≡◌, refl, sym, ◌∙◌, ap, subst}
-use borrow.Author.Rules.{rules}
+use mathlib.Core.Path.{sym, ◌∙◌}
 use Rattle.base_prelude.proofs.byte_at.Goals as goal
 
 pub returns-then-i-s : goal.returns-then-i-s

@@ -1,10 +1,4 @@
-use borrow.Author.Rules.{rules}
-use Prim.Native.Nat.{◌-◌}
-use lib.ListN.{length, length-set}
-use Rattle.base_prelude.specs.Lists.{cleared_from}
-use Rattle.base_prelude.proofs.Lists.{Clearing, clearing}
-use native.Mathlib.Omega.{arith}
-use mathlib.Core.Path.{◌≡◌, refl, sym, ◌∙◌, ap, subst}
+use Rattle.base_prelude.proofs.Lists.{clearing}
 use Rattle.base_prelude.proofs.clear_from.Goals as goal
 
 pub loop-i-init : goal.loop-i-init

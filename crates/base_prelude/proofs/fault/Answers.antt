@@ -1,6 +1,4 @@
 use Rattle.base_prelude.specs.Fault.{key}
-use native.Mathlib.Omega.{arith}
-use mathlib.Core.Path.{◌≡◌, refl, sym, ◌∙◌, ap, subst}
 use borrow.Author.Rules.{rules}
 use Rattle.base_prelude.proofs.fault.Goals as goal
 

@@ -1,9 +1,4 @@
-use borrow.Author.Rules.{rules}
-use Prim.Native.Nat.{◌-◌}
-use lib.ListN.{length}
-use Rattle.base_prelude.proofs.Lists.{Same, comparing, same_more}
-use native.Mathlib.Omega.{arith}
-use mathlib.Core.Path.{◌≡◌, refl, sym, ◌∙◌, ap, subst}
+use Rattle.base_prelude.proofs.Lists.{comparing}
 use Rattle.base_prelude.proofs.same.Goals as goal
 
 pub returns-then-a-b : goal.returns-then-a-b

@@ -1,9 +1,6 @@
-use borrow.Author.Rules.{rules}
 use Prim.Native.Nat.{◌-◌}
 use lib.ListN.{length}
-use Rattle.base_prelude.proofs.Lists.{Same, comparing, same_more}
-use native.Mathlib.Omega.{arith}
-use mathlib.Core.Path.{◌≡◌, refl, sym, ◌∙◌, ap, subst}
+use Rattle.base_prelude.proofs.Lists.{Same}
 use Rattle.base_prelude.proofs.same.Given as goal
 
 abbrev pub invariant-loop-i : goal.invariant-loop-i

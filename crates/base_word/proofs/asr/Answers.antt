@@ -1,6 +1,5 @@
 use Rattle.base_word.specs.Word.{asr_by, asr_of}
 use Rattle.base_word.proofs.Cases.{shifted-modulo}
-use Rattle.std.proofs.Common.{rules}
 use Rattle.base_word.proofs.asr.Goals as goal
 
 pub returns : goal.returns

@@ -1,5 +1,4 @@
 use Rattle.base_word.proofs.Cases.{asr-plus, asr-minus}
-use Rattle.std.proofs.Common.{rules}
 use Rattle.base_word.proofs.asr_by.Goals as goal
 
 pub returns-then-a-lt2147483648 : goal.returns-then-a-lt2147483648

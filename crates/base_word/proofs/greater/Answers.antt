@@ -1,5 +1,4 @@
 use Rattle.base_word.specs.Word.{gt_of}
-use Rattle.std.proofs.Common.{rules}
 use Rattle.base_word.proofs.greater.Goals as goal
 
 pub returns : goal.returns

@@ -1,5 +1,4 @@
 use Rattle.base_word.specs.Word.{ge_of}
-use Rattle.std.proofs.Common.{rules}
 use Rattle.base_word.proofs.greater_equal.Goals as goal
 
 pub returns : goal.returns

@@ -1,5 +1,5 @@
 use Rattle.base_word.proofs.Laws.{magnitude-pos}
-use Rattle.std.proofs.Common.{arith, rules}
+use Rattle.std.proofs.Common.{arith}
 use Rattle.base_word.proofs.left_over.Goals as goal
 
 pub nonzero_rem-magnitude_of : goal.nonzero_rem-magnitude_of

@@ -1,5 +1,4 @@
 use Rattle.base_word.proofs.Cases.{mod-zero, mod-word}
-use Rattle.std.proofs.Common.{rules}
 use Rattle.base_word.proofs.rem.Goals as goal
 
 pub returns-then-b-eq0 : goal.returns-then-b-eq0

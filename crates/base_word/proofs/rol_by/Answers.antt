@@ -1,4 +1,4 @@
-use Rattle.std.proofs.Common.{arith, shl_exact, rules}
+use Rattle.std.proofs.Common.{arith, shl_exact}
 use Rattle.base_word.proofs.rol_by.Goals as goal
 
 pub returns : goal.returns

@@ -1,4 +1,3 @@
-use Rattle.std.proofs.Common.{rules}
 use Rattle.base_word.proofs.with_sign.Goals as goal
 
 pub returns-then-s : goal.returns-then-s

@@ -1,5 +1,4 @@
 use Rattle.base_word.proofs.Cases.{shifted-near, shifted-far}
-use Rattle.std.proofs.Common.{rules}
 use Rattle.base_word.proofs.with_width.Goals as goal
 
 pub returns-then-n-lt32 : goal.returns-then-n-lt32

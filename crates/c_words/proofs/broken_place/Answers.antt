@@ -1,7 +1,4 @@
 use Rattle.c_words.specs.Reply.{broken_place}
-use native.Mathlib.Omega.{arith}
-use mathlib.Core.Path.{◌≡◌, refl, sym, ◌∙◌, ap, subst}
-use borrow.Author.Rules.{rules}
 use Rattle.c_words.proofs.broken_place.Goals as goal
 
 pub returns-in-No : goal.returns-in-No

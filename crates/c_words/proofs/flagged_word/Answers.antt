@@ -1,5 +1,4 @@
 use Rattle.c_words.specs.Reply.{flagged_word}
-use borrow.Author.Rules.{rules}
 use Rattle.c_words.proofs.flagged_word.Goals as goal
 
 pub returns-in-Running : goal.returns-in-Running

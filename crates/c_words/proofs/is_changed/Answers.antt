@@ -1,5 +1,4 @@
 use Rattle.c_words.proofs.Cases.{change-ways}
-use borrow.Author.Rules.{rules}
 use Rattle.c_words.proofs.is_changed.Goals as goal
 
 pub returns-then-n-ne0 : goal.returns-then-n-ne0

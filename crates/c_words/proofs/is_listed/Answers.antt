@@ -1,5 +1,4 @@
 use Rattle.c_words.proofs.Cases.{listed-ways}
-use borrow.Author.Rules.{rules}
 use Rattle.c_words.proofs.is_listed.Goals as goal
 
 pub returns-then-s-eq-RUNNING : goal.returns-then-s-eq-RUNNING

@@ -1,7 +1,4 @@
 use Rattle.c_words.proofs.Cases.{begun-ways}
-use native.Mathlib.Omega.{arith}
-use mathlib.Core.Path.{◌≡◌, refl, sym, ◌∙◌, ap, subst}
-use borrow.Author.Rules.{rules}
 use Rattle.c_words.proofs.keep_begun.Goals as goal
 
 pub returns-in-Begun : goal.returns-in-Begun

@@ -1,7 +1,4 @@
 use Rattle.c_words.proofs.Cases.{keep-ways}
-use native.Mathlib.Omega.{arith}
-use mathlib.Core.Path.{◌≡◌, refl, sym, ◌∙◌, ap, subst}
-use borrow.Author.Rules.{rules}
 use Rattle.c_words.proofs.keep_record.Goals as goal
 
 pub returns-then-is_changed : goal.returns-then-is_changed

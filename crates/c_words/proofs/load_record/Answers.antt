@@ -1,5 +1,4 @@
 use Rattle.c_words.proofs.Cases.{load-ways}
-use borrow.Author.Rules.{rules}
 use Rattle.c_words.proofs.load_record.Goals as goal
 
 pub returns-then-record-lt-COUNT : goal.returns-then-record-lt-COUNT

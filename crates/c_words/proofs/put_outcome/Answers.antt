@@ -1,5 +1,4 @@
 use Rattle.c_words.proofs.Cases.{outcome-number, outcome-words}
-use borrow.Author.Rules.{rules}
 use Rattle.c_words.proofs.put_outcome.Goals as goal
 
 pub returns : goal.returns

@@ -1,7 +1,5 @@
 use Rattle.c_words.proofs.Cases.{six-placed}
-use native.Mathlib.Omega.{arith}
-use mathlib.Core.Path.{◌≡◌, refl, sym, ◌∙◌, ap, subst}
-use borrow.Author.Rules.{rules}
+use mathlib.Core.Path.{refl}
 use Rattle.c_words.proofs.put_six.Goals as goal
 
 pub returns : goal.returns

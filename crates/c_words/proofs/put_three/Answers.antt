@@ -1,7 +1,4 @@
 use Rattle.c_words.specs.Placed.{three_at}
-use native.Mathlib.Omega.{arith}
-use mathlib.Core.Path.{◌≡◌, refl, sym, ◌∙◌, ap, subst}
-use borrow.Author.Rules.{rules}
 use Rattle.c_words.proofs.put_three.Goals as goal
 
 pub returns : goal.returns

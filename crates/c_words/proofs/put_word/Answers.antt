@@ -1,6 +1,4 @@
 use Rattle.c_words.proofs.Cases.{placed-in, placed_past}
-use native.Mathlib.Omega.{arith}
-use mathlib.Core.Path.{◌≡◌, refl, sym, ◌∙◌, ap, subst}
 use borrow.Author.Rules.{rules}
 use Rattle.c_words.proofs.put_word.Goals as goal
 

@@ -1,5 +1,4 @@
 use Rattle.c_words.proofs.Cases.{resumed-ways}
-use borrow.Author.Rules.{rules}
 use Rattle.c_words.proofs.reply_resumed.Goals as goal
 
 pub returns-then-o : goal.returns-then-o

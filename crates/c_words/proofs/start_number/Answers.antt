@@ -1,7 +1,4 @@
 use Rattle.c_words.specs.Reply.{start_number}
-use native.Mathlib.Omega.{arith}
-use mathlib.Core.Path.{◌≡◌, refl, sym, ◌∙◌, ap, subst}
-use borrow.Author.Rules.{rules}
 use Rattle.c_words.proofs.start_number.Goals as goal
 
 pub returns-in-Begun : goal.returns-in-Begun

@@ -1,5 +1,4 @@
 use Rattle.c_words.specs.Reply.{state_flag}
-use borrow.Author.Rules.{rules}
 use Rattle.c_words.proofs.state_flag.Goals as goal
 
 pub returns-in-Running : goal.returns-in-Running

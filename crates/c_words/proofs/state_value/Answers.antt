@@ -1,5 +1,4 @@
 use Rattle.c_words.specs.Record.{state_value}
-use borrow.Author.Rules.{rules}
 use Rattle.c_words.proofs.state_value.Goals as goal
 
 pub returns-in-Running : goal.returns-in-Running

@@ -1,5 +1,4 @@
 use Rattle.c_words.specs.Reply.{stop_number}
-use borrow.Author.Rules.{rules}
 use Rattle.c_words.proofs.stop_number.Goals as goal
 
 pub returns-in-Running : goal.returns-in-Running

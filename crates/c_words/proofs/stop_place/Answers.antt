@@ -1,5 +1,4 @@
 use Rattle.c_words.specs.Reply.{stop_place}
-use borrow.Author.Rules.{rules}
 use Rattle.c_words.proofs.stop_place.Goals as goal
 
 pub returns-in-Running : goal.returns-in-Running

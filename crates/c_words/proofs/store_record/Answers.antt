@@ -1,5 +1,4 @@
 use Rattle.c_words.proofs.Cases.{record-stored}
-use borrow.Author.Rules.{rules}
 use Rattle.c_words.proofs.store_record.Goals as goal
 
 pub returns : goal.returns

@@ -1,10 +1,5 @@
-use borrow.Author.Rules.{rules}
-use Prim.Native.Nat.{◌-◌}
-use lib.ListN.{length}
-use Rattle.base_prelude.proofs.Lists.{Clearing, clearing}
+use Rattle.base_prelude.proofs.Lists.{clearing}
 use Rattle.check_fill.proofs.Cases.{cleared-is}
-use native.Mathlib.Omega.{arith}
-use mathlib.Core.Path.{◌≡◌, refl, sym, ◌∙◌, ap, subst}
 use Rattle.check_fill.proofs.clear_bytes.Goals as goal
 
 pub loop-i-init : goal.loop-i-init

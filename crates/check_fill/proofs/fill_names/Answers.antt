@@ -1,6 +1,4 @@
 use Rattle.check_fill.proofs.Cases.{names-room, labels-filled, names-filled}
-use native.Mathlib.Omega.{arith}
-use mathlib.Core.Path.{◌≡◌, refl, sym, ◌∙◌, ap, subst}
 use borrow.Author.Rules.{rules}
 use Rattle.check_fill.proofs.fill_names.Goals as goal
 

@@ -1,6 +1,4 @@
 use Rattle.check_fill.proofs.Cases.{tokens-room, tokens-filled}
-use native.Mathlib.Omega.{arith}
-use mathlib.Core.Path.{◌≡◌, refl, sym, ◌∙◌, ap, subst}
 use borrow.Author.Rules.{rules}
 use Rattle.check_fill.proofs.fill_tokens.Goals as goal
 

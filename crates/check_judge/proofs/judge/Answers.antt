@@ -1,6 +1,4 @@
 use Rattle.check_judge.proofs.Lexed.{source-ways, token-count, token-long}
-use native.Mathlib.Omega.{arith}
-use mathlib.Core.Path.{◌≡◌, refl, sym, ◌∙◌, ap, subst}
 use borrow.Author.Rules.{rules}
 use Rattle.check_judge.proofs.judge.Goals as goal
 

@@ -1,6 +1,5 @@
 use Rattle.check_judge.proofs.Cases.{token-ways, size-fine, lines-few}
-use native.Mathlib.Omega.{arith}
-use mathlib.Core.Path.{◌≡◌, refl, sym, ◌∙◌, ap, subst}
+use mathlib.Core.Path.{refl}
 use borrow.Author.Rules.{rules}
 use Rattle.check_judge.proofs.judge_tokens.Goals as goal
 

@@ -1,7 +1,5 @@
 use Rattle.check_source.proofs.Cases.{check-ways, check-room}
-use native.Mathlib.Omega.{arith}
-use mathlib.Core.Path.{◌≡◌, refl, sym, ◌∙◌, ap, subst}
-use borrow.Author.Rules.{rules}
+use mathlib.Core.Path.{refl}
 use Rattle.check_source.proofs.check.Goals as goal
 
 pub fill-requires : goal.fill-requires

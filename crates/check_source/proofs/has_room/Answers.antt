@@ -1,7 +1,4 @@
 use Rattle.check_source.proofs.Cases.{room-ways}
-use native.Mathlib.Omega.{arith}
-use mathlib.Core.Path.{◌≡◌, refl, sym, ◌∙◌, ap, subst}
-use borrow.Author.Rules.{rules}
 use Rattle.check_source.proofs.has_room.Goals as goal
 
 pub returns-then-tokens-p : goal.returns-then-tokens-p

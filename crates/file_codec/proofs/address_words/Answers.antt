@@ -1,7 +1,5 @@
-use borrow.Author.Rules.{rules}
 use Rattle.file_codec.proofs.Counts.{address-two, address-none}
 use native.Mathlib.Omega.{arith}
-use mathlib.Core.Path.{◌≡◌, refl, sym, ◌∙◌, ap, subst}
 use Rattle.file_codec.proofs.address_words.Goals as goal
 
 pub returns-then-k-eq-SET_AT : goal.returns-then-k-eq-SET_AT

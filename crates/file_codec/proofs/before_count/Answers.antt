@@ -1,7 +1,5 @@
 use Rattle.file_codec.proofs.Counts.{before-count}
 use native.Mathlib.Omega.{arith}
-use mathlib.Core.Path.{◌≡◌, refl, sym, ◌∙◌, ap, subst}
-use borrow.Author.Rules.{rules}
 use Rattle.file_codec.proofs.before_count.Goals as goal
 
 pub returns : goal.returns

@@ -1,7 +1,5 @@
 use Rattle.file_codec.proofs.Counts.{before-expr}
 use native.Mathlib.Omega.{arith}
-use mathlib.Core.Path.{◌≡◌, refl, sym, ◌∙◌, ap, subst}
-use borrow.Author.Rules.{rules}
 use Rattle.file_codec.proofs.before_expr.Goals as goal
 
 pub returns : goal.returns

@@ -1,6 +1,4 @@
 use Rattle.file_codec.proofs.Cases.{byte_past}
-use native.Mathlib.Omega.{arith}
-use mathlib.Core.Path.{◌≡◌, refl, sym, ◌∙◌, ap, subst}
 use borrow.Author.Rules.{rules}
 use Rattle.file_codec.proofs.byte_in.Goals as goal
 

@@ -1,7 +1,4 @@
 use Rattle.file_codec.proofs.Counts.{head-ways}
-use native.Mathlib.Omega.{arith}
-use mathlib.Core.Path.{◌≡◌, refl, sym, ◌∙◌, ap, subst}
-use borrow.Author.Rules.{rules}
 use Rattle.file_codec.proofs.expr_in.Goals as goal
 
 pub returns-then-uses_expr : goal.returns-then-uses_expr

@@ -1,7 +1,4 @@
 use Rattle.file_codec.proofs.Cases.{operand-ways}
-use native.Mathlib.Omega.{arith}
-use mathlib.Core.Path.{◌≡◌, refl, sym, ◌∙◌, ap, subst}
-use borrow.Author.Rules.{rules}
 use Rattle.file_codec.proofs.has_operands.Goals as goal
 
 pub returns-then-has_expression : goal.returns-then-has_expression

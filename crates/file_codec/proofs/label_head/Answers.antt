@@ -1,8 +1,6 @@
-use borrow.Author.Rules.{rules}
 use Rattle.file_codec.specs.Labels.{label_head}
 use Rattle.base_prelude.proofs.Choice.{tests}
 use native.Mathlib.Omega.{arith}
-use mathlib.Core.Path.{◌≡◌, refl, sym, ◌∙◌, ap, subst}
 use Rattle.file_codec.proofs.label_head.Goals as goal
 
 pub returns-then-k-eq-IMPORT : goal.returns-then-k-eq-IMPORT

@@ -1,7 +1,4 @@
 use Rattle.file_codec.proofs.Cases.{use-ways}
-use native.Mathlib.Omega.{arith}
-use mathlib.Core.Path.{◌≡◌, refl, sym, ◌∙◌, ap, subst}
-use borrow.Author.Rules.{rules}
 use Rattle.file_codec.proofs.uses.Goals as goal
 
 pub returns-then-j-lt-A : goal.returns-then-j-lt-A

@@ -1,7 +1,4 @@
 use Rattle.file_codec.proofs.Cases.{a-ways}
-use native.Mathlib.Omega.{arith}
-use mathlib.Core.Path.{◌≡◌, refl, sym, ◌∙◌, ap, subst}
-use borrow.Author.Rules.{rules}
 use Rattle.file_codec.proofs.uses_a.Goals as goal
 
 pub returns-then-has_target : goal.returns-then-has_target

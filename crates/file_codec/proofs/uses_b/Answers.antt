@@ -1,7 +1,4 @@
-use borrow.Author.Rules.{rules}
 use Rattle.file_codec.proofs.Cases.{part-ways}
-use native.Mathlib.Omega.{arith}
-use mathlib.Core.Path.{◌≡◌, refl, sym, ◌∙◌, ap, subst}
 use Rattle.file_codec.proofs.uses_b.Goals as goal
 
 pub returns-then-k-eq-FUNCTION : goal.returns-then-k-eq-FUNCTION

@@ -1,7 +1,4 @@
 use Rattle.file_codec.proofs.Cases.{part-ways}
-use native.Mathlib.Omega.{arith}
-use mathlib.Core.Path.{◌≡◌, refl, sym, ◌∙◌, ap, subst}
-use borrow.Author.Rules.{rules}
 use Rattle.file_codec.proofs.uses_expr.Goals as goal
 
 pub returns-then-has_expression : goal.returns-then-has_expression

@@ -1,7 +1,5 @@
 use Rattle.file_form.proofs.Cases.{form-ways, places, counts-fit}
 use native.Mathlib.Omega.{arith}
-use mathlib.Core.Path.{◌≡◌, refl, sym, ◌∙◌, ap, subst}
-use borrow.Author.Rules.{rules}
 use Rattle.file_form.proofs.data_form.Goals as goal
 
 pub count_word-c-requires : goal.count_word-c-requires

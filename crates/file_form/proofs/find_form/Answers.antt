@@ -1,7 +1,4 @@
 use Rattle.file_form.proofs.Cases.{form-ways, places}
-use native.Mathlib.Omega.{arith}
-use mathlib.Core.Path.{◌≡◌, refl, sym, ◌∙◌, ap, subst}
-use borrow.Author.Rules.{rules}
 use Rattle.file_form.proofs.find_form.Goals as goal
 
 pub data_form-requires : goal.data_form-requires

@@ -1,7 +1,4 @@
 use Rattle.file_form.proofs.Cases.{fits-ways}
-use native.Mathlib.Omega.{arith}
-use mathlib.Core.Path.{◌≡◌, refl, sym, ◌∙◌, ap, subst}
-use borrow.Author.Rules.{rules}
 use Rattle.file_form.proofs.fits.Goals as goal
 
 pub returns-then-tag-eq-ROW : goal.returns-then-tag-eq-ROW

@@ -1,7 +1,4 @@
 use Rattle.file_form.proofs.Cases.{good-ways, whole-fits-by}
-use native.Mathlib.Omega.{arith}
-use mathlib.Core.Path.{◌≡◌, refl, sym, ◌∙◌, ap, subst}
-use borrow.Author.Rules.{rules}
 use Rattle.file_form.proofs.is_good.Goals as goal
 
 pub returns-then-byte_in-tag : goal.returns-then-byte_in-tag

@@ -1,7 +1,4 @@
 use Rattle.file_form.proofs.Cases.{whole-ways}
-use native.Mathlib.Omega.{arith}
-use mathlib.Core.Path.{◌≡◌, refl, sym, ◌∙◌, ap, subst}
-use borrow.Author.Rules.{rules}
 use Rattle.file_form.proofs.is_whole.Goals as goal
 
 pub returns-then-b-at : goal.returns-then-b-at

@@ -1,7 +1,4 @@
 use Rattle.file_form.proofs.Cases.{form-ways}
-use native.Mathlib.Omega.{arith}
-use mathlib.Core.Path.{◌≡◌, refl, sym, ◌∙◌, ap, subst}
-use borrow.Author.Rules.{rules}
 use Rattle.file_form.proofs.labels_form.Goals as goal
 
 pub returns-then-end-b : goal.returns-then-end-b

@@ -1,7 +1,5 @@
 use Rattle.file_form.proofs.Cases.{size-made}
 use native.Mathlib.Omega.{arith}
-use mathlib.Core.Path.{◌≡◌, refl, sym, ◌∙◌, ap, subst}
-use borrow.Author.Rules.{rules}
 use Rattle.file_form.proofs.size_at.Goals as goal
 
 pub returns : goal.returns

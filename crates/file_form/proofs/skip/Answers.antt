@@ -1,9 +1,4 @@
-use borrow.Author.Rules.{rules}
-use Rattle.file_form.proofs.Cases.{Skipping, skipping, ends_at, ends_nowhere, within-at, within-nowhere, good-fits-by}
-use Rattle.file_form.specs.Shape.{fits_of}
-use Prim.Native.Nat.{◌-◌}
-use native.Mathlib.Omega.{arith}
-use mathlib.Core.Path.{◌≡◌, refl, sym, ◌∙◌, ap, subst}
+use Rattle.file_form.proofs.Cases.{skipping, ends_at, ends_nowhere, within-at, within-nowhere, good-fits-by}
 use Rattle.file_form.proofs.skip.Goals as goal
 
 pub loop-i-init : goal.loop-i-init

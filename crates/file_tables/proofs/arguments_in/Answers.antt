@@ -1,7 +1,4 @@
 use Rattle.file_tables.proofs.Cases.{arguments-import, arguments-none}
-use native.Mathlib.Omega.{arith}
-use mathlib.Core.Path.{◌≡◌, refl, sym, ◌∙◌, ap, subst}
-use borrow.Author.Rules.{rules}
 use Rattle.file_tables.proofs.arguments_in.Goals as goal
 
 pub returns-then-k-eq-IMPORT : goal.returns-then-k-eq-IMPORT

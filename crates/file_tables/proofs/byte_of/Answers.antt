@@ -1,7 +1,4 @@
 use Rattle.file_tables.proofs.Cases.{byte_past}
-use native.Mathlib.Omega.{arith}
-use mathlib.Core.Path.{◌≡◌, refl, sym, ◌∙◌, ap, subst}
-use borrow.Author.Rules.{rules}
 use Rattle.file_tables.proofs.byte_of.Goals as goal
 
 pub returns-else-i-x : goal.returns-else-i-x

@@ -1,7 +1,4 @@
 use Rattle.file_tables.proofs.Cases.{fields}
-use native.Mathlib.Omega.{arith}
-use mathlib.Core.Path.{◌≡◌, refl, sym, ◌∙◌, ap, subst}
-use borrow.Author.Rules.{rules}
 use Rattle.file_tables.proofs.unpack_field.Goals as goal
 
 pub returns : goal.returns

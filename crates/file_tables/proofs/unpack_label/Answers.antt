@@ -1,8 +1,6 @@
 use Rattle.file_tables.proofs.Cases.{label-unpacked}
 use lib.ListN.{length-set}
 use native.Mathlib.Omega.{arith}
-use mathlib.Core.Path.{◌≡◌, refl, sym, ◌∙◌, ap, subst}
-use borrow.Author.Rules.{rules}
 use Rattle.file_tables.proofs.unpack_label.Goals as goal
 
 pub bounds-l-at-2 : goal.bounds-l-at-2

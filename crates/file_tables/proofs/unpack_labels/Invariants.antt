@@ -1,9 +1,6 @@
-use borrow.Author.Rules.{rules}
-use Rattle.file_tables.proofs.Cases.{Fielding, fielding, label-words-length}
+use Rattle.file_tables.proofs.Cases.{Fielding, label-words-length}
 use Rattle.file_codec.specs.Labels.{label_words_in, label_fits}
 use Prim.Native.Nat.{◌-◌}
-use native.Mathlib.Omega.{arith}
-use mathlib.Core.Path.{◌≡◌, refl, sym, ◌∙◌, ap, subst}
 use Rattle.file_tables.proofs.unpack_labels.Given as goal
 
 abbrev pub invariant-loop-i : goal.invariant-loop-i

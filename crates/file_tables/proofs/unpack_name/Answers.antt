@@ -1,8 +1,4 @@
-use borrow.Author.Rules.{rules}
-use Rattle.file_tables.proofs.Cases.{Naming, naming}
-use Prim.Native.Nat.{◌-◌}
-use native.Mathlib.Omega.{arith}
-use mathlib.Core.Path.{◌≡◌, refl, sym, ◌∙◌, ap, subst}
+use Rattle.file_tables.proofs.Cases.{naming}
 use Rattle.file_tables.proofs.unpack_name.Goals as goal
 
 pub loop-j-init : goal.loop-j-init

@@ -1,8 +1,5 @@
-use borrow.Author.Rules.{rules}
-use Rattle.file_tables.proofs.Cases.{Naming, naming}
+use Rattle.file_tables.proofs.Cases.{Naming}
 use Prim.Native.Nat.{◌-◌}
-use native.Mathlib.Omega.{arith}
-use mathlib.Core.Path.{◌≡◌, refl, sym, ◌∙◌, ap, subst}
 use Rattle.file_tables.proofs.unpack_name.Given as goal
 
 abbrev pub invariant-loop-j : goal.invariant-loop-j

@@ -1,9 +1,5 @@
-use borrow.Author.Rules.{rules}
-use Rattle.file_tables.proofs.Cases.{Fielding, fielding, slot-length}
-use Rattle.file_codec.specs.Labels.{name_slot, label_fits}
-use Prim.Native.Nat.{◌-◌}
+use Rattle.file_tables.proofs.Cases.{fielding}
 use native.Mathlib.Omega.{arith}
-use mathlib.Core.Path.{◌≡◌, refl, sym, ◌∙◌, ap, subst}
 use Rattle.file_tables.proofs.unpack_names.Goals as goal
 
 pub loop-i-init : goal.loop-i-init

@@ -1,9 +1,6 @@
-use borrow.Author.Rules.{rules}
-use Rattle.file_tables.proofs.Cases.{Fielding, fielding, slot-length}
+use Rattle.file_tables.proofs.Cases.{Fielding, slot-length}
 use Rattle.file_codec.specs.Labels.{name_slot, label_fits}
 use Prim.Native.Nat.{◌-◌}
-use native.Mathlib.Omega.{arith}
-use mathlib.Core.Path.{◌≡◌, refl, sym, ◌∙◌, ap, subst}
 use Rattle.file_tables.proofs.unpack_names.Given as goal
 
 abbrev pub invariant-loop-i : goal.invariant-loop-i

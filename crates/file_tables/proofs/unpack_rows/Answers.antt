@@ -1,9 +1,5 @@
-use borrow.Author.Rules.{rules}
-use Rattle.file_tables.proofs.Cases.{Fielding, fielding, unpacked-length}
-use Rattle.file_codec.specs.Rows.{unpacked, row_fits}
-use Prim.Native.Nat.{◌-◌}
+use Rattle.file_tables.proofs.Cases.{fielding}
 use native.Mathlib.Omega.{arith}
-use mathlib.Core.Path.{◌≡◌, refl, sym, ◌∙◌, ap, subst}
 use Rattle.file_tables.proofs.unpack_rows.Goals as goal
 
 pub loop-i-init : goal.loop-i-init

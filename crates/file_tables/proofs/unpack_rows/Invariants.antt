@@ -1,9 +1,6 @@
-use borrow.Author.Rules.{rules}
-use Rattle.file_tables.proofs.Cases.{Fielding, fielding, unpacked-length}
+use Rattle.file_tables.proofs.Cases.{Fielding, unpacked-length}
 use Rattle.file_codec.specs.Rows.{unpacked, row_fits}
 use Prim.Native.Nat.{◌-◌}
-use native.Mathlib.Omega.{arith}
-use mathlib.Core.Path.{◌≡◌, refl, sym, ◌∙◌, ap, subst}
 use Rattle.file_tables.proofs.unpack_rows.Given as goal
 
 abbrev pub invariant-loop-i : goal.invariant-loop-i

@@ -1,8 +1,4 @@
-use borrow.Author.Rules.{rules}
-use Rattle.file_tables.proofs.Cases.{Unpacking, unpacking}
-use Prim.Native.Nat.{◌-◌}
-use native.Mathlib.Omega.{arith}
-use mathlib.Core.Path.{◌≡◌, refl, sym, ◌∙◌, ap, subst}
+use Rattle.file_tables.proofs.Cases.{unpacking}
 use Rattle.file_tables.proofs.unpack_words.Goals as goal
 
 pub loop-j-init : goal.loop-j-init

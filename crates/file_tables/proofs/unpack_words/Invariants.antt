@@ -1,8 +1,5 @@
-use borrow.Author.Rules.{rules}
-use Rattle.file_tables.proofs.Cases.{Unpacking, unpacking}
+use Rattle.file_tables.proofs.Cases.{Unpacking}
 use Prim.Native.Nat.{◌-◌}
-use native.Mathlib.Omega.{arith}
-use mathlib.Core.Path.{◌≡◌, refl, sym, ◌∙◌, ap, subst}
 use Rattle.file_tables.proofs.unpack_words.Given as goal
 
 abbrev pub invariant-loop-j : goal.invariant-loop-j

@@ -1,4 +1,3 @@
-use borrow.Author.Rules.{rules}
 use Rattle.file_writer.proofs.Ways.{fit-ways}
 use Rattle.file_writer.proofs.fit.Goals as goal
 

@@ -1,5 +1,4 @@
 use Rattle.file_writer.proofs.Ways.{judge-ways}
-use borrow.Author.Rules.{rules}
 use Rattle.file_writer.proofs.judge.Goals as goal
 
 pub returns-then-past_limits : goal.returns-then-past_limits

@@ -1,4 +1,3 @@
-use borrow.Author.Rules.{rules}
 use Rattle.file_writer.proofs.Ways.{limit-ways}
 use Rattle.file_writer.proofs.past_limits.Goals as goal
 

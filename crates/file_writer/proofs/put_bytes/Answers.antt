@@ -1,7 +1,5 @@
 use borrow.Author.Rules.{rules}
-use Prim.Native.Nat.{◌-◌}
-use lib.ListN.{length}
-use Rattle.app_page.proofs.Loops.{Texting, texting}
+use Rattle.app_page.proofs.Loops.{texting}
 use Rattle.file_writer.proofs.put_bytes.Goals as goal
 
 pub loop-i-init : goal.loop-i-init

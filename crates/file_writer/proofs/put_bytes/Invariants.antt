@@ -1,7 +1,6 @@
-use borrow.Author.Rules.{rules}
 use Prim.Native.Nat.{◌-◌}
 use lib.ListN.{length}
-use Rattle.app_page.proofs.Loops.{Texting, texting}
+use Rattle.app_page.proofs.Loops.{Texting}
 use Rattle.file_writer.proofs.put_bytes.Given as goal
 
 abbrev pub invariant-loop-i : goal.invariant-loop-i

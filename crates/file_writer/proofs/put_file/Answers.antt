@@ -1,4 +1,3 @@
-use borrow.Author.Rules.{rules}
 use Rattle.file_writer.proofs.Cases.{file-put}
 use Rattle.file_writer.proofs.put_file.Goals as goal
 

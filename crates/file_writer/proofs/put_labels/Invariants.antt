@@ -1,7 +1,6 @@
-use borrow.Author.Rules.{rules}
 use Prim.Native.Nat.{◌-◌}
 use Rattle.file_codec.specs.File.{label_fields}
-use Rattle.file_writer.proofs.Loops.{Listing, listing-labels}
+use Rattle.file_writer.proofs.Loops.{Listing}
 use Rattle.file_writer.proofs.put_labels.Given as goal
 
 abbrev pub invariant-loop-i : goal.invariant-loop-i

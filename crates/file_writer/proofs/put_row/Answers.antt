@@ -1,6 +1,5 @@
 use borrow.Author.Rules.{rules}
-use Prim.Native.Nat.{◌-◌}
-use Rattle.file_writer.proofs.Loops.{Packing, packing}
+use Rattle.file_writer.proofs.Loops.{packing}
 use Rattle.file_writer.proofs.put_row.Goals as goal
 
 pub loop-j-init : goal.loop-j-init

@@ -1,6 +1,5 @@
-use borrow.Author.Rules.{rules}
 use Prim.Native.Nat.{◌-◌}
-use Rattle.file_writer.proofs.Loops.{Packing, packing}
+use Rattle.file_writer.proofs.Loops.{Packing}
 use Rattle.file_writer.proofs.put_row.Given as goal
 
 abbrev pub invariant-loop-j : goal.invariant-loop-j

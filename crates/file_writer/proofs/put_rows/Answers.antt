@@ -1,7 +1,5 @@
 use borrow.Author.Rules.{rules}
-use Prim.Native.Nat.{◌-◌}
-use Rattle.file_codec.specs.File.{row_fields}
-use Rattle.file_writer.proofs.Loops.{Listing, listing-rows, rows-near}
+use Rattle.file_writer.proofs.Loops.{listing-rows, rows-near}
 use Rattle.file_writer.proofs.put_rows.Goals as goal
 
 pub loop-i-init : goal.loop-i-init

@@ -1,7 +1,6 @@
-use borrow.Author.Rules.{rules}
 use Prim.Native.Nat.{◌-◌}
 use Rattle.file_codec.specs.File.{row_fields}
-use Rattle.file_writer.proofs.Loops.{Listing, listing-rows, rows-near}
+use Rattle.file_writer.proofs.Loops.{Listing}
 use Rattle.file_writer.proofs.put_rows.Given as goal
 
 abbrev pub invariant-loop-i : goal.invariant-loop-i

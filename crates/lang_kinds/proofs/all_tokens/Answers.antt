@@ -1,7 +1,5 @@
-use borrow.Author.Rules.{rules}
 use Rattle.lang_kinds.specs.Tokens.{tokens_of}
-use native.Mathlib.Omega.{arith}
-use mathlib.Core.Path.{◌≡◌, refl, sym, ◌∙◌, ap, subst}
+use mathlib.Core.Path.{refl}
 use Rattle.lang_kinds.proofs.all_tokens.Goals as goal
 
 pub returns : goal.returns

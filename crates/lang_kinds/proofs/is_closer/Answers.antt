@@ -1,8 +1,5 @@
-use borrow.Author.Rules.{rules}
 use Rattle.base_prelude.proofs.Choice.{tests}
 use Rattle.lang_kinds.specs.Nesting.{statement_in, rows_of, enters, leaves, ground_of, is_frame}
-use native.Mathlib.Omega.{arith}
-use mathlib.Core.Path.{◌≡◌, refl, sym, ◌∙◌, ap, subst}
 use Rattle.lang_kinds.proofs.is_closer.Goals as goal
 
 pub returns-then-k-eq-END_FUNCTION : goal.returns-then-k-eq-END_FUNCTION

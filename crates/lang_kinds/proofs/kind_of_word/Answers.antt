@@ -1,6 +1,4 @@
 use Rattle.lang_kinds.proofs.Cases.{kind-known, kind-none}
-use native.Mathlib.Omega.{arith}
-use mathlib.Core.Path.{◌≡◌, refl, sym, ◌∙◌, ap, subst}
 use borrow.Author.Rules.{rules}
 use Rattle.lang_kinds.proofs.kind_of_word.Goals as goal
 

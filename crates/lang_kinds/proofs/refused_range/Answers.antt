@@ -1,6 +1,5 @@
 use Rattle.base_prelude.proofs.Choice.{tests}
 use Rattle.lang_kinds.specs.Nesting.{refused_in}
-use borrow.Author.Rules.{rules}
 use Rattle.lang_kinds.proofs.refused_range.Goals as goal
 
 pub returns-then-k-eq-LEFT_OUT : goal.returns-then-k-eq-LEFT_OUT

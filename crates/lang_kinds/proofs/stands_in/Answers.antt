@@ -1,7 +1,6 @@
 use Rattle.base_prelude.proofs.Choice.{tests}
 use Rattle.lang_kinds.specs.Nesting.{stands_in}
 use Rattle.lang_kinds.proofs.Cases.{stands-statement, stands-refused}
-use borrow.Author.Rules.{rules}
 use Rattle.lang_kinds.proofs.stands_in.Goals as goal
 
 pub returns-then-k-eq-EDGE : goal.returns-then-k-eq-EDGE

@@ -1,6 +1,5 @@
 use Rattle.base_prelude.proofs.Choice.{tests}
 use Rattle.lang_kinds.specs.Nesting.{statement_in}
-use borrow.Author.Rules.{rules}
 use Rattle.lang_kinds.proofs.statement_range.Goals as goal
 
 pub returns-then-k-eq-FUNCTION : goal.returns-then-k-eq-FUNCTION

@@ -1,4 +1,3 @@
-use borrow.Author.Rules.{rules}
 use Rattle.lang_words.proofs.agrees.Goals as goal
 
 pub returns : goal.returns

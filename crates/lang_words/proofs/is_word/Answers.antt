@@ -1,6 +1,4 @@
-use borrow.Author.Rules.{rules}
-use Prim.Native.Nat.{◌-◌}
-use Rattle.lang_words.proofs.Matching.{Matching, matching}
+use Rattle.lang_words.proofs.Matching.{matching}
 use Rattle.lang_words.proofs.is_word.Goals as goal
 
 pub returns-then-name-size : goal.returns-then-name-size

@@ -1,6 +1,5 @@
-use borrow.Author.Rules.{rules}
 use Prim.Native.Nat.{◌-◌}
-use Rattle.lang_words.proofs.Matching.{Matching, matching}
+use Rattle.lang_words.proofs.Matching.{Matching}
 use Rattle.lang_words.proofs.is_word.Given as goal
 
 abbrev pub invariant-loop-j : goal.invariant-loop-j

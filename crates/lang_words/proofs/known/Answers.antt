@@ -1,7 +1,4 @@
 use Rattle.lang_words.proofs.Sectioning.{knowing}
-use native.Mathlib.Omega.{arith}
-use mathlib.Core.Path.{◌≡◌, refl, sym, ◌∙◌, ap, subst}
-use borrow.Author.Rules.{rules}
 use Rattle.lang_words.proofs.known.Goals as goal
 
 pub returns-then-k-eq0 : goal.returns-then-k-eq0

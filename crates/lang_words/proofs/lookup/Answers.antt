@@ -1,7 +1,4 @@
-use borrow.Author.Rules.{rules}
-use Prim.Native.Nat.{◌-◌}
-use Rattle.lang_words.specs.Words.{is_spelled}
-use Rattle.lang_words.proofs.Searching.{Searching, named-fits, naming}
+use Rattle.lang_words.proofs.Searching.{named-fits, naming}
 use Rattle.lang_words.proofs.lookup.Goals as goal
 
 pub loop-k-init : goal.loop-k-init

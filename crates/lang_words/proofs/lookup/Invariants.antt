@@ -1,7 +1,6 @@
-use borrow.Author.Rules.{rules}
 use Prim.Native.Nat.{◌-◌}
 use Rattle.lang_words.specs.Words.{is_spelled}
-use Rattle.lang_words.proofs.Searching.{Searching, named-fits, naming}
+use Rattle.lang_words.proofs.Searching.{Searching}
 use Rattle.lang_words.proofs.lookup.Given as goal
 
 abbrev pub invariant-loop-k : goal.invariant-loop-k

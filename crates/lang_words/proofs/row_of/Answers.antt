@@ -1,7 +1,4 @@
-use borrow.Author.Rules.{rules}
-use Prim.Native.Nat.{◌-◌}
-use Rattle.lang_words.specs.Words.{is_number}
-use Rattle.lang_words.proofs.Searching.{Searching, numbering}
+use Rattle.lang_words.proofs.Searching.{numbering}
 use Rattle.lang_words.proofs.row_of.Goals as goal
 
 pub loop-k-init : goal.loop-k-init

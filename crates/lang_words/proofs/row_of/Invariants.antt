@@ -1,7 +1,6 @@
-use borrow.Author.Rules.{rules}
 use Prim.Native.Nat.{◌-◌}
 use Rattle.lang_words.specs.Words.{is_number}
-use Rattle.lang_words.proofs.Searching.{Searching, numbering}
+use Rattle.lang_words.proofs.Searching.{Searching}
 use Rattle.lang_words.proofs.row_of.Given as goal
 
 abbrev pub invariant-loop-k : goal.invariant-loop-k

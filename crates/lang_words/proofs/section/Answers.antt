@@ -1,7 +1,4 @@
 use Rattle.lang_words.proofs.Sectioning.{sections}
-use native.Mathlib.Omega.{arith}
-use mathlib.Core.Path.{◌≡◌, refl, sym, ◌∙◌, ap, subst}
-use borrow.Author.Rules.{rules}
 use Rattle.lang_words.proofs.section.Goals as goal
 
 pub returns-then-same : goal.returns-then-same

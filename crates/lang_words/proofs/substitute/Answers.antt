@@ -1,5 +1,4 @@
 use Rattle.lang_words.proofs.Substituting.{substitutes}
-use borrow.Author.Rules.{rules}
 use Rattle.lang_words.proofs.substitute.Goals as goal
 
 pub returns-then-same : goal.returns-then-same

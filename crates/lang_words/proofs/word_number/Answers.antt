@@ -1,6 +1,5 @@
 use Rattle.lang_words.specs.Numbers.{numbers}
 use mathlib.Core.Path.{refl}
-use borrow.Author.Rules.{rules}
 use Rattle.lang_words.proofs.word_number.Goals as goal
 
 pub returns : goal.returns

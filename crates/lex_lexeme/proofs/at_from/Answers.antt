@@ -1,6 +1,4 @@
 use Rattle.lex_lexeme.proofs.Cases.{marks, percent-within, integer-within}
-use native.Mathlib.Omega.{arith}
-use mathlib.Core.Path.{◌≡◌, refl, sym, ◌∙◌, ap, subst}
 use borrow.Author.Rules.{rules}
 use Rattle.lex_lexeme.proofs.at_from.Goals as goal
 

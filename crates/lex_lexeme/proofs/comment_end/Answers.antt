@@ -1,9 +1,4 @@
-use borrow.Author.Rules.{rules}
-use Prim.Native.Nat.{◌-◌}
-use lib.ListN.{length}
-use Rattle.lex_lexeme.proofs.Gaps.{Commenting, commenting}
-use native.Mathlib.Omega.{arith}
-use mathlib.Core.Path.{◌≡◌, refl, sym, ◌∙◌, ap, subst}
+use Rattle.lex_lexeme.proofs.Gaps.{commenting}
 use Rattle.lex_lexeme.proofs.comment_end.Goals as goal
 
 pub loop-i-init : goal.loop-i-init

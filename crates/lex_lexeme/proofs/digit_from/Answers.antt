@@ -1,6 +1,4 @@
 use Rattle.lex_lexeme.proofs.Digits.{digiting, digit_low}
-use native.Mathlib.Omega.{arith}
-use mathlib.Core.Path.{◌≡◌, refl, sym, ◌∙◌, ap, subst}
 use borrow.Author.Rules.{rules}
 use Rattle.lex_lexeme.proofs.digit_from.Goals as goal
 

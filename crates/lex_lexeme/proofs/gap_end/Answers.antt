@@ -1,9 +1,4 @@
-use borrow.Author.Rules.{rules}
-use Prim.Native.Nat.{◌-◌}
-use lib.ListN.{length}
-use Rattle.lex_lexeme.proofs.Gaps.{Gapping, gapping}
-use native.Mathlib.Omega.{arith}
-use mathlib.Core.Path.{◌≡◌, refl, sym, ◌∙◌, ap, subst}
+use Rattle.lex_lexeme.proofs.Gaps.{gapping}
 use Rattle.lex_lexeme.proofs.gap_end.Goals as goal
 
 pub loop-i-init : goal.loop-i-init

@@ -1,7 +1,4 @@
 use Rattle.lex_lexeme.proofs.Cases.{integers}
-use native.Mathlib.Omega.{arith}
-use mathlib.Core.Path.{◌≡◌, refl, sym, ◌∙◌, ap, subst}
-use borrow.Author.Rules.{rules}
 use Rattle.lex_lexeme.proofs.integer_from.Goals as goal
 
 pub returns-in-Word : goal.returns-in-Word

@@ -1,8 +1,5 @@
-use borrow.Author.Rules.{rules}
 use Rattle.base_prelude.proofs.Choice.{tests}
 use Rattle.lex_lexeme.specs.Reading.{is_named}
-use native.Mathlib.Omega.{arith}
-use mathlib.Core.Path.{◌≡◌, refl, sym, ◌∙◌, ap, subst}
 use Rattle.lex_lexeme.proofs.is_named.Goals as goal
 
 pub returns-then-kind-lt-LABEL : goal.returns-then-kind-lt-LABEL

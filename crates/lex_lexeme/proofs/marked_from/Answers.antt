@@ -1,7 +1,4 @@
 use Rattle.lex_lexeme.proofs.Cases.{marks}
-use native.Mathlib.Omega.{arith}
-use mathlib.Core.Path.{◌≡◌, refl, sym, ◌∙◌, ap, subst}
-use borrow.Author.Rules.{rules}
 use Rattle.lex_lexeme.proofs.marked_from.Goals as goal
 
 pub returns-then-starts_symbol : goal.returns-then-starts_symbol

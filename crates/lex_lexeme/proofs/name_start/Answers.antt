@@ -2,8 +2,6 @@ use Rattle.lex_spelling.proofs.Ends.{joined-top}
 use Rattle.lex_lexeme.proofs.Cases.{name-starting}
 use Prim.Native.Nat.{◌+◌}
 use native.Mathlib.Omega.{arith}
-use mathlib.Core.Path.{◌≡◌, refl, sym, ◌∙◌, ap, subst}
-use borrow.Author.Rules.{rules}
 use Rattle.lex_lexeme.proofs.name_start.Goals as goal
 
 pub returns-then-kind-lt-SUBSTITUTE : goal.returns-then-kind-lt-SUBSTITUTE

@@ -1,9 +1,4 @@
-use borrow.Author.Rules.{rules}
-use Prim.Native.Nat.{◌-◌}
-use lib.ListN.{length}
-use Rattle.lex_lexeme.proofs.Digits.{Counting, counting, counting-less}
-use native.Mathlib.Omega.{arith}
-use mathlib.Core.Path.{◌≡◌, refl, sym, ◌∙◌, ap, subst}
+use Rattle.lex_lexeme.proofs.Digits.{counting, counting-less}
 use Rattle.lex_lexeme.proofs.read_digits.Goals as goal
 
 pub loop-d-init : goal.loop-d-init

@@ -1,9 +1,6 @@
-use borrow.Author.Rules.{rules}
 use Prim.Native.Nat.{◌-◌}
 use lib.ListN.{length}
-use Rattle.lex_lexeme.proofs.Digits.{Counting, counting, counting-less}
-use native.Mathlib.Omega.{arith}
-use mathlib.Core.Path.{◌≡◌, refl, sym, ◌∙◌, ap, subst}
+use Rattle.lex_lexeme.proofs.Digits.{Counting}
 use Rattle.lex_lexeme.proofs.read_digits.Given as goal
 
 abbrev pub invariant-loop-d : goal.invariant-loop-d

@@ -1,7 +1,4 @@
 use Rattle.lex_lexeme.proofs.Cases.{integers}
-use native.Mathlib.Omega.{arith}
-use mathlib.Core.Path.{◌≡◌, refl, sym, ◌∙◌, ap, subst}
-use borrow.Author.Rules.{rules}
 use Rattle.lex_lexeme.proofs.read_integer.Goals as goal
 
 pub returns-then-c-eq45 : goal.returns-then-c-eq45

@@ -1,6 +1,4 @@
 use Rattle.lex_lexeme.proofs.Cases.{marks, join-in}
-use native.Mathlib.Omega.{arith}
-use mathlib.Core.Path.{◌≡◌, refl, sym, ◌∙◌, ap, subst}
 use borrow.Author.Rules.{rules}
 use Rattle.lex_lexeme.proofs.read_marked.Goals as goal
 

@@ -1,6 +1,4 @@
 use Rattle.lex_lexeme.proofs.Cases.{symbols, spelled-end}
-use native.Mathlib.Omega.{arith}
-use mathlib.Core.Path.{◌≡◌, refl, sym, ◌∙◌, ap, subst}
 use borrow.Author.Rules.{rules}
 use Rattle.lex_lexeme.proofs.read_symbol.Goals as goal
 

@@ -1,7 +1,4 @@
 use Rattle.lex_lexeme.proofs.Cases.{integers}
-use native.Mathlib.Omega.{arith}
-use mathlib.Core.Path.{◌≡◌, refl, sym, ◌∙◌, ap, subst}
-use borrow.Author.Rules.{rules}
 use Rattle.lex_lexeme.proofs.read_unsigned.Goals as goal
 
 pub returns-then-d-eq0 : goal.returns-then-d-eq0

@@ -1,7 +1,4 @@
 use Rattle.lex_lexeme.proofs.Gaps.{skipping}
-use native.Mathlib.Omega.{arith}
-use mathlib.Core.Path.{◌≡◌, refl, sym, ◌∙◌, ap, subst}
-use borrow.Author.Rules.{rules}
 use Rattle.lex_lexeme.proofs.skip_one.Goals as goal
 
 pub returns-then-is_blank : goal.returns-then-is_blank

@@ -1,7 +1,4 @@
 use Rattle.lex_lexeme.proofs.Cases.{starting}
-use native.Mathlib.Omega.{arith}
-use mathlib.Core.Path.{◌≡◌, refl, sym, ◌∙◌, ap, subst}
-use borrow.Author.Rules.{rules}
 use Rattle.lex_lexeme.proofs.starts_integer.Goals as goal
 
 pub returns-then-is_digit : goal.returns-then-is_digit

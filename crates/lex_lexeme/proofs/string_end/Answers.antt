@@ -1,6 +1,4 @@
 use Rattle.lex_lexeme.proofs.Cases.{strings, ending-in}
-use native.Mathlib.Omega.{arith}
-use mathlib.Core.Path.{◌≡◌, refl, sym, ◌∙◌, ap, subst}
 use borrow.Author.Rules.{rules}
 use Rattle.lex_lexeme.proofs.string_end.Goals as goal
 

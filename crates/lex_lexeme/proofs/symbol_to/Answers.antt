@@ -1,7 +1,4 @@
 use Rattle.lex_lexeme.proofs.Cases.{symbols}
-use native.Mathlib.Omega.{arith}
-use mathlib.Core.Path.{◌≡◌, refl, sym, ◌∙◌, ap, subst}
-use borrow.Author.Rules.{rules}
 use Rattle.lex_lexeme.proofs.symbol_to.Goals as goal
 
 pub returns-then-byte_at-eq58 : goal.returns-then-byte_at-eq58

@@ -1,6 +1,4 @@
 use Rattle.lex_lexeme.proofs.Digits.{wording, word-order, word-one, word_fits, word_small}
-use native.Mathlib.Omega.{arith}
-use mathlib.Core.Path.{◌≡◌, refl, sym, ◌∙◌, ap, subst}
 use borrow.Author.Rules.{rules}
 use Rattle.lex_lexeme.proofs.to_word.Goals as goal
 

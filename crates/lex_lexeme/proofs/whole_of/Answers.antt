@@ -1,7 +1,4 @@
 use Rattle.lex_lexeme.proofs.Digits.{widths}
-use native.Mathlib.Omega.{arith}
-use mathlib.Core.Path.{◌≡◌, refl, sym, ◌∙◌, ap, subst}
-use borrow.Author.Rules.{rules}
 use Rattle.lex_lexeme.proofs.whole_of.Goals as goal
 
 pub returns-in-Bits32 : goal.returns-in-Bits32

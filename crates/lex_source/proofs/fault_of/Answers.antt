@@ -1,7 +1,4 @@
 use Rattle.lex_source.proofs.Least.{faults}
-use native.Mathlib.Omega.{arith}
-use mathlib.Core.Path.{◌≡◌, refl, sym, ◌∙◌, ap, subst}
-use borrow.Author.Rules.{rules}
 use Rattle.lex_source.proofs.fault_of.Goals as goal
 
 pub returns-in-End : goal.returns-in-End

@@ -1,7 +1,4 @@
 use Rattle.lex_source.proofs.Filling.{filling, reading-fits}
-use native.Mathlib.Omega.{arith}
-use mathlib.Core.Path.{◌≡◌, refl, sym, ◌∙◌, ap, subst}
-use borrow.Author.Rules.{rules}
 use Rattle.lex_source.proofs.fill.Goals as goal
 
 pub add_token-requires : goal.add_token-requires

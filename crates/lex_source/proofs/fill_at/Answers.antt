@@ -1,6 +1,4 @@
 use Rattle.lex_source.proofs.Filling.{fill-steps, fill-at-fits}
-use native.Mathlib.Omega.{arith}
-use mathlib.Core.Path.{◌≡◌, refl, sym, ◌∙◌, ap, subst}
 use borrow.Author.Rules.{rules}
 use Rattle.lex_source.proofs.fill_at.Goals as goal
 

@@ -1,8 +1,4 @@
-use borrow.Author.Rules.{rules}
-use Prim.Native.Nat.{◌-◌}
-use Rattle.lex_source.proofs.Finding.{Finding, finding}
-use native.Mathlib.Omega.{arith}
-use mathlib.Core.Path.{◌≡◌, refl, sym, ◌∙◌, ap, subst}
+use Rattle.lex_source.proofs.Finding.{finding}
 use Rattle.lex_source.proofs.find_name.Goals as goal
 
 pub loop-k-init : goal.loop-k-init

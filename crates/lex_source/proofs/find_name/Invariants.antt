@@ -1,8 +1,5 @@
-use borrow.Author.Rules.{rules}
 use Prim.Native.Nat.{◌-◌}
-use Rattle.lex_source.proofs.Finding.{Finding, finding}
-use native.Mathlib.Omega.{arith}
-use mathlib.Core.Path.{◌≡◌, refl, sym, ◌∙◌, ap, subst}
+use Rattle.lex_source.proofs.Finding.{Finding}
 use Rattle.lex_source.proofs.find_name.Given as goal
 
 abbrev pub invariant-loop-k : goal.invariant-loop-k

@@ -1,8 +1,5 @@
-use borrow.Author.Rules.{rules}
 use Rattle.base_prelude.proofs.Choice.{tests}
 use Rattle.lex_source.specs.Token.{is_substitute}
-use native.Mathlib.Omega.{arith}
-use mathlib.Core.Path.{◌≡◌, refl, sym, ◌∙◌, ap, subst}
 use Rattle.lex_source.proofs.is_substitute.Goals as goal
 
 pub returns-then-kind-eq-SUBSTITUTE : goal.returns-then-kind-eq-SUBSTITUTE

@@ -1,7 +1,4 @@
 use Rattle.lex_source.proofs.Cases.{faulting}
-use native.Mathlib.Omega.{arith}
-use mathlib.Core.Path.{◌≡◌, refl, sym, ◌∙◌, ap, subst}
-use borrow.Author.Rules.{rules}
 use Rattle.lex_source.proofs.length_fault.Goals as goal
 
 pub returns-then-x-gt-NAME_BYTES : goal.returns-then-x-gt-NAME_BYTES

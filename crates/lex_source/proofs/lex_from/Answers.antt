@@ -1,9 +1,5 @@
 use borrow.Author.Rules.{rules}
-use Prim.Native.Nat.{◌-◌}
-use lib.ListN.{length}
-use Rattle.lex_source.proofs.Filling.{Lexing, lexing, lexing-less}
-use native.Mathlib.Omega.{arith}
-use mathlib.Core.Path.{◌≡◌, refl, sym, ◌∙◌, ap, subst}
+use Rattle.lex_source.proofs.Filling.{lexing, lexing-less}
 use Rattle.lex_source.proofs.lex_from.Goals as goal
 
 pub loop-next-init : goal.loop-next-init

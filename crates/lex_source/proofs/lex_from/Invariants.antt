@@ -1,9 +1,6 @@
-use borrow.Author.Rules.{rules}
 use Prim.Native.Nat.{◌-◌}
 use lib.ListN.{length}
-use Rattle.lex_source.proofs.Filling.{Lexing, lexing, lexing-less}
-use native.Mathlib.Omega.{arith}
-use mathlib.Core.Path.{◌≡◌, refl, sym, ◌∙◌, ap, subst}
+use Rattle.lex_source.proofs.Filling.{Lexing}
 use Rattle.lex_source.proofs.lex_from.Given as goal
 
 abbrev pub invariant-loop-next : goal.invariant-loop-next

@@ -1,6 +1,4 @@
 use Rattle.lex_source.proofs.Rows.{take_long}
-use native.Mathlib.Omega.{arith}
-use mathlib.Core.Path.{◌≡◌, refl, sym, ◌∙◌, ap, subst}
 use borrow.Author.Rules.{rules}
 use Rattle.lex_source.proofs.lookup_front.Goals as goal
 

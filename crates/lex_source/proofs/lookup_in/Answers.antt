@@ -1,7 +1,4 @@
 use Rattle.lex_source.proofs.Cases.{wording}
-use native.Mathlib.Omega.{arith}
-use mathlib.Core.Path.{◌≡◌, refl, sym, ◌∙◌, ap, subst}
-use borrow.Author.Rules.{rules}
 use Rattle.lex_source.proofs.lookup_in.Goals as goal
 
 pub returns-then-is_substitute : goal.returns-then-is_substitute

@@ -1,7 +1,6 @@
 use lib.ListN.{length-set}
 use Rattle.lex_source.proofs.Rows.{row_put}
 use native.Mathlib.Omega.{arith}
-use mathlib.Core.Path.{◌≡◌, refl, sym, ◌∙◌, ap, subst}
 use borrow.Author.Rules.{rules}
 use Rattle.lex_source.proofs.put_row.Goals as goal
 

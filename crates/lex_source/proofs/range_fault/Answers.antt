@@ -1,7 +1,4 @@
 use Rattle.lex_source.proofs.Cases.{faulting}
-use native.Mathlib.Omega.{arith}
-use mathlib.Core.Path.{◌≡◌, refl, sym, ◌∙◌, ap, subst}
-use borrow.Author.Rules.{rules}
 use Rattle.lex_source.proofs.range_fault.Goals as goal
 
 pub returns-then-x : goal.returns-then-x

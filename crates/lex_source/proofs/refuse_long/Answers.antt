@@ -1,6 +1,4 @@
 use Rattle.lex_source.proofs.Filling.{clear-all}
-use native.Mathlib.Omega.{arith}
-use mathlib.Core.Path.{◌≡◌, refl, sym, ◌∙◌, ap, subst}
 use borrow.Author.Rules.{rules}
 use Rattle.lex_source.proofs.refuse_long.Goals as goal
 

@@ -1,6 +1,4 @@
 use Rattle.lex_source.proofs.Filling.{rowing, named-size, named-short, name-fits}
-use native.Mathlib.Omega.{arith}
-use mathlib.Core.Path.{◌≡◌, refl, sym, ◌∙◌, ap, subst}
 use borrow.Author.Rules.{rules}
 use Rattle.lex_source.proofs.row_from.Goals as goal
 

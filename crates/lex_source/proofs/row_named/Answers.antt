@@ -1,7 +1,4 @@
 use Rattle.lex_source.proofs.Cases.{comparing}
-use native.Mathlib.Omega.{arith}
-use mathlib.Core.Path.{◌≡◌, refl, sym, ◌∙◌, ap, subst}
-use borrow.Author.Rules.{rules}
 use Rattle.lex_source.proofs.row_named.Goals as goal
 
 pub returns-then-is_named : goal.returns-then-is_named

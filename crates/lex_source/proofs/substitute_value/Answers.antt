@@ -1,7 +1,4 @@
 use Rattle.lex_source.proofs.Cases.{standing}
-use native.Mathlib.Omega.{arith}
-use mathlib.Core.Path.{◌≡◌, refl, sym, ◌∙◌, ap, subst}
-use borrow.Author.Rules.{rules}
 use Rattle.lex_source.proofs.substitute_value.Goals as goal
 
 pub returns-then-k-eq-BITS_PER_WORD : goal.returns-then-k-eq-BITS_PER_WORD

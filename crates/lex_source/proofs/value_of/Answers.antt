@@ -1,7 +1,4 @@
 use Rattle.lex_source.proofs.Cases.{valuing}
-use native.Mathlib.Omega.{arith}
-use mathlib.Core.Path.{◌≡◌, refl, sym, ◌∙◌, ap, subst}
-use borrow.Author.Rules.{rules}
 use Rattle.lex_source.proofs.value_of.Goals as goal
 
 pub returns-then-is_substitute : goal.returns-then-is_substitute

@@ -1,6 +1,4 @@
 use Rattle.lex_source.proofs.Cases.{word-front}
-use native.Mathlib.Omega.{arith}
-use mathlib.Core.Path.{◌≡◌, refl, sym, ◌∙◌, ap, subst}
 use borrow.Author.Rules.{rules}
 use Rattle.lex_source.proofs.word_at.Goals as goal
 

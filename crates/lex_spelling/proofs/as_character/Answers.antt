@@ -1,7 +1,4 @@
 use Rattle.lex_spelling.specs.Text.{escaped}
-use native.Mathlib.Omega.{arith}
-use mathlib.Core.Path.{◌≡◌, refl, sym, ◌∙◌, ap, subst}
-use borrow.Author.Rules.{rules}
 use Rattle.lex_spelling.proofs.as_character.Goals as goal
 
 pub returns-in-Byte : goal.returns-in-Byte

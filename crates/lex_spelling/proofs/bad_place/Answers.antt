@@ -1,7 +1,5 @@
-use mathlib.Core.Path.{◌≡◌, refl, sym, ◌∙◌, ap, subst}
-use native.Mathlib.Omega.{arith}
+use mathlib.Core.Path.{refl}
 use Rattle.lex_spelling.specs.Escape.{bad_place}
-use borrow.Author.Rules.{rules}
 use Rattle.lex_spelling.proofs.bad_place.Goals as goal
 
 pub returns : goal.returns

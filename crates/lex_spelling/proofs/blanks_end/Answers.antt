@@ -1,9 +1,4 @@
-use borrow.Author.Rules.{rules}
-use Prim.Native.Nat.{◌-◌}
-use lib.ListN.{length}
-use Rattle.lex_spelling.proofs.Ends.{Blanks, blanking}
-use native.Mathlib.Omega.{arith}
-use mathlib.Core.Path.{◌≡◌, refl, sym, ◌∙◌, ap, subst}
+use Rattle.lex_spelling.proofs.Ends.{blanking}
 use Rattle.lex_spelling.proofs.blanks_end.Goals as goal
 
 pub loop-i-init : goal.loop-i-init

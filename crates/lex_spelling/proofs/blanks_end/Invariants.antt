@@ -1,9 +1,6 @@
-use borrow.Author.Rules.{rules}
 use Prim.Native.Nat.{◌-◌}
 use lib.ListN.{length}
-use Rattle.lex_spelling.proofs.Ends.{Blanks, blanking}
-use native.Mathlib.Omega.{arith}
-use mathlib.Core.Path.{◌≡◌, refl, sym, ◌∙◌, ap, subst}
+use Rattle.lex_spelling.proofs.Ends.{Blanks}
 use Rattle.lex_spelling.proofs.blanks_end.Given as goal
 
 abbrev pub invariant-loop-i : goal.invariant-loop-i

@@ -1,9 +1,4 @@
-use borrow.Author.Rules.{rules}
-use Prim.Native.Nat.{◌-◌}
-use lib.ListN.{length}
-use Rattle.lex_spelling.proofs.Loops.{Copying, copying, copying-byte}
-use native.Mathlib.Omega.{arith}
-use mathlib.Core.Path.{◌≡◌, refl, sym, ◌∙◌, ap, subst}
+use Rattle.lex_spelling.proofs.Loops.{copying, copying-byte}
 use Rattle.lex_spelling.proofs.copy_text.Goals as goal
 
 pub loop-k-init : goal.loop-k-init

@@ -1,9 +1,6 @@
-use borrow.Author.Rules.{rules}
 use Prim.Native.Nat.{◌-◌}
 use lib.ListN.{length}
-use Rattle.lex_spelling.proofs.Loops.{Copying, copying, copying-byte}
-use native.Mathlib.Omega.{arith}
-use mathlib.Core.Path.{◌≡◌, refl, sym, ◌∙◌, ap, subst}
+use Rattle.lex_spelling.proofs.Loops.{Copying}
 use Rattle.lex_spelling.proofs.copy_text.Given as goal
 
 abbrev pub invariant-loop-k : goal.invariant-loop-k

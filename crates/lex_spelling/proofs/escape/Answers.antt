@@ -1,7 +1,4 @@
 use Rattle.lex_spelling.proofs.Cases.{escapes}
-use native.Mathlib.Omega.{arith}
-use mathlib.Core.Path.{◌≡◌, refl, sym, ◌∙◌, ap, subst}
-use borrow.Author.Rules.{rules}
 use Rattle.lex_spelling.proofs.escape.Goals as goal
 
 pub returns-then-c-eq120 : goal.returns-then-c-eq120

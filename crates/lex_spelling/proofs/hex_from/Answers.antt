@@ -1,7 +1,4 @@
 use Rattle.lex_spelling.proofs.Cases.{escapes}
-use native.Mathlib.Omega.{arith}
-use mathlib.Core.Path.{◌≡◌, refl, sym, ◌∙◌, ap, subst}
-use borrow.Author.Rules.{rules}
 use Rattle.lex_spelling.proofs.hex_from.Goals as goal
 
 pub returns-then-b-lt16 : goal.returns-then-b-lt16

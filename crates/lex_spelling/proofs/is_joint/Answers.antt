@@ -1,7 +1,4 @@
 use Rattle.lex_spelling.proofs.Cases.{joints}
-use native.Mathlib.Omega.{arith}
-use mathlib.Core.Path.{◌≡◌, refl, sym, ◌∙◌, ap, subst}
-use borrow.Author.Rules.{rules}
 use Rattle.lex_spelling.proofs.is_joint.Goals as goal
 
 pub returns-then-byte_at-eq10 : goal.returns-then-byte_at-eq10

@@ -1,7 +1,4 @@
 use Rattle.lex_spelling.proofs.Cases.{naming}
-use native.Mathlib.Omega.{arith}
-use mathlib.Core.Path.{◌≡◌, refl, sym, ◌∙◌, ap, subst}
-use borrow.Author.Rules.{rules}
 use Rattle.lex_spelling.proofs.is_name_byte.Goals as goal
 
 pub returns-then-is_letter : goal.returns-then-is_letter

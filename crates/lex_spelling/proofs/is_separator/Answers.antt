@@ -1,10 +1,7 @@
-use borrow.Author.Rules.{rules}
 use Rattle.base_prelude.proofs.Choice.{tests}
 use Rattle.lex_spelling.specs.Classes.{is_blank, is_separator, is_digit, is_letter}
 use Rattle.lex_spelling.specs.Escape.{hex_of, plain_of}
 use Rattle.lex_spelling.specs.Text.{in_string}
-use native.Mathlib.Omega.{arith}
-use mathlib.Core.Path.{◌≡◌, refl, sym, ◌∙◌, ap, subst}
 use Rattle.lex_spelling.proofs.is_separator.Goals as goal
 
 pub returns-in-32 : goal.returns-in-32

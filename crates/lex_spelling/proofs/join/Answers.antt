@@ -1,9 +1,4 @@
-use borrow.Author.Rules.{rules}
-use Prim.Native.Nat.{◌-◌}
-use lib.ListN.{length}
-use Rattle.lex_spelling.proofs.Ends.{Joins, joining, joins-less}
-use native.Mathlib.Omega.{arith}
-use mathlib.Core.Path.{◌≡◌, refl, sym, ◌∙◌, ap, subst}
+use Rattle.lex_spelling.proofs.Ends.{joining, joins-less}
 use Rattle.lex_spelling.proofs.join.Goals as goal
 
 pub loop-i-init : goal.loop-i-init

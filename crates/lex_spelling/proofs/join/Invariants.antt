@@ -1,9 +1,6 @@
-use borrow.Author.Rules.{rules}
 use Prim.Native.Nat.{◌-◌}
 use lib.ListN.{length}
-use Rattle.lex_spelling.proofs.Ends.{Joins, joining, joins-less}
-use native.Mathlib.Omega.{arith}
-use mathlib.Core.Path.{◌≡◌, refl, sym, ◌∙◌, ap, subst}
+use Rattle.lex_spelling.proofs.Ends.{Joins}
 use Rattle.lex_spelling.proofs.join.Given as goal
 
 abbrev pub invariant-loop-i : goal.invariant-loop-i

@@ -1,6 +1,4 @@
 use Rattle.lex_spelling.specs.Text.{mix}
-use native.Mathlib.Omega.{arith}
-use mathlib.Core.Path.{◌≡◌, refl, sym, ◌∙◌, ap, subst}
 use borrow.Author.Rules.{rules}
 use Rattle.lex_spelling.proofs.mixed.Goals as goal
 

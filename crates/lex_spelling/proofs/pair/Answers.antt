@@ -1,7 +1,4 @@
 use Rattle.lex_spelling.proofs.Cases.{pairs}
-use native.Mathlib.Omega.{arith}
-use mathlib.Core.Path.{◌≡◌, refl, sym, ◌∙◌, ap, subst}
-use borrow.Author.Rules.{rules}
 use Rattle.lex_spelling.proofs.pair.Goals as goal
 
 pub returns-in-One : goal.returns-in-One

@@ -1,7 +1,4 @@
 use Rattle.lex_spelling.proofs.Cases.{pairs}
-use native.Mathlib.Omega.{arith}
-use mathlib.Core.Path.{◌≡◌, refl, sym, ◌∙◌, ap, subst}
-use borrow.Author.Rules.{rules}
 use Rattle.lex_spelling.proofs.pair_one.Goals as goal
 
 pub returns-then-value-v : goal.returns-then-value-v

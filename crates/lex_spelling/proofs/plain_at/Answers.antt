@@ -1,7 +1,4 @@
-use mathlib.Core.Path.{◌≡◌, refl, sym, ◌∙◌, ap, subst}
-use native.Mathlib.Omega.{arith}
 use Rattle.lex_spelling.proofs.Cases.{escapes}
-use borrow.Author.Rules.{rules}
 use Rattle.lex_spelling.proofs.plain_at.Goals as goal
 
 pub returns-then-v-lt256 : goal.returns-then-v-lt256

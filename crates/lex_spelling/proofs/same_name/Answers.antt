@@ -1,9 +1,5 @@
 use borrow.Author.Rules.{rules}
-use Prim.Native.Nat.{◌-◌}
-use lib.ListN.{length}
-use Rattle.lex_spelling.proofs.Loops.{Comparing, comparing, comparing-less}
-use native.Mathlib.Omega.{arith}
-use mathlib.Core.Path.{◌≡◌, refl, sym, ◌∙◌, ap, subst}
+use Rattle.lex_spelling.proofs.Loops.{comparing, comparing-less}
 use Rattle.lex_spelling.proofs.same_name.Goals as goal
 
 pub loop-one-init : goal.loop-one-init

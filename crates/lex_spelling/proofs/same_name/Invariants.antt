@@ -1,9 +1,6 @@
-use borrow.Author.Rules.{rules}
 use Prim.Native.Nat.{◌-◌}
 use lib.ListN.{length}
-use Rattle.lex_spelling.proofs.Loops.{Comparing, comparing, comparing-less}
-use native.Mathlib.Omega.{arith}
-use mathlib.Core.Path.{◌≡◌, refl, sym, ◌∙◌, ap, subst}
+use Rattle.lex_spelling.proofs.Loops.{Comparing}
 use Rattle.lex_spelling.proofs.same_name.Given as goal
 
 abbrev pub invariant-loop-one : goal.invariant-loop-one

@@ -1,9 +1,4 @@
-use borrow.Author.Rules.{rules}
-use Prim.Native.Nat.{◌-◌}
-use lib.ListN.{length}
-use Rattle.lex_spelling.proofs.Loops.{Spelling, spelling, spelling-less}
-use native.Mathlib.Omega.{arith}
-use mathlib.Core.Path.{◌≡◌, refl, sym, ◌∙◌, ap, subst}
+use Rattle.lex_spelling.proofs.Loops.{spelling, spelling-less}
 use Rattle.lex_spelling.proofs.spell.Goals as goal
 
 pub loop-value-init : goal.loop-value-init

@@ -1,9 +1,6 @@
-use borrow.Author.Rules.{rules}
 use Prim.Native.Nat.{◌-◌}
 use lib.ListN.{length}
-use Rattle.lex_spelling.proofs.Loops.{Spelling, spelling, spelling-less}
-use native.Mathlib.Omega.{arith}
-use mathlib.Core.Path.{◌≡◌, refl, sym, ◌∙◌, ap, subst}
+use Rattle.lex_spelling.proofs.Loops.{Spelling}
 use Rattle.lex_spelling.proofs.spell.Given as goal
 
 abbrev pub invariant-loop-value : goal.invariant-loop-value

@@ -2,9 +2,6 @@ use Rattle.base_prelude.proofs.Choice.{tests}
 use Rattle.lex_spelling.specs.Classes.{is_blank, is_separator, is_digit, is_letter}
 use Rattle.lex_spelling.specs.Escape.{hex_of, plain_of}
 use Rattle.lex_spelling.specs.Text.{in_string}
-use native.Mathlib.Omega.{arith}
-use mathlib.Core.Path.{◌≡◌, refl, sym, ◌∙◌, ap, subst}
-use borrow.Author.Rules.{rules}
 use Rattle.lex_spelling.proofs.string_byte.Goals as goal
 
 pub returns-then-c-eq34 : goal.returns-then-c-eq34

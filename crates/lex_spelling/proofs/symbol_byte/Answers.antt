@@ -1,7 +1,4 @@
 use Rattle.lex_spelling.proofs.Cases.{characters}
-use native.Mathlib.Omega.{arith}
-use mathlib.Core.Path.{◌≡◌, refl, sym, ◌∙◌, ap, subst}
-use borrow.Author.Rules.{rules}
 use Rattle.lex_spelling.proofs.symbol_byte.Goals as goal
 
 pub returns-then-is_name_byte : goal.returns-then-is_name_byte

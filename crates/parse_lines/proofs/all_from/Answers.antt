@@ -1,7 +1,4 @@
 use Rattle.parse_lines.proofs.Scans.{alls}
-use native.Mathlib.Omega.{arith}
-use mathlib.Core.Path.{◌≡◌, refl, sym, ◌∙◌, ap, subst}
-use borrow.Author.Rules.{rules}
 use Rattle.parse_lines.proofs.all_from.Goals as goal
 
 pub returns-then-skip_kinds-next : goal.returns-then-skip_kinds-next

@@ -1,7 +1,4 @@
 use Rattle.parse_lines.proofs.Cases.{elses}
-use native.Mathlib.Omega.{arith}
-use mathlib.Core.Path.{◌≡◌, refl, sym, ◌∙◌, ap, subst}
-use borrow.Author.Rules.{rules}
 use Rattle.parse_lines.proofs.else_kind.Goals as goal
 
 pub returns-then-kind-lt-LABEL : goal.returns-then-kind-lt-LABEL

@@ -1,7 +1,4 @@
 use Rattle.parse_lines.proofs.Scans.{placing}
-use native.Mathlib.Omega.{arith}
-use mathlib.Core.Path.{◌≡◌, refl, sym, ◌∙◌, ap, subst}
-use borrow.Author.Rules.{rules}
 use Rattle.parse_lines.proofs.place_at.Goals as goal
 
 pub returns-then-kind_at-eq-SOURCE_END : goal.returns-then-kind_at-eq-SOURCE_END

@@ -1,8 +1,5 @@
-use borrow.Author.Rules.{rules}
 use Rattle.base_prelude.proofs.Choice.{tests}
 use Rattle.parse_lines.specs.Lines.{section_kind, end_kind, test_kind, set_kind, other_kind}
-use native.Mathlib.Omega.{arith}
-use mathlib.Core.Path.{◌≡◌, refl, sym, ◌∙◌, ap, subst}
 use Rattle.parse_lines.proofs.section_kind.Goals as goal
 
 pub returns-then-w-eq-DATA : goal.returns-then-w-eq-DATA

@@ -1,9 +1,5 @@
 use borrow.Author.Rules.{rules}
-use Prim.Native.Nat.{◌+◌, ◌*◌, ◌-◌}
-use lib.ListN.{length}
-use Rattle.parse_lines.proofs.Scans.{Skips, skipping, skips-fits, skips-less}
-use native.Mathlib.Omega.{arith}
-use mathlib.Core.Path.{◌≡◌, refl, sym, ◌∙◌, ap, subst}
+use Rattle.parse_lines.proofs.Scans.{skipping, skips-fits, skips-less}
 use Rattle.parse_lines.proofs.skip_kinds.Goals as goal
 
 pub loop-lo-init : goal.loop-lo-init

@@ -1,9 +1,6 @@
-use borrow.Author.Rules.{rules}
-use Prim.Native.Nat.{◌+◌, ◌*◌, ◌-◌}
+use Prim.Native.Nat.{◌*◌, ◌-◌}
 use lib.ListN.{length}
-use Rattle.parse_lines.proofs.Scans.{Skips, skipping, skips-fits, skips-less}
-use native.Mathlib.Omega.{arith}
-use mathlib.Core.Path.{◌≡◌, refl, sym, ◌∙◌, ap, subst}
+use Rattle.parse_lines.proofs.Scans.{Skips}
 use Rattle.parse_lines.proofs.skip_kinds.Given as goal
 
 abbrev pub invariant-loop-lo : goal.invariant-loop-lo

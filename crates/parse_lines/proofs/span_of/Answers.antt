@@ -1,7 +1,5 @@
 use Rattle.parse_lines.specs.Units.{span_of}
 use Rattle.parse_lines.proofs.Cases.{labels-top}
-use native.Mathlib.Omega.{arith}
-use mathlib.Core.Path.{◌≡◌, refl, sym, ◌∙◌, ap, subst}
 use borrow.Author.Rules.{rules}
 use Rattle.parse_lines.proofs.span_of.Goals as goal
 

@@ -1,7 +1,4 @@
 use Rattle.parse_lines.proofs.Cases.{symbolic}
-use native.Mathlib.Omega.{arith}
-use mathlib.Core.Path.{◌≡◌, refl, sym, ◌∙◌, ap, subst}
-use borrow.Author.Rules.{rules}
 use Rattle.parse_lines.proofs.symbol_kind.Goals as goal
 
 pub returns-then-kind-eq-SYMBOL : goal.returns-then-kind-eq-SYMBOL

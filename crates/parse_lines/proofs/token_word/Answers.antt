@@ -1,6 +1,4 @@
 use Rattle.parse_lines.proofs.Scans.{reading}
-use native.Mathlib.Omega.{arith}
-use mathlib.Core.Path.{◌≡◌, refl, sym, ◌∙◌, ap, subst}
 use borrow.Author.Rules.{rules}
 use Rattle.parse_lines.proofs.token_word.Goals as goal
 

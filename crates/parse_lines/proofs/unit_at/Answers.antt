@@ -1,7 +1,5 @@
 use Rattle.parse_lines.specs.Units.{unit_at}
 use Rattle.parse_lines.proofs.Cases.{newlines-top}
-use native.Mathlib.Omega.{arith}
-use mathlib.Core.Path.{◌≡◌, refl, sym, ◌∙◌, ap, subst}
 use borrow.Author.Rules.{rules}
 use Rattle.parse_lines.proofs.unit_at.Goals as goal
 

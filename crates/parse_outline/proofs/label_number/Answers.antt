@@ -1,8 +1,5 @@
-use borrow.Author.Rules.{rules}
 use Rattle.base_prelude.proofs.Choice.{tests}
 use Rattle.parse_outline.specs.Labels.{label_number}
-use native.Mathlib.Omega.{arith}
-use mathlib.Core.Path.{◌≡◌, refl, sym, ◌∙◌, ap, subst}
 use Rattle.parse_outline.proofs.label_number.Goals as goal
 
 pub returns-then-section-lt-DATA_SECTION : goal.returns-then-section-lt-DATA_SECTION

@@ -1,6 +1,4 @@
 use Rattle.parse_outline.proofs.Marking.{first_fits, rows_are}
-use native.Mathlib.Omega.{arith}
-use mathlib.Core.Path.{◌≡◌, refl, sym, ◌∙◌, ap, subst}
 use borrow.Author.Rules.{rules}
 use Rattle.parse_outline.proofs.label_rows.Goals as goal
 

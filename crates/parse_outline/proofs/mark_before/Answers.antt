@@ -1,7 +1,4 @@
 use Rattle.parse_outline.specs.Labels.{mark_before}
-use native.Mathlib.Omega.{arith}
-use mathlib.Core.Path.{◌≡◌, refl, sym, ◌∙◌, ap, subst}
-use borrow.Author.Rules.{rules}
 use Rattle.parse_outline.proofs.mark_before.Goals as goal
 
 pub returns : goal.returns

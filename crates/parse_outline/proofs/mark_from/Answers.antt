@@ -1,8 +1,5 @@
 use borrow.Author.Rules.{rules}
-use Prim.Native.Nat.{◌-◌}
-use Rattle.parse_outline.proofs.Cases.{Labelling, labelling, labelling-fits}
-use native.Mathlib.Omega.{arith}
-use mathlib.Core.Path.{◌≡◌, refl, sym, ◌∙◌, ap, subst}
+use Rattle.parse_outline.proofs.Cases.{labelling, labelling-fits}
 use Rattle.parse_outline.proofs.mark_from.Goals as goal
 
 pub loop-i-init : goal.loop-i-init

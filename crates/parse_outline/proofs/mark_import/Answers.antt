@@ -1,5 +1,4 @@
 use Rattle.parse_outline.proofs.Cases.{importing}
-use borrow.Author.Rules.{rules}
 use Rattle.parse_outline.proofs.mark_import.Goals as goal
 
 pub returns-then-import_labels-eq0 : goal.returns-then-import_labels-eq0

@@ -1,6 +1,4 @@
 use Rattle.parse_outline.proofs.Marking.{stepping, step-near, step_small, marks-few, marks-rows}
-use native.Mathlib.Omega.{arith}
-use mathlib.Core.Path.{◌≡◌, refl, sym, ◌∙◌, ap, subst}
 use borrow.Author.Rules.{rules}
 use Rattle.parse_outline.proofs.mark_step.Goals as goal
 

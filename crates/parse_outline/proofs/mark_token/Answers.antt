@@ -1,7 +1,4 @@
 use Rattle.parse_outline.proofs.Cases.{tokening}
-use native.Mathlib.Omega.{arith}
-use mathlib.Core.Path.{◌≡◌, refl, sym, ◌∙◌, ap, subst}
-use borrow.Author.Rules.{rules}
 use Rattle.parse_outline.proofs.mark_token.Goals as goal
 
 pub returns-then-kind_at-eq-LABEL : goal.returns-then-kind_at-eq-LABEL

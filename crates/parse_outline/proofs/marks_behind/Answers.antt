@@ -1,7 +1,5 @@
 use Rattle.parse_outline.specs.Labels.{marks_behind}
 use Rattle.parse_outline.proofs.Marking.{rows_fit}
-use native.Mathlib.Omega.{arith}
-use mathlib.Core.Path.{◌≡◌, refl, sym, ◌∙◌, ap, subst}
 use borrow.Author.Rules.{rules}
 use Rattle.parse_outline.proofs.marks_behind.Goals as goal
 

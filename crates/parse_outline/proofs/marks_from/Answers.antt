@@ -1,8 +1,4 @@
-use borrow.Author.Rules.{rules}
-use Prim.Native.Nat.{◌-◌}
-use Rattle.parse_outline.proofs.Marking.{Walking, walking, walking-less, walking-fits}
-use native.Mathlib.Omega.{arith}
-use mathlib.Core.Path.{◌≡◌, refl, sym, ◌∙◌, ap, subst}
+use Rattle.parse_outline.proofs.Marking.{walking, walking-less, walking-fits}
 use Rattle.parse_outline.proofs.marks_from.Goals as goal
 
 pub loop-y-init : goal.loop-y-init

@@ -1,8 +1,5 @@
-use borrow.Author.Rules.{rules}
 use Prim.Native.Nat.{◌-◌}
-use Rattle.parse_outline.proofs.Marking.{Walking, walking, walking-less, walking-fits}
-use native.Mathlib.Omega.{arith}
-use mathlib.Core.Path.{◌≡◌, refl, sym, ◌∙◌, ap, subst}
+use Rattle.parse_outline.proofs.Marking.{Walking}
 use Rattle.parse_outline.proofs.marks_from.Given as goal
 
 abbrev pub invariant-loop-y : goal.invariant-loop-y

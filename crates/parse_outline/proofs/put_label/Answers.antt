@@ -1,7 +1,4 @@
 use Rattle.parse_outline.proofs.Cases.{label-full}
-use native.Mathlib.Omega.{arith}
-use mathlib.Core.Path.{◌≡◌, refl, sym, ◌∙◌, ap, subst}
-use borrow.Author.Rules.{rules}
 use Rattle.parse_outline.proofs.put_label.Goals as goal
 
 pub returns-else-c-lt-MOST_LABELS : goal.returns-else-c-lt-MOST_LABELS

@@ -1,7 +1,6 @@
 use lib.ListN.{length-set}
 use Rattle.parse_outline.proofs.Cases.{label-put}
 use native.Mathlib.Omega.{arith}
-use mathlib.Core.Path.{◌≡◌, refl, sym, ◌∙◌, ap, subst}
 use borrow.Author.Rules.{rules}
 use Rattle.parse_outline.proofs.put_words.Goals as goal
 

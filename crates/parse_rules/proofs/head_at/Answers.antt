@@ -1,7 +1,4 @@
 use Rattle.parse_rules.proofs.Cases.{heads}
-use native.Mathlib.Omega.{arith}
-use mathlib.Core.Path.{◌≡◌, refl, sym, ◌∙◌, ap, subst}
-use borrow.Author.Rules.{rules}
 use Rattle.parse_rules.proofs.head_at.Goals as goal
 
 pub returns-then-is_head : goal.returns-then-is_head

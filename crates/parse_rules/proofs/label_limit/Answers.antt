@@ -1,7 +1,4 @@
 use Rattle.parse_rules.proofs.Cases.{limits-are}
-use native.Mathlib.Omega.{arith}
-use mathlib.Core.Path.{◌≡◌, refl, sym, ◌∙◌, ap, subst}
-use borrow.Author.Rules.{rules}
 use Rattle.parse_rules.proofs.label_limit.Goals as goal
 
 pub returns-then-c-lt-MOST_LABELS : goal.returns-then-c-lt-MOST_LABELS

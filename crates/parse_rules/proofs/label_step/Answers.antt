@@ -1,7 +1,4 @@
 use Rattle.parse_rules.proofs.Cases.{label-steps}
-use native.Mathlib.Omega.{arith}
-use mathlib.Core.Path.{◌≡◌, refl, sym, ◌∙◌, ap, subst}
-use borrow.Author.Rules.{rules}
 use Rattle.parse_rules.proofs.label_step.Goals as goal
 
 pub returns-then-kind_at-eq-LABEL : goal.returns-then-kind_at-eq-LABEL

@@ -1,8 +1,5 @@
 use borrow.Author.Rules.{rules}
-use Prim.Native.Nat.{◌-◌}
-use Rattle.parse_rules.proofs.Loops.{Labels, labelling, labels-few}
-use native.Mathlib.Omega.{arith}
-use mathlib.Core.Path.{◌≡◌, refl, sym, ◌∙◌, ap, subst}
+use Rattle.parse_rules.proofs.Loops.{labelling, labels-few}
 use Rattle.parse_rules.proofs.labels_from.Goals as goal
 
 pub loop-i-init : goal.loop-i-init

@@ -1,8 +1,5 @@
-use borrow.Author.Rules.{rules}
 use Prim.Native.Nat.{◌-◌}
-use Rattle.parse_rules.proofs.Loops.{Labels, labelling, labels-few}
-use native.Mathlib.Omega.{arith}
-use mathlib.Core.Path.{◌≡◌, refl, sym, ◌∙◌, ap, subst}
+use Rattle.parse_rules.proofs.Loops.{Labels}
 use Rattle.parse_rules.proofs.labels_from.Given as goal
 
 abbrev pub invariant-loop-i : goal.invariant-loop-i

@@ -1,7 +1,4 @@
 use Rattle.parse_rules.specs.Rules.{labels_rule}
-use native.Mathlib.Omega.{arith}
-use mathlib.Core.Path.{◌≡◌, refl, sym, ◌∙◌, ap, subst}
-use borrow.Author.Rules.{rules}
 use Rattle.parse_rules.proofs.labels_rule.Goals as goal
 
 pub returns : goal.returns

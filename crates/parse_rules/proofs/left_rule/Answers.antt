@@ -1,7 +1,4 @@
 use Rattle.parse_rules.proofs.Cases.{lefts}
-use native.Mathlib.Omega.{arith}
-use mathlib.Core.Path.{◌≡◌, refl, sym, ◌∙◌, ap, subst}
-use borrow.Author.Rules.{rules}
 use Rattle.parse_rules.proofs.left_rule.Goals as goal
 
 pub returns-then-k-eq-LEFT_OUT : goal.returns-then-k-eq-LEFT_OUT

@@ -1,7 +1,5 @@
 use Rattle.parse_rules.proofs.Cases.{lists}
 use Rattle.parse_rules.proofs.Loops.{list-fits}
-use native.Mathlib.Omega.{arith}
-use mathlib.Core.Path.{◌≡◌, refl, sym, ◌∙◌, ap, subst}
 use borrow.Author.Rules.{rules}
 use Rattle.parse_rules.proofs.list_rule.Goals as goal
 

@@ -1,7 +1,4 @@
 use Rattle.parse_rules.proofs.Cases.{names}
-use native.Mathlib.Omega.{arith}
-use mathlib.Core.Path.{◌≡◌, refl, sym, ◌∙◌, ap, subst}
-use borrow.Author.Rules.{rules}
 use Rattle.parse_rules.proofs.name_key.Goals as goal
 
 pub returns-then-i-own : goal.returns-then-i-own

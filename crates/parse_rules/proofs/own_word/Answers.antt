@@ -1,7 +1,4 @@
 use Rattle.parse_rules.proofs.Cases.{owns}
-use native.Mathlib.Omega.{arith}
-use mathlib.Core.Path.{◌≡◌, refl, sym, ◌∙◌, ap, subst}
-use borrow.Author.Rules.{rules}
 use Rattle.parse_rules.proofs.own_word.Goals as goal
 
 pub returns-then-k-eq-END_FUNCTION : goal.returns-then-k-eq-END_FUNCTION

@@ -1,7 +1,4 @@
 use Rattle.parse_rules.proofs.Cases.{limits-are}
-use native.Mathlib.Omega.{arith}
-use mathlib.Core.Path.{◌≡◌, refl, sym, ◌∙◌, ap, subst}
-use borrow.Author.Rules.{rules}
 use Rattle.parse_rules.proofs.past_most.Goals as goal
 
 pub returns-then-i-next : goal.returns-then-i-next

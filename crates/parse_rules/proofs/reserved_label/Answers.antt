@@ -1,7 +1,4 @@
 use Rattle.parse_rules.proofs.Cases.{stands}
-use native.Mathlib.Omega.{arith}
-use mathlib.Core.Path.{◌≡◌, refl, sym, ◌∙◌, ap, subst}
-use borrow.Author.Rules.{rules}
 use Rattle.parse_rules.proofs.reserved_label.Goals as goal
 
 pub returns-then-w-lt-SECTION : goal.returns-then-w-lt-SECTION

@@ -1,7 +1,4 @@
 use Rattle.parse_rules.proofs.Cases.{shaping}
-use native.Mathlib.Omega.{arith}
-use mathlib.Core.Path.{◌≡◌, refl, sym, ◌∙◌, ap, subst}
-use borrow.Author.Rules.{rules}
 use Rattle.parse_rules.proofs.shape_rule.Goals as goal
 
 pub returns-then-k-eq-EDGE : goal.returns-then-k-eq-EDGE

@@ -1,7 +1,4 @@
 use Rattle.parse_rules.proofs.Cases.{stands}
-use native.Mathlib.Omega.{arith}
-use mathlib.Core.Path.{◌≡◌, refl, sym, ◌∙◌, ap, subst}
-use borrow.Author.Rules.{rules}
 use Rattle.parse_rules.proofs.substitute_key.Goals as goal
 
 pub returns-then-w-eq-BITS_PER_WORD : goal.returns-then-w-eq-BITS_PER_WORD

@@ -1,7 +1,4 @@
 use Rattle.parse_rules.proofs.Cases.{keys}
-use native.Mathlib.Omega.{arith}
-use mathlib.Core.Path.{◌≡◌, refl, sym, ◌∙◌, ap, subst}
-use borrow.Author.Rules.{rules}
 use Rattle.parse_rules.proofs.token_key.Goals as goal
 
 pub returns-then-k-eq-SYMBOL : goal.returns-then-k-eq-SYMBOL

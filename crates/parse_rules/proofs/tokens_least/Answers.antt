@@ -1,8 +1,4 @@
-use borrow.Author.Rules.{rules}
-use Prim.Native.Nat.{◌-◌}
-use Rattle.parse_rules.proofs.Loops.{Tokening, tokening}
-use native.Mathlib.Omega.{arith}
-use mathlib.Core.Path.{◌≡◌, refl, sym, ◌∙◌, ap, subst}
+use Rattle.parse_rules.proofs.Loops.{tokening}
 use Rattle.parse_rules.proofs.tokens_least.Goals as goal
 
 pub loop-i-init : goal.loop-i-init

@@ -1,8 +1,5 @@
-use borrow.Author.Rules.{rules}
 use Prim.Native.Nat.{◌-◌}
-use Rattle.parse_rules.proofs.Loops.{Tokening, tokening}
-use native.Mathlib.Omega.{arith}
-use mathlib.Core.Path.{◌≡◌, refl, sym, ◌∙◌, ap, subst}
+use Rattle.parse_rules.proofs.Loops.{Tokening}
 use Rattle.parse_rules.proofs.tokens_least.Given as goal
 
 abbrev pub invariant-loop-i : goal.invariant-loop-i

@@ -1,8 +1,5 @@
-use borrow.Author.Rules.{rules}
 use Rattle.base_prelude.proofs.Choice.{tests}
 use Rattle.parse_shapes.specs.Shapes.{is_operator, is_listed, align_fits}
-use native.Mathlib.Omega.{arith}
-use mathlib.Core.Path.{◌≡◌, refl, sym, ◌∙◌, ap, subst}
 use Rattle.parse_shapes.proofs.align_fits.Goals as goal
 
 pub returns-then-v-lt1 : goal.returns-then-v-lt1

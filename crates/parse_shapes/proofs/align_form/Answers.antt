@@ -1,7 +1,4 @@
 use Rattle.parse_shapes.proofs.Shapes.{arms}
-use native.Mathlib.Omega.{arith}
-use mathlib.Core.Path.{◌≡◌, refl, sym, ◌∙◌, ap, subst}
-use borrow.Author.Rules.{rules}
 use Rattle.parse_shapes.proofs.align_form.Goals as goal
 
 pub returns-then-operand_count-eq0 : goal.returns-then-operand_count-eq0

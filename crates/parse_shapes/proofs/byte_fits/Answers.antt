@@ -1,7 +1,4 @@
 use Rattle.parse_shapes.proofs.Shapes.{ranges}
-use native.Mathlib.Omega.{arith}
-use mathlib.Core.Path.{◌≡◌, refl, sym, ◌∙◌, ap, subst}
-use borrow.Author.Rules.{rules}
 use Rattle.parse_shapes.proofs.byte_fits.Goals as goal
 
 pub returns-then-v-lt256 : goal.returns-then-v-lt256

@@ -1,7 +1,4 @@
 use Rattle.parse_shapes.proofs.Shapes.{counts}
-use native.Mathlib.Omega.{arith}
-use mathlib.Core.Path.{◌≡◌, refl, sym, ◌∙◌, ap, subst}
-use borrow.Author.Rules.{rules}
 use Rattle.parse_shapes.proofs.count_fits.Goals as goal
 
 pub returns-then-n-least_operands : goal.returns-then-n-least_operands

@@ -1,7 +1,4 @@
 use Rattle.parse_shapes.proofs.Shapes.{arms}
-use native.Mathlib.Omega.{arith}
-use mathlib.Core.Path.{◌≡◌, refl, sym, ◌∙◌, ap, subst}
-use borrow.Author.Rules.{rules}
 use Rattle.parse_shapes.proofs.else_if_fits.Goals as goal
 
 pub returns-then-operand_count-eq3 : goal.returns-then-operand_count-eq3

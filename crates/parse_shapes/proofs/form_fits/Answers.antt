@@ -1,7 +1,4 @@
 use Rattle.parse_shapes.proofs.Shapes.{forms}
-use native.Mathlib.Omega.{arith}
-use mathlib.Core.Path.{◌≡◌, refl, sym, ◌∙◌, ap, subst}
-use borrow.Author.Rules.{rules}
 use Rattle.parse_shapes.proofs.form_fits.Goals as goal
 
 pub returns-then-k-lt-SECTION_DATA : goal.returns-then-k-lt-SECTION_DATA

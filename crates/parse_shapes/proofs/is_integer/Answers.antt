@@ -1,7 +1,4 @@
 use Rattle.parse_shapes.proofs.Shapes.{kinds-are}
-use native.Mathlib.Omega.{arith}
-use mathlib.Core.Path.{◌≡◌, refl, sym, ◌∙◌, ap, subst}
-use borrow.Author.Rules.{rules}
 use Rattle.parse_shapes.proofs.is_integer.Goals as goal
 
 pub returns-then-k-eq-INTEGER : goal.returns-then-k-eq-INTEGER

@@ -1,7 +1,4 @@
 use Rattle.parse_shapes.proofs.Shapes.{kinds-are}
-use native.Mathlib.Omega.{arith}
-use mathlib.Core.Path.{◌≡◌, refl, sym, ◌∙◌, ap, subst}
-use borrow.Author.Rules.{rules}
 use Rattle.parse_shapes.proofs.is_name.Goals as goal
 
 pub returns-then-kind_at-eq-SYMBOL : goal.returns-then-kind_at-eq-SYMBOL

@@ -1,7 +1,4 @@
 use Rattle.parse_shapes.proofs.Shapes.{laters}
-use native.Mathlib.Omega.{arith}
-use mathlib.Core.Path.{◌≡◌, refl, sym, ◌∙◌, ap, subst}
-use borrow.Author.Rules.{rules}
 use Rattle.parse_shapes.proofs.later_fits.Goals as goal
 
 pub returns-then-k-eq-GOTO : goal.returns-then-k-eq-GOTO

@@ -1,7 +1,4 @@
 use Rattle.parse_shapes.proofs.Shapes.{ranges}
-use native.Mathlib.Omega.{arith}
-use mathlib.Core.Path.{◌≡◌, refl, sym, ◌∙◌, ap, subst}
-use borrow.Author.Rules.{rules}
 use Rattle.parse_shapes.proofs.lowest_byte.Goals as goal
 
 pub returns-in-Bits32 : goal.returns-in-Bits32

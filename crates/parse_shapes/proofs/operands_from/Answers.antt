@@ -1,7 +1,4 @@
 use Rattle.parse_shapes.specs.Shapes.{operands_from}
-use native.Mathlib.Omega.{arith}
-use mathlib.Core.Path.{◌≡◌, refl, sym, ◌∙◌, ap, subst}
-use borrow.Author.Rules.{rules}
 use Rattle.parse_shapes.proofs.operands_from.Goals as goal
 
 pub returns : goal.returns

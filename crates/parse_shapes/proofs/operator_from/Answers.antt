@@ -1,7 +1,4 @@
 use Rattle.parse_shapes.proofs.Shapes.{expressions}
-use native.Mathlib.Omega.{arith}
-use mathlib.Core.Path.{◌≡◌, refl, sym, ◌∙◌, ap, subst}
-use borrow.Author.Rules.{rules}
 use Rattle.parse_shapes.proofs.operator_from.Goals as goal
 
 pub returns-then-tokens_between-least_operands : goal.returns-then-tokens_between-least_operands

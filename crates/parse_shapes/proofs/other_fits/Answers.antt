@@ -1,7 +1,4 @@
 use Rattle.parse_shapes.proofs.Shapes.{others}
-use native.Mathlib.Omega.{arith}
-use mathlib.Core.Path.{◌≡◌, refl, sym, ◌∙◌, ap, subst}
-use borrow.Author.Rules.{rules}
 use Rattle.parse_shapes.proofs.other_fits.Goals as goal
 
 pub returns-then-k-eq-EXPORT : goal.returns-then-k-eq-EXPORT

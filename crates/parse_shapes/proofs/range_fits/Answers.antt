@@ -1,7 +1,4 @@
 use Rattle.parse_shapes.proofs.Shapes.{ranges}
-use native.Mathlib.Omega.{arith}
-use mathlib.Core.Path.{◌≡◌, refl, sym, ◌∙◌, ap, subst}
-use borrow.Author.Rules.{rules}
 use Rattle.parse_shapes.proofs.range_fits.Goals as goal
 
 pub returns-then-k-eq-BYTE : goal.returns-then-k-eq-BYTE

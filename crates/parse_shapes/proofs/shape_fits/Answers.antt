@@ -1,7 +1,4 @@
 use Rattle.parse_shapes.proofs.Shapes.{shapes}
-use native.Mathlib.Omega.{arith}
-use mathlib.Core.Path.{◌≡◌, refl, sym, ◌∙◌, ap, subst}
-use borrow.Author.Rules.{rules}
 use Rattle.parse_shapes.proofs.shape_fits.Goals as goal
 
 pub returns-then-form_fits : goal.returns-then-form_fits

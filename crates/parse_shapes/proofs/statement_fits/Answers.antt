@@ -1,7 +1,4 @@
 use Rattle.parse_shapes.proofs.Shapes.{statements}
-use native.Mathlib.Omega.{arith}
-use mathlib.Core.Path.{◌≡◌, refl, sym, ◌∙◌, ap, subst}
-use borrow.Author.Rules.{rules}
 use Rattle.parse_shapes.proofs.statement_fits.Goals as goal
 
 pub returns-then-k-eq-FUNCTION : goal.returns-then-k-eq-FUNCTION

@@ -1,8 +1,5 @@
-use borrow.Author.Rules.{rules}
 use Rattle.base_prelude.proofs.Choice.{tests}
 use Rattle.parse_units.proofs.Labelled.{data-by}
-use native.Mathlib.Omega.{arith}
-use mathlib.Core.Path.{◌≡◌, refl, sym, ◌∙◌, ap, subst}
 use Rattle.parse_units.proofs.data_word.Goals as goal
 
 pub returns-then-w-lt-ALIGN : goal.returns-then-w-lt-ALIGN

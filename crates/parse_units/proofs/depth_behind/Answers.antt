@@ -1,7 +1,5 @@
 use Rattle.parse_units.proofs.Cases.{block-adds}
 use Rattle.parse_units.proofs.Cases.{deepening}
-use native.Mathlib.Omega.{arith}
-use mathlib.Core.Path.{◌≡◌, refl, sym, ◌∙◌, ap, subst}
 use borrow.Author.Rules.{rules}
 use Rattle.parse_units.proofs.depth_behind.Goals as goal
 

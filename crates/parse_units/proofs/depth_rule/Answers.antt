@@ -1,7 +1,4 @@
 use Rattle.parse_units.proofs.Cases.{limiting}
-use native.Mathlib.Omega.{arith}
-use mathlib.Core.Path.{◌≡◌, refl, sym, ◌∙◌, ap, subst}
-use borrow.Author.Rules.{rules}
 use Rattle.parse_units.proofs.depth_rule.Goals as goal
 
 pub returns-then-depth-lt-BLOCK_DEPTH : goal.returns-then-depth-lt-BLOCK_DEPTH

@@ -1,7 +1,4 @@
 use Rattle.parse_units.proofs.Cases.{grounds}
-use native.Mathlib.Omega.{arith}
-use mathlib.Core.Path.{◌≡◌, refl, sym, ◌∙◌, ap, subst}
-use borrow.Author.Rules.{rules}
 use Rattle.parse_units.proofs.ground_in.Goals as goal
 
 pub returns-then-s-eq0 : goal.returns-then-s-eq0

@@ -1,7 +1,4 @@
 use Rattle.parse_units.proofs.Cases.{growing}
-use native.Mathlib.Omega.{arith}
-use mathlib.Core.Path.{◌≡◌, refl, sym, ◌∙◌, ap, subst}
-use borrow.Author.Rules.{rules}
 use Rattle.parse_units.proofs.grow.Goals as goal
 
 pub returns-then-m-eq0 : goal.returns-then-m-eq0

@@ -1,7 +1,5 @@
 use Rattle.parse_units.proofs.Cases.{put-few}
 use Rattle.parse_units.specs.Parse.{grow_two}
-use native.Mathlib.Omega.{arith}
-use mathlib.Core.Path.{◌≡◌, refl, sym, ◌∙◌, ap, subst}
 use borrow.Author.Rules.{rules}
 use Rattle.parse_units.proofs.grow_two.Goals as goal
 

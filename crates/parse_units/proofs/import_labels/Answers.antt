@@ -1,5 +1,4 @@
 use Rattle.parse_units.proofs.Cases.{importing}
-use borrow.Author.Rules.{rules}
 use Rattle.parse_units.proofs.import_labels.Goals as goal
 
 pub returns-then-host_at-eq0 : goal.returns-then-host_at-eq0

@@ -1,7 +1,4 @@
 use Rattle.parse_units.proofs.Cases.{labelling}
-use native.Mathlib.Omega.{arith}
-use mathlib.Core.Path.{◌≡◌, refl, sym, ◌∙◌, ap, subst}
-use borrow.Author.Rules.{rules}
 use Rattle.parse_units.proofs.label_rule.Goals as goal
 
 pub returns-then-may_label : goal.returns-then-may_label

@@ -1,5 +1,4 @@
 use Rattle.parse_units.proofs.Cases.{line-least}
-use borrow.Author.Rules.{rules}
 use Rattle.parse_units.proofs.line_faults.Goals as goal
 
 pub returns : goal.returns

@@ -1,5 +1,4 @@
 use Rattle.parse_units.proofs.Cases.{lining}
-use borrow.Author.Rules.{rules}
 use Rattle.parse_units.proofs.line_on.Goals as goal
 
 pub returns-then-g-eq-FUNCTIONS_SECTION : goal.returns-then-g-eq-FUNCTIONS_SECTION

@@ -2,8 +2,6 @@ use borrow.Author.Rules.{rules}
 use Rattle.parse_units.proofs.Cases.{let-adds}
 use Rattle.base_prelude.proofs.Choice.{tests}
 use Rattle.parse_units.specs.Parse.{locals_behind}
-use native.Mathlib.Omega.{arith}
-use mathlib.Core.Path.{◌≡◌, refl, sym, ◌∙◌, ap, subst}
 use Rattle.parse_units.proofs.locals_behind.Goals as goal
 
 pub returns-then-k-eq-FUNCTION : goal.returns-then-k-eq-FUNCTION

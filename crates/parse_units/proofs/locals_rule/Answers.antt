@@ -1,7 +1,4 @@
 use Rattle.parse_units.proofs.Cases.{limiting}
-use native.Mathlib.Omega.{arith}
-use mathlib.Core.Path.{◌≡◌, refl, sym, ◌∙◌, ap, subst}
-use borrow.Author.Rules.{rules}
 use Rattle.parse_units.proofs.locals_rule.Goals as goal
 
 pub returns-then-locals-lt-LOCALS : goal.returns-then-locals-lt-LOCALS

@@ -1,7 +1,4 @@
 use Rattle.parse_units.proofs.Labelled.{maying}
-use native.Mathlib.Omega.{arith}
-use mathlib.Core.Path.{◌≡◌, refl, sym, ◌∙◌, ap, subst}
-use borrow.Author.Rules.{rules}
 use Rattle.parse_units.proofs.may_label.Goals as goal
 
 pub returns-then-g-eq-BEFORE_SECTIONS : goal.returns-then-g-eq-BEFORE_SECTIONS

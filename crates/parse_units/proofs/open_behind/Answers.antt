@@ -1,7 +1,4 @@
 use Rattle.parse_units.proofs.Cases.{behinds}
-use native.Mathlib.Omega.{arith}
-use mathlib.Core.Path.{◌≡◌, refl, sym, ◌∙◌, ap, subst}
-use borrow.Author.Rules.{rules}
 use Rattle.parse_units.proofs.open_behind.Goals as goal
 
 pub returns-then-is_opener : goal.returns-then-is_opener

@@ -1,7 +1,4 @@
-use borrow.Author.Rules.{rules}
 use Rattle.parse_units.proofs.Cases.{picks}
-use native.Mathlib.Omega.{arith}
-use mathlib.Core.Path.{◌≡◌, refl, sym, ◌∙◌, ap, subst}
 use Rattle.parse_units.proofs.own_or.Goals as goal
 
 pub returns-then-k-eq-FUNCTION : goal.returns-then-k-eq-FUNCTION

@@ -1,8 +1,5 @@
 use borrow.Author.Rules.{rules}
-use Prim.Native.Nat.{◌-◌}
-use Rattle.parse_units.proofs.UnitSteps.{Parsing, parsing, parsing-less, parsing-fits}
-use native.Mathlib.Omega.{arith}
-use mathlib.Core.Path.{◌≡◌, refl, sym, ◌∙◌, ap, subst}
+use Rattle.parse_units.proofs.UnitSteps.{parsing, parsing-less, parsing-fits}
 use Rattle.parse_units.proofs.parse_from.Goals as goal
 
 pub loop-x-init : goal.loop-x-init

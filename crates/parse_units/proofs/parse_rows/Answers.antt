@@ -1,6 +1,4 @@
 use Rattle.parse_units.proofs.UnitSteps.{start_fits, start-labels, parse-is}
-use native.Mathlib.Omega.{arith}
-use mathlib.Core.Path.{◌≡◌, refl, sym, ◌∙◌, ap, subst}
 use borrow.Author.Rules.{rules}
 use Rattle.parse_units.proofs.parse_rows.Goals as goal
 

@@ -1,7 +1,4 @@
 use Rattle.parse_units.proofs.Cases.{placing}
-use native.Mathlib.Omega.{arith}
-use mathlib.Core.Path.{◌≡◌, refl, sym, ◌∙◌, ap, subst}
-use borrow.Author.Rules.{rules}
 use Rattle.parse_units.proofs.place_rule.Goals as goal
 
 pub returns-then-g-x : goal.returns-then-g-x

@@ -1,7 +1,4 @@
 use Rattle.parse_units.specs.Outline.{row_in}
-use native.Mathlib.Omega.{arith}
-use mathlib.Core.Path.{◌≡◌, refl, sym, ◌∙◌, ap, subst}
-use borrow.Author.Rules.{rules}
 use Rattle.parse_units.proofs.row_in.Goals as goal
 
 pub returns : goal.returns

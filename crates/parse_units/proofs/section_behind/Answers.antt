@@ -1,8 +1,5 @@
-use borrow.Author.Rules.{rules}
 use Rattle.base_prelude.proofs.Choice.{tests}
 use Rattle.parse_units.specs.Parse.{section_behind}
-use native.Mathlib.Omega.{arith}
-use mathlib.Core.Path.{◌≡◌, refl, sym, ◌∙◌, ap, subst}
 use Rattle.parse_units.proofs.section_behind.Goals as goal
 
 pub returns-then-k-eq-SECTION_DATA : goal.returns-then-k-eq-SECTION_DATA

@@ -1,8 +1,5 @@
-use borrow.Author.Rules.{rules}
 use Rattle.base_prelude.proofs.Choice.{tests}
 use Rattle.parse_units.proofs.Labelled.{statement-by}
-use native.Mathlib.Omega.{arith}
-use mathlib.Core.Path.{◌≡◌, refl, sym, ◌∙◌, ap, subst}
 use Rattle.parse_units.proofs.statement_word.Goals as goal
 
 pub returns-then-w-lt-FUNCTION : goal.returns-then-w-lt-FUNCTION

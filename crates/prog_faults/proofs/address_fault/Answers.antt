@@ -1,7 +1,4 @@
 use Rattle.prog_faults.proofs.Cases.{address-ways}
-use native.Mathlib.Omega.{arith}
-use mathlib.Core.Path.{◌≡◌, refl, sym, ◌∙◌, ap, subst}
-use borrow.Author.Rules.{rules}
 use Rattle.prog_faults.proofs.address_fault.Goals as goal
 
 pub returns-then-is_address : goal.returns-then-is_address

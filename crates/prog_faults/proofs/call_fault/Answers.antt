@@ -1,7 +1,4 @@
 use Rattle.prog_faults.proofs.Forms.{twos}
-use native.Mathlib.Omega.{arith}
-use mathlib.Core.Path.{◌≡◌, refl, sym, ◌∙◌, ap, subst}
-use borrow.Author.Rules.{rules}
 use Rattle.prog_faults.proofs.call_fault.Goals as goal
 
 pub returns-then-callee_fault : goal.returns-then-callee_fault

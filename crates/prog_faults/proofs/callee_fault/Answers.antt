@@ -1,5 +1,4 @@
 use Rattle.prog_faults.proofs.Cases.{callee-ways}
-use borrow.Author.Rules.{rules}
 use Rattle.prog_faults.proofs.callee_fault.Goals as goal
 
 pub returns-then-function_fault : goal.returns-then-function_fault

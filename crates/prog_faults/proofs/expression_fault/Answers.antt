@@ -1,7 +1,4 @@
 use Rattle.prog_faults.proofs.Forms.{threes}
-use native.Mathlib.Omega.{arith}
-use mathlib.Core.Path.{◌≡◌, refl, sym, ◌∙◌, ap, subst}
-use borrow.Author.Rules.{rules}
 use Rattle.prog_faults.proofs.expression_fault.Goals as goal
 
 pub returns-then-kind_fault : goal.returns-then-kind_fault

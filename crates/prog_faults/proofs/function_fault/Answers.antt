@@ -1,5 +1,4 @@
 use Rattle.prog_faults.proofs.Cases.{function-ways}
-use borrow.Author.Rules.{rules}
 use Rattle.prog_faults.proofs.function_fault.Goals as goal
 
 pub returns-then-m-le-PARAMETERS : goal.returns-then-m-le-PARAMETERS

@@ -1,7 +1,4 @@
 use Rattle.prog_faults.proofs.Cases.{has}
-use native.Mathlib.Omega.{arith}
-use mathlib.Core.Path.{◌≡◌, refl, sym, ◌∙◌, ap, subst}
-use borrow.Author.Rules.{rules}
 use Rattle.prog_faults.proofs.has_target.Goals as goal
 
 pub returns-then-is_test : goal.returns-then-is_test

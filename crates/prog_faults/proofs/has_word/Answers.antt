@@ -1,8 +1,5 @@
-use borrow.Author.Rules.{rules}
 use Rattle.base_prelude.proofs.Choice.{tests}
 use Rattle.prog_tables.specs.Faults.{has_word}
-use native.Mathlib.Omega.{arith}
-use mathlib.Core.Path.{◌≡◌, refl, sym, ◌∙◌, ap, subst}
 use Rattle.prog_faults.proofs.has_word.Goals as goal
 
 pub returns-then-k-lt-BLOCK : goal.returns-then-k-lt-BLOCK

@@ -1,5 +1,4 @@
 use Rattle.prog_faults.proofs.Cases.{import-ways}
-use borrow.Author.Rules.{rules}
 use Rattle.prog_faults.proofs.import_fault.Goals as goal
 
 pub returns-then-m-le-PARAMETERS : goal.returns-then-m-le-PARAMETERS

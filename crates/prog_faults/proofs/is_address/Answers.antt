@@ -1,7 +1,4 @@
 use Rattle.prog_tables.specs.Faults.{address_listed}
-use native.Mathlib.Omega.{arith}
-use mathlib.Core.Path.{◌≡◌, refl, sym, ◌∙◌, ap, subst}
-use borrow.Author.Rules.{rules}
 use Rattle.prog_faults.proofs.is_address.Goals as goal
 
 pub returns-in-Constant : goal.returns-in-Constant

@@ -1,7 +1,6 @@
 use Rattle.base_prelude.proofs.Choice.{tests}
 use Rattle.prog_tables.specs.Faults.{expression_listed}
 use Rattle.prog_faults.proofs.Cases.{has}
-use borrow.Author.Rules.{rules}
 use Rattle.prog_faults.proofs.is_expression.Goals as goal
 
 pub returns-then-e-eq-NONE : goal.returns-then-e-eq-NONE

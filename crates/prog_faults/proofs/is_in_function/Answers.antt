@@ -1,7 +1,4 @@
 use Rattle.prog_faults.proofs.Cases.{sizes}
-use native.Mathlib.Omega.{arith}
-use mathlib.Core.Path.{◌≡◌, refl, sym, ◌∙◌, ap, subst}
-use borrow.Author.Rules.{rules}
 use Rattle.prog_faults.proofs.is_in_function.Goals as goal
 
 pub returns-then-g-c : goal.returns-then-g-c

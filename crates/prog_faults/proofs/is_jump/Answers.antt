@@ -1,7 +1,4 @@
 use Rattle.prog_faults.proofs.Cases.{jump-ways}
-use native.Mathlib.Omega.{arith}
-use mathlib.Core.Path.{◌≡◌, refl, sym, ◌∙◌, ap, subst}
-use borrow.Author.Rules.{rules}
 use Rattle.prog_faults.proofs.is_jump.Goals as goal
 
 pub returns-then-has_target : goal.returns-then-has_target

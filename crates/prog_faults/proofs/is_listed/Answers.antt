@@ -1,9 +1,6 @@
-use borrow.Author.Rules.{rules}
 use Rattle.base_prelude.proofs.Choice.{tests}
 use Rattle.prog_tables.specs.Statement.{has_expression, is_operator}
 use Rattle.prog_tables.specs.Nesting.{is_listed}
-use native.Mathlib.Omega.{arith}
-use mathlib.Core.Path.{◌≡◌, refl, sym, ◌∙◌, ap, subst}
 use Rattle.prog_faults.proofs.is_listed.Goals as goal
 
 pub returns-then-k-eq-EDGE : goal.returns-then-k-eq-EDGE

@@ -1,5 +1,4 @@
 use Rattle.prog_faults.proofs.Cases.{expression-ways}
-use borrow.Author.Rules.{rules}
 use Rattle.prog_faults.proofs.is_unlisted.Goals as goal
 
 pub returns-then-is_call_expression : goal.returns-then-is_call_expression

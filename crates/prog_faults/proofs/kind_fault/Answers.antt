@@ -1,5 +1,4 @@
 use Rattle.prog_faults.proofs.Cases.{kind-ways}
-use borrow.Author.Rules.{rules}
 use Rattle.prog_faults.proofs.kind_fault.Goals as goal
 
 pub returns-then-is_listed : goal.returns-then-is_listed

@@ -1,8 +1,4 @@
-use borrow.Author.Rules.{rules}
-use Rattle.prog_faults.proofs.Cases.{Passing, passing}
-use Prim.Native.Nat.{◌-◌}
-use native.Mathlib.Omega.{arith}
-use mathlib.Core.Path.{◌≡◌, refl, sym, ◌∙◌, ap, subst}
+use Rattle.prog_faults.proofs.Cases.{passing}
 use Rattle.prog_faults.proofs.operands_fault.Goals as goal
 
 pub loop-i-init : goal.loop-i-init

@@ -1,8 +1,5 @@
-use borrow.Author.Rules.{rules}
-use Rattle.prog_faults.proofs.Cases.{Passing, passing}
+use Rattle.prog_faults.proofs.Cases.{Passing}
 use Prim.Native.Nat.{◌-◌}
-use native.Mathlib.Omega.{arith}
-use mathlib.Core.Path.{◌≡◌, refl, sym, ◌∙◌, ap, subst}
 use Rattle.prog_faults.proofs.operands_fault.Given as goal
 
 abbrev pub invariant-loop-i : goal.invariant-loop-i

@@ -1,7 +1,4 @@
 use Rattle.prog_faults.proofs.Cases.{word-ways}
-use native.Mathlib.Omega.{arith}
-use mathlib.Core.Path.{◌≡◌, refl, sym, ◌∙◌, ap, subst}
-use borrow.Author.Rules.{rules}
 use Rattle.prog_faults.proofs.own_word.Goals as goal
 
 pub returns-then-k-eq-BLOCK : goal.returns-then-k-eq-BLOCK

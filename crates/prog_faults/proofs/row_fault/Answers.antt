@@ -1,7 +1,4 @@
 use Rattle.prog_faults.proofs.Forms.{row-ways}
-use native.Mathlib.Omega.{arith}
-use mathlib.Core.Path.{◌≡◌, refl, sym, ◌∙◌, ap, subst}
-use borrow.Author.Rules.{rules}
 use Rattle.prog_faults.proofs.row_fault.Goals as goal
 
 pub returns-then-is_test : goal.returns-then-is_test

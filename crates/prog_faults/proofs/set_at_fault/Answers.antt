@@ -1,7 +1,4 @@
 use Rattle.prog_faults.proofs.Forms.{fours}
-use native.Mathlib.Omega.{arith}
-use mathlib.Core.Path.{◌≡◌, refl, sym, ◌∙◌, ap, subst}
-use borrow.Author.Rules.{rules}
 use Rattle.prog_faults.proofs.set_at_fault.Goals as goal
 
 pub returns-then-kind_fault : goal.returns-then-kind_fault

@@ -1,4 +1,3 @@
-use borrow.Author.Rules.{rules}
 use Rattle.prog_faults.proofs.slot_fault.Goals as goal
 
 pub returns : goal.returns

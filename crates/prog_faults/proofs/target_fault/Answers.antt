@@ -1,7 +1,4 @@
 use Rattle.prog_faults.proofs.Cases.{target-ways}
-use native.Mathlib.Omega.{arith}
-use mathlib.Core.Path.{◌≡◌, refl, sym, ◌∙◌, ap, subst}
-use borrow.Author.Rules.{rules}
 use Rattle.prog_faults.proofs.target_fault.Goals as goal
 
 pub returns-then-g-h : goal.returns-then-g-h

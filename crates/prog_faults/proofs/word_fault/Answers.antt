@@ -1,7 +1,4 @@
 use Rattle.prog_faults.proofs.Cases.{word-ways}
-use native.Mathlib.Omega.{arith}
-use mathlib.Core.Path.{◌≡◌, refl, sym, ◌∙◌, ap, subst}
-use borrow.Author.Rules.{rules}
 use Rattle.prog_faults.proofs.word_fault.Goals as goal
 
 pub returns-then-has_word : goal.returns-then-has_word

@@ -1,8 +1,5 @@
 use borrow.Author.Rules.{rules}
 use Rattle.prog_frames.proofs.Arms.{firsts}
-use native.Mathlib.Omega.{arith}
-use mathlib.Core.Path.{◌≡◌, refl, sym, ◌∙◌, ap, subst}
-use Prim.Native.Nat.{ℕ, ◌<◌}
 use Rattle.prog_frames.proofs.+first_let.Goals as goal
 
 pub returns-then-fuel-eq0 : goal.returns-then-fuel-eq0

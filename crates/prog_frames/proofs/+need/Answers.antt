@@ -1,10 +1,5 @@
 use borrow.Author.Rules.{rules}
-use Rattle.prog_frames.proofs.Cases.{Needing, needing}
-use Rattle.prog_tables.specs.Statement.{row_at}
-use Prim.Native.Nat.{◌-◌}
-use native.Mathlib.Omega.{arith}
-use mathlib.Core.Path.{◌≡◌, refl, sym, ◌∙◌, ap, subst}
-use Prim.Native.Nat.{ℕ, ◌<◌}
+use Rattle.prog_frames.proofs.Cases.{needing}
 use Rattle.prog_frames.proofs.+need.Goals as goal
 
 pub returns-then-depth-eq0 : goal.returns-then-depth-eq0

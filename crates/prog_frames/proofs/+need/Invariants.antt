@@ -1,10 +1,6 @@
-use borrow.Author.Rules.{rules}
-use Rattle.prog_frames.proofs.Cases.{Needing, needing}
+use Rattle.prog_frames.proofs.Cases.{Needing}
 use Rattle.prog_tables.specs.Statement.{row_at}
 use Prim.Native.Nat.{◌-◌}
-use native.Mathlib.Omega.{arith}
-use mathlib.Core.Path.{◌≡◌, refl, sym, ◌∙◌, ap, subst}
-use Prim.Native.Nat.{ℕ, ◌<◌}
 use Rattle.prog_frames.proofs.+need.Given as goal
 
 abbrev pub decreases-need : goal.decreases-need

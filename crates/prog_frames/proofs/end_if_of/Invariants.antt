@@ -1,10 +1,7 @@
-use borrow.Author.Rules.{rules}
-use Rattle.prog_frames.proofs.Arms.{Finding, finding}
+use Rattle.prog_frames.proofs.Arms.{Finding}
 use Rattle.prog_tables.specs.Statement.{row_at}
 use Rattle.prog_tables.specs.Nesting.{is_end_if}
 use Prim.Native.Nat.{◌-◌, ◌+◌}
-use native.Mathlib.Omega.{arith}
-use mathlib.Core.Path.{◌≡◌, refl, sym, ◌∙◌, ap, subst}
 use Rattle.prog_frames.proofs.end_if_of.Given as goal
 
 abbrev pub invariant-loop-i : goal.invariant-loop-i

@@ -1,7 +1,4 @@
 use Rattle.prog_frames.proofs.Arms.{armed}
-use native.Mathlib.Omega.{arith}
-use mathlib.Core.Path.{◌≡◌, refl, sym, ◌∙◌, ap, subst}
-use borrow.Author.Rules.{rules}
 use Rattle.prog_frames.proofs.is_end_if.Goals as goal
 
 pub returns-then-x-u : goal.returns-then-x-u

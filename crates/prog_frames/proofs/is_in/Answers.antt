@@ -1,7 +1,4 @@
 use Rattle.prog_frames.proofs.Cases.{inside}
-use native.Mathlib.Omega.{arith}
-use mathlib.Core.Path.{◌≡◌, refl, sym, ◌∙◌, ap, subst}
-use borrow.Author.Rules.{rules}
 use Rattle.prog_frames.proofs.is_in.Goals as goal
 
 pub returns-then-x-k : goal.returns-then-x-k

@@ -1,7 +1,4 @@
 use Rattle.prog_frames.proofs.Arms.{seeing}
-use native.Mathlib.Omega.{arith}
-use mathlib.Core.Path.{◌≡◌, refl, sym, ◌∙◌, ap, subst}
-use borrow.Author.Rules.{rules}
 use Rattle.prog_frames.proofs.is_seen.Goals as goal
 
 pub returns-then-k-eq-LET : goal.returns-then-k-eq-LET

@@ -1,7 +1,4 @@
 use Rattle.prog_tables.specs.Frames.{let_word}
-use native.Mathlib.Omega.{arith}
-use mathlib.Core.Path.{◌≡◌, refl, sym, ◌∙◌, ap, subst}
-use borrow.Author.Rules.{rules}
 use Rattle.prog_frames.proofs.let_word.Goals as goal
 
 pub returns : goal.returns

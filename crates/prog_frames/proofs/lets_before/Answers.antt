@@ -1,9 +1,4 @@
-use borrow.Author.Rules.{rules}
-use Rattle.prog_frames.proofs.Cases.{Counting, counting-start, counting}
-use Rattle.prog_tables.specs.Statement.{row_at}
-use Prim.Native.Nat.{◌-◌}
-use native.Mathlib.Omega.{arith}
-use mathlib.Core.Path.{◌≡◌, refl, sym, ◌∙◌, ap, subst}
+use Rattle.prog_frames.proofs.Cases.{counting-start, counting}
 use Rattle.prog_frames.proofs.lets_before.Goals as goal
 
 pub loop-i-init : goal.loop-i-init

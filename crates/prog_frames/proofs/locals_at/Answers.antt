@@ -1,9 +1,4 @@
-use borrow.Author.Rules.{rules}
-use Rattle.prog_frames.proofs.Arms.{Seeing, counted}
-use Rattle.prog_tables.specs.Statement.{row_at}
-use Prim.Native.Nat.{◌-◌}
-use native.Mathlib.Omega.{arith}
-use mathlib.Core.Path.{◌≡◌, refl, sym, ◌∙◌, ap, subst}
+use Rattle.prog_frames.proofs.Arms.{counted}
 use Rattle.prog_frames.proofs.locals_at.Goals as goal
 
 pub loop-i-init : goal.loop-i-init

@@ -1,9 +1,6 @@
-use borrow.Author.Rules.{rules}
-use Rattle.prog_frames.proofs.Arms.{Seeing, counted}
+use Rattle.prog_frames.proofs.Arms.{Seeing}
 use Rattle.prog_tables.specs.Statement.{row_at}
 use Prim.Native.Nat.{◌-◌}
-use native.Mathlib.Omega.{arith}
-use mathlib.Core.Path.{◌≡◌, refl, sym, ◌∙◌, ap, subst}
 use Rattle.prog_frames.proofs.locals_at.Given as goal
 
 abbrev pub invariant-loop-i : goal.invariant-loop-i

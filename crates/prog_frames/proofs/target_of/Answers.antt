@@ -1,7 +1,4 @@
 use Rattle.prog_frames.proofs.Arms.{aiming}
-use native.Mathlib.Omega.{arith}
-use mathlib.Core.Path.{◌≡◌, refl, sym, ◌∙◌, ap, subst}
-use borrow.Author.Rules.{rules}
 use Rattle.prog_frames.proofs.target_of.Goals as goal
 
 pub returns-then-j-eq-END_IF : goal.returns-then-j-eq-END_IF

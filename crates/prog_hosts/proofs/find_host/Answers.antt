@@ -1,8 +1,5 @@
 use borrow.Author.Rules.{rules}
-use Prim.Native.Nat.{◌-◌}
-use Rattle.prog_hosts.proofs.Cases.{Finding, finding, finding-low}
-use native.Mathlib.Omega.{arith}
-use mathlib.Core.Path.{◌≡◌, refl, sym, ◌∙◌, ap, subst}
+use Rattle.prog_hosts.proofs.Cases.{finding, finding-low}
 use Rattle.prog_hosts.proofs.find_host.Goals as goal
 
 pub loop-i-init : goal.loop-i-init

@@ -1,9 +1,4 @@
-use Rattle.prog_names.proofs.Loops.{Passing, passing}
-use Rattle.prog_tables.specs.Label.{label_at}
-use Rattle.prog_tables.specs.Hosts.{label_hosted}
-use Rattle.prog_hosts.specs.Lent.{host_list}
-use Prim.Native.Nat.{◌-◌}
-use borrow.Author.Rules.{rules}
+use Rattle.prog_names.proofs.Loops.{passing}
 use Rattle.prog_hosts.proofs.is_hosted.Goals as goal
 
 pub loop-i-init : goal.loop-i-init

@@ -1,9 +1,8 @@
-use Rattle.prog_names.proofs.Loops.{Passing, passing}
+use Rattle.prog_names.proofs.Loops.{Passing}
 use Rattle.prog_tables.specs.Label.{label_at}
 use Rattle.prog_tables.specs.Hosts.{label_hosted}
 use Rattle.prog_hosts.specs.Lent.{host_list}
 use Prim.Native.Nat.{◌-◌}
-use borrow.Author.Rules.{rules}
 use Rattle.prog_hosts.proofs.is_hosted.Given as goal
 
 abbrev pub invariant-loop-i : goal.invariant-loop-i

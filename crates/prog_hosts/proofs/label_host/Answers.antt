@@ -1,5 +1,4 @@
 use Rattle.prog_hosts.proofs.Labels.{host-of}
-use borrow.Author.Rules.{rules}
 use Rattle.prog_hosts.proofs.label_host.Goals as goal
 
 pub returns : goal.returns

@@ -1,5 +1,4 @@
 use Rattle.prog_labels.proofs.Cases.{data-ways}
-use borrow.Author.Rules.{rules}
 use Rattle.prog_labels.proofs.is_data.Goals as goal
 
 pub returns-then-k-eq-DATA : goal.returns-then-k-eq-DATA

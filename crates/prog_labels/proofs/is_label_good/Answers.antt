@@ -1,5 +1,4 @@
 use Rattle.prog_labels.proofs.Cases.{label-ways}
-use borrow.Author.Rules.{rules}
 use Rattle.prog_labels.proofs.is_label_good.Goals as goal
 
 pub returns-then-is_name_good : goal.returns-then-is_name_good

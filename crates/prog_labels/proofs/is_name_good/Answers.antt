@@ -1,5 +1,4 @@
 use Rattle.prog_labels.proofs.Cases.{good-ways}
-use borrow.Author.Rules.{rules}
 use Rattle.prog_labels.proofs.is_name_good.Goals as goal
 
 pub returns-then-size-lt1 : goal.returns-then-size-lt1

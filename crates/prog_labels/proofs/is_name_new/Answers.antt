@@ -1,5 +1,4 @@
 use Rattle.prog_labels.proofs.Cases.{new-ways}
-use borrow.Author.Rules.{rules}
 use Rattle.prog_labels.proofs.is_name_new.Goals as goal
 
 pub returns-then-is_taken : goal.returns-then-is_taken

@@ -1,5 +1,4 @@
 use Rattle.prog_labels.proofs.Cases.{row-ways}
-use borrow.Author.Rules.{rules}
 use Rattle.prog_labels.proofs.is_place.Goals as goal
 
 pub returns-then-x-ne-PLACE : goal.returns-then-x-ne-PLACE

@@ -1,8 +1,4 @@
-use Rattle.prog_names.proofs.Loops.{Seeking, seeking}
-use Rattle.prog_tables.specs.Label.{label_at}
-use Rattle.base_prelude.specs.Lists.{same_list}
-use Prim.Native.Nat.{◌-◌}
-use borrow.Author.Rules.{rules}
+use Rattle.prog_names.proofs.Loops.{seeking}
 use Rattle.prog_labels.proofs.is_taken.Goals as goal
 
 pub loop-i-init : goal.loop-i-init

@@ -1,8 +1,7 @@
-use Rattle.prog_names.proofs.Loops.{Seeking, seeking}
+use Rattle.prog_names.proofs.Loops.{Seeking}
 use Rattle.prog_tables.specs.Label.{label_at}
 use Rattle.base_prelude.specs.Lists.{same_list}
 use Prim.Native.Nat.{◌-◌}
-use borrow.Author.Rules.{rules}
 use Rattle.prog_labels.proofs.is_taken.Given as goal
 
 abbrev pub invariant-loop-i : goal.invariant-loop-i

@@ -1,8 +1,4 @@
-use Rattle.prog_names.proofs.Loops.{Passing, passing}
-use Rattle.prog_tables.specs.WellFormed.{label_good}
-use Rattle.prog_labels.specs.Labels.{tabled}
-use Prim.Native.Nat.{◌-◌}
-use borrow.Author.Rules.{rules}
+use Rattle.prog_names.proofs.Loops.{passing}
 use Rattle.prog_labels.proofs.labels_good.Goals as goal
 
 pub loop-i-init : goal.loop-i-init

@@ -1,8 +1,7 @@
-use Rattle.prog_names.proofs.Loops.{Passing, passing}
+use Rattle.prog_names.proofs.Loops.{Passing}
 use Rattle.prog_tables.specs.WellFormed.{label_good}
 use Rattle.prog_labels.specs.Labels.{tabled}
 use Prim.Native.Nat.{◌-◌}
-use borrow.Author.Rules.{rules}
 use Rattle.prog_labels.proofs.labels_good.Given as goal
 
 abbrev pub invariant-loop-i : goal.invariant-loop-i

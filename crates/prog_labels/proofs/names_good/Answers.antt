@@ -1,5 +1,4 @@
 use Rattle.prog_labels.proofs.Cases.{name-ways}
-use borrow.Author.Rules.{rules}
 use Rattle.prog_labels.proofs.names_good.Goals as goal
 
 pub returns-then-is_data : goal.returns-then-is_data

@@ -1,5 +1,4 @@
 use Rattle.prog_labels.proofs.Cases.{row-ways}
-use borrow.Author.Rules.{rules}
 use Rattle.prog_labels.proofs.names_row.Goals as goal
 
 pub returns-then-is_function_label : goal.returns-then-is_function_label

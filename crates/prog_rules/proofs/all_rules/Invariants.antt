@@ -1,9 +1,8 @@
-use Rattle.prog_names.proofs.Loops.{Passing, passing}
+use Rattle.prog_names.proofs.Loops.{Passing}
 use Rattle.prog_tables.specs.Program.{lent_program}
 use Rattle.prog_tables.specs.Tests.{all}
 use Rattle.prog_rules.specs.Rules.{rule_tests}
 use Prim.Native.Nat.{◌-◌}
-use borrow.Author.Rules.{rules}
 use Rattle.prog_rules.proofs.all_rules.Given as goal
 
 abbrev pub invariant-loop-i : goal.invariant-loop-i

@@ -1,8 +1,7 @@
-use Rattle.prog_names.proofs.Loops.{Passing, passing}
+use Rattle.prog_names.proofs.Loops.{Passing}
 use Rattle.prog_tables.specs.Statement.{row_at}
 use Rattle.prog_tables.specs.WellFormed.{shallow}
 use Prim.Native.Nat.{◌-◌}
-use borrow.Author.Rules.{rules}
 use Rattle.prog_rules.proofs.all_shallow.Given as goal
 
 abbrev pub invariant-loop-i : goal.invariant-loop-i

@@ -1,8 +1,4 @@
-use Rattle.prog_names.proofs.Loops.{Passing, passing}
-use Rattle.prog_tables.specs.Statement.{row_at}
-use Rattle.prog_tables.specs.Nesting.{stands}
-use Prim.Native.Nat.{◌-◌}
-use borrow.Author.Rules.{rules}
+use Rattle.prog_names.proofs.Loops.{passing}
 use Rattle.prog_rules.proofs.all_stand.Goals as goal
 
 pub loop-i-init : goal.loop-i-init

@@ -1,5 +1,4 @@
 use Rattle.prog_rules.proofs.Goals.{call-rules}
-use borrow.Author.Rules.{rules}
 use Rattle.prog_rules.proofs.call_rules.Goals as goal
 
 pub returns-then-is_shaped : goal.returns-then-is_shaped

@@ -1,5 +1,4 @@
 use Rattle.prog_rules.proofs.Goals.{call-ways}
-use borrow.Author.Rules.{rules}
 use Rattle.prog_rules.proofs.calls.Goals as goal
 
 pub returns-then-function_calls : goal.returns-then-function_calls

@@ -1,5 +1,4 @@
 use Rattle.prog_rules.proofs.Nesting.{standing}
-use borrow.Author.Rules.{rules}
 use Rattle.prog_rules.proofs.fields_stand.Goals as goal
 
 pub returns-then-func_at-func_in : goal.returns-then-func_at-func_in

@@ -1,5 +1,4 @@
 use Rattle.prog_rules.proofs.Nesting.{opening}
-use borrow.Author.Rules.{rules}
 use Rattle.prog_rules.proofs.follows_jump.Goals as goal
 
 pub returns-then-n-eq0 : goal.returns-then-n-eq0

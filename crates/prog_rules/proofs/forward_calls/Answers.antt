@@ -1,5 +1,4 @@
 use Rattle.prog_rules.proofs.Goals.{forward}
-use borrow.Author.Rules.{rules}
 use Rattle.prog_rules.proofs.forward_calls.Goals as goal
 
 pub returns-then-n-g : goal.returns-then-n-g

@@ -1,5 +1,4 @@
 use Rattle.prog_rules.proofs.Goals.{calling}
-use borrow.Author.Rules.{rules}
 use Rattle.prog_rules.proofs.function_calls.Goals as goal
 
 pub returns-then-c-g : goal.returns-then-c-g

@@ -1,5 +1,4 @@
 use Rattle.prog_rules.proofs.Nesting.{grounds}
-use borrow.Author.Rules.{rules}
 use Rattle.prog_rules.proofs.ground_in.Goals as goal
 
 pub returns-then-o-eq0 : goal.returns-then-o-eq0

@@ -1,10 +1,5 @@
-use Rattle.prog_names.proofs.Loops.{Seeking, seeking}
+use Rattle.prog_names.proofs.Loops.{seeking}
 use Rattle.prog_rules.proofs.Rows.{labelling}
-use Rattle.prog_rules.specs.Rules.{bears}
-use Rattle.prog_tables.specs.Label.{label_at, is_function_label}
-use mathlib.Core.List.{[]}
-use Prim.Native.Nat.{◌-◌}
-use borrow.Author.Rules.{rules}
 use Rattle.prog_rules.proofs.has_function.Goals as goal
 
 pub loop-i-init : goal.loop-i-init

@@ -1,5 +1,4 @@
 use Rattle.prog_rules.proofs.Rows.{operands}
-use borrow.Author.Rules.{rules}
 use Rattle.prog_rules.proofs.has_operands.Goals as goal
 
 pub returns-then-has_expression : goal.returns-then-has_expression

@@ -1,5 +1,4 @@
 use Rattle.prog_rules.proofs.Goals.{importing}
-use borrow.Author.Rules.{rules}
 use Rattle.prog_rules.proofs.import_calls.Goals as goal
 
 pub returns-then-k-g : goal.returns-then-k-g

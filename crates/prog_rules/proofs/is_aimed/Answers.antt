@@ -1,5 +1,4 @@
 use Rattle.prog_rules.proofs.Rows.{aiming}
-use borrow.Author.Rules.{rules}
 use Rattle.prog_rules.proofs.is_aimed.Goals as goal
 
 pub returns-then-has_target : goal.returns-then-has_target

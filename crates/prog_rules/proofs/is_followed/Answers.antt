@@ -1,5 +1,4 @@
 use Rattle.prog_rules.proofs.Nesting.{followed}
-use borrow.Author.Rules.{rules}
 use Rattle.prog_rules.proofs.is_followed.Goals as goal
 
 pub returns-then-follows_jump : goal.returns-then-follows_jump

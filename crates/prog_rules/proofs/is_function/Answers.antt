@@ -1,5 +1,4 @@
 use Rattle.prog_rules.proofs.Rows.{bearing}
-use borrow.Author.Rules.{rules}
 use Rattle.prog_rules.proofs.is_function.Goals as goal
 
 pub returns-then-is_function_label : goal.returns-then-is_function_label

@@ -1,5 +1,4 @@
 use Rattle.prog_rules.proofs.Rows.{function-label}
-use borrow.Author.Rules.{rules}
 use Rattle.prog_rules.proofs.is_function_label.Goals as goal
 
 pub returns-then-k-eq-FUNCTION : goal.returns-then-k-eq-FUNCTION

@@ -1,5 +1,4 @@
 use Rattle.prog_rules.proofs.Goals.{callees}
-use borrow.Author.Rules.{rules}
 use Rattle.prog_rules.proofs.is_imported.Goals as goal
 
 pub returns-then-p-m : goal.returns-then-p-m

@@ -1,5 +1,4 @@
 use Rattle.prog_rules.proofs.Nesting.{nested}
-use borrow.Author.Rules.{rules}
 use Rattle.prog_rules.proofs.is_nested.Goals as goal
 
 pub returns-then-o-eq0 : goal.returns-then-o-eq0

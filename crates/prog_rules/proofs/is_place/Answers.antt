@@ -1,5 +1,4 @@
 use Rattle.prog_rules.proofs.Rows.{bearing}
-use borrow.Author.Rules.{rules}
 use Rattle.prog_rules.proofs.is_place.Goals as goal
 
 pub returns-then-x-eq-PLACE : goal.returns-then-x-eq-PLACE

@@ -1,5 +1,4 @@
 use Rattle.prog_rules.proofs.Rows.{shallows}
-use borrow.Author.Rules.{rules}
 use Rattle.prog_rules.proofs.is_shallow.Goals as goal
 
 pub returns-then-k-eq-BLOCK : goal.returns-then-k-eq-BLOCK

@@ -1,5 +1,4 @@
 use Rattle.prog_rules.proofs.Rows.{shapes}
-use borrow.Author.Rules.{rules}
 use Rattle.prog_rules.proofs.is_shaped.Goals as goal
 
 pub returns-then-is_unlisted : goal.returns-then-is_unlisted

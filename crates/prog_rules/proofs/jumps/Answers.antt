@@ -1,5 +1,4 @@
 use Rattle.prog_rules.proofs.Goals.{jumping}
-use borrow.Author.Rules.{rules}
 use Rattle.prog_rules.proofs.jumps.Goals as goal
 
 pub returns-then-x-ne-GOTO : goal.returns-then-x-ne-GOTO

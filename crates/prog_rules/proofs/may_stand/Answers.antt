@@ -1,5 +1,4 @@
 use Rattle.prog_rules.proofs.Nesting.{may}
-use borrow.Author.Rules.{rules}
 use Rattle.prog_rules.proofs.may_stand.Goals as goal
 
 pub returns-then-g-x : goal.returns-then-g-x

@@ -1,5 +1,4 @@
 use Rattle.prog_rules.proofs.Nesting.{opening}
-use borrow.Author.Rules.{rules}
 use Rattle.prog_rules.proofs.open_before.Goals as goal
 
 pub returns-then-n-eq0 : goal.returns-then-n-eq0

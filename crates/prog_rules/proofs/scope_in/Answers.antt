@@ -1,5 +1,4 @@
 use Rattle.prog_rules.proofs.Nesting.{fields}
-use borrow.Author.Rules.{rules}
 use Rattle.prog_rules.proofs.scope_in.Goals as goal
 
 pub returns-then-k-eq-FUNCTION : goal.returns-then-k-eq-FUNCTION

@@ -1,5 +1,4 @@
 use Rattle.prog_rules.proofs.Nesting.{stand}
-use borrow.Author.Rules.{rules}
 use Rattle.prog_rules.proofs.stands.Goals as goal
 
 pub returns-then-stands_there : goal.returns-then-stands_there

@@ -1,5 +1,4 @@
 use Rattle.prog_rules.proofs.Nesting.{standing}
-use borrow.Author.Rules.{rules}
 use Rattle.prog_rules.proofs.stands_there.Goals as goal
 
 pub returns-then-may_stand : goal.returns-then-may_stand

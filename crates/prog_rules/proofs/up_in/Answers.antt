@@ -1,5 +1,4 @@
 use Rattle.prog_rules.proofs.Nesting.{fields}
-use borrow.Author.Rules.{rules}
 use Rattle.prog_rules.proofs.up_in.Goals as goal
 
 pub returns-then-is_closer : goal.returns-then-is_closer

@@ -1,5 +1,4 @@
 use Rattle.prog_rules.proofs.Goals.{ways}
-use borrow.Author.Rules.{rules}
 use Rattle.prog_rules.proofs.ways_rules.Goals as goal
 
 pub returns-then-is_aimed : goal.returns-then-is_aimed

@@ -1,5 +1,4 @@
 use Rattle.prog_scope.proofs.Cases.{address-ways}
-use borrow.Author.Rules.{rules}
 use Rattle.prog_scope.proofs.address_held.Goals as goal
 
 pub returns-then-is_address : goal.returns-then-is_address

@@ -1,4 +1,3 @@
-use borrow.Author.Rules.{rules}
 use Rattle.prog_scope.proofs.Cases.{block-ways}
 use Rattle.prog_scope.proofs.block_held.Goals as goal
 

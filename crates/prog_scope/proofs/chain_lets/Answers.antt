@@ -1,6 +1,5 @@
 use borrow.Author.Rules.{rules}
-use Rattle.prog_scope.proofs.Loops.{Summing, summing}
-use Rattle.prog_tables.specs.Statement.{row_at}
+use Rattle.prog_scope.proofs.Loops.{summing}
 use Rattle.prog_scope.proofs.chain_lets.Goals as goal
 
 pub loop-fuel-init : goal.loop-fuel-init

@@ -1,5 +1,4 @@
-use borrow.Author.Rules.{rules}
-use Rattle.prog_scope.proofs.Loops.{Summing, summing}
+use Rattle.prog_scope.proofs.Loops.{Summing}
 use Rattle.prog_tables.specs.Statement.{row_at}
 use Rattle.prog_scope.proofs.chain_lets.Given as goal
 

@@ -1,6 +1,5 @@
 use borrow.Author.Rules.{rules}
-use Rattle.prog_scope.proofs.Loops.{Noting, counting, noting-long}
-use Prim.Native.Nat.{◌-◌}
+use Rattle.prog_scope.proofs.Loops.{counting, noting-long}
 use Rattle.prog_scope.proofs.count_lets.Goals as goal
 
 pub loop-n-init : goal.loop-n-init

@@ -1,5 +1,4 @@
-use borrow.Author.Rules.{rules}
-use Rattle.prog_scope.proofs.Loops.{Noting, counting, noting-long}
+use Rattle.prog_scope.proofs.Loops.{Noting}
 use Prim.Native.Nat.{◌-◌}
 use Rattle.prog_scope.proofs.count_lets.Given as goal
 

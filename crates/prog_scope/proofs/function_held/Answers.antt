@@ -1,5 +1,4 @@
 use Rattle.prog_scope.proofs.Cases.{function-ways}
-use borrow.Author.Rules.{rules}
 use Rattle.prog_scope.proofs.function_held.Goals as goal
 
 pub returns-then-p-le-PARAMETERS : goal.returns-then-p-le-PARAMETERS

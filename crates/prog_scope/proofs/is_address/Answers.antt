@@ -1,9 +1,5 @@
 use borrow.Author.Rules.{rules}
-use Rattle.prog_scope.proofs.Loops.{Searching, searching}
-use Prim.Native.Nat.{◌-◌}
-use mathlib.Core.List.{[]}
-use Rattle.prog_tables.specs.Label.{label_at}
-use Rattle.prog_chains.specs.Counted.{is_data_at}
+use Rattle.prog_scope.proofs.Loops.{searching}
 use Rattle.prog_scope.proofs.is_address.Goals as goal
 
 pub loop-i-init : goal.loop-i-init

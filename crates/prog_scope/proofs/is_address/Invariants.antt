@@ -1,7 +1,5 @@
-use borrow.Author.Rules.{rules}
-use Rattle.prog_scope.proofs.Loops.{Searching, searching}
+use Rattle.prog_scope.proofs.Loops.{Searching}
 use Prim.Native.Nat.{◌-◌}
-use mathlib.Core.List.{[]}
 use Rattle.prog_tables.specs.Label.{label_at}
 use Rattle.prog_chains.specs.Counted.{is_data_at}
 use Rattle.prog_scope.proofs.is_address.Given as goal

@@ -1,5 +1,4 @@
 use Rattle.prog_scope.proofs.Cases.{data-ways}
-use borrow.Author.Rules.{rules}
 use Rattle.prog_scope.proofs.is_data_at.Goals as goal
 
 pub returns-then-is_data : goal.returns-then-is_data

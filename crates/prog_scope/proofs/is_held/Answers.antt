@@ -1,5 +1,4 @@
 use Rattle.prog_scope.proofs.Cases.{helds}
-use borrow.Author.Rules.{rules}
 use Rattle.prog_scope.proofs.is_held.Goals as goal
 
 pub returns-then-a-v : goal.returns-then-a-v

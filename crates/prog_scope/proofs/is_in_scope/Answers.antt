@@ -1,5 +1,4 @@
 use Rattle.prog_scope.proofs.Cases.{scope-ways}
-use borrow.Author.Rules.{rules}
 use Rattle.prog_scope.proofs.is_in_scope.Goals as goal
 
 pub returns-then-is_parameter : goal.returns-then-is_parameter

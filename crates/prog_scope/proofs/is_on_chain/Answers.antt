@@ -1,6 +1,5 @@
 use borrow.Author.Rules.{rules}
-use Rattle.prog_scope.proofs.Loops.{Climbing, climbing}
-use Rattle.prog_tables.specs.Statement.{row_at}
+use Rattle.prog_scope.proofs.Loops.{climbing}
 use Rattle.prog_scope.proofs.is_on_chain.Goals as goal
 
 pub loop-fuel-init : goal.loop-fuel-init

@@ -1,5 +1,4 @@
-use borrow.Author.Rules.{rules}
-use Rattle.prog_scope.proofs.Loops.{Climbing, climbing}
+use Rattle.prog_scope.proofs.Loops.{Climbing}
 use Rattle.prog_tables.specs.Statement.{row_at}
 use Rattle.prog_scope.proofs.is_on_chain.Given as goal
 

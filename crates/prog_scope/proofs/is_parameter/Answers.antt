@@ -1,4 +1,3 @@
-use borrow.Author.Rules.{rules}
 use Rattle.prog_scope.proofs.Cases.{parameter-ways}
 use Rattle.prog_scope.proofs.is_parameter.Goals as goal
 

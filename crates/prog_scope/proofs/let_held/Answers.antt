@@ -1,5 +1,4 @@
 use Rattle.prog_scope.proofs.Cases.{let-ways}
-use borrow.Author.Rules.{rules}
 use Rattle.prog_scope.proofs.let_held.Goals as goal
 
 pub returns-then-a-w : goal.returns-then-a-w

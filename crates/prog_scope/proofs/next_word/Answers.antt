@@ -1,5 +1,4 @@
 use Rattle.prog_scope.proofs.Cases.{helds}
-use borrow.Author.Rules.{rules}
 use Rattle.prog_scope.proofs.next_word.Goals as goal
 
 pub returns : goal.returns

@@ -1,5 +1,4 @@
 use Rattle.prog_scope.proofs.Cases.{operand-ways}
-use borrow.Author.Rules.{rules}
 use Rattle.prog_scope.proofs.operand_held.Goals as goal
 
 pub returns-in-Constant : goal.returns-in-Constant

@@ -1,10 +1,5 @@
 use borrow.Author.Rules.{rules}
-use Rattle.prog_scope.proofs.Loops.{Passing, passing}
-use Prim.Native.Nat.{◌-◌}
-use mathlib.Core.List.{[]}
-use Rattle.prog_tables.specs.Statement.{row_at}
-use Rattle.prog_tables.specs.Label.{label_at}
-use Rattle.prog_chains.specs.Counted.{operand_held}
+use Rattle.prog_scope.proofs.Loops.{passing}
 use Rattle.prog_scope.proofs.operands_held.Goals as goal
 
 pub loop-i-init : goal.loop-i-init

@@ -1,7 +1,5 @@
-use borrow.Author.Rules.{rules}
-use Rattle.prog_scope.proofs.Loops.{Passing, passing}
+use Rattle.prog_scope.proofs.Loops.{Passing}
 use Prim.Native.Nat.{◌-◌}
-use mathlib.Core.List.{[]}
 use Rattle.prog_tables.specs.Statement.{row_at}
 use Rattle.prog_tables.specs.Label.{label_at}
 use Rattle.prog_chains.specs.Counted.{operand_held}

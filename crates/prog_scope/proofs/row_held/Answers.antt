@@ -1,4 +1,3 @@
-use borrow.Author.Rules.{rules}
 use Rattle.prog_scope.proofs.Cases.{row-ways}
 use Rattle.prog_scope.proofs.row_held.Goals as goal
 

@@ -1,6 +1,5 @@
 use borrow.Author.Rules.{rules}
-use Rattle.prog_scope.proofs.Loops.{Holding, holding, holding-more, holding-long}
-use Prim.Native.Nat.{◌-◌}
+use Rattle.prog_scope.proofs.Loops.{holding, holding-more, holding-long}
 use Rattle.prog_scope.proofs.rows_held.Goals as goal
 
 pub loop-n-init : goal.loop-n-init

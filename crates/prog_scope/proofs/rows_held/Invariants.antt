@@ -1,5 +1,4 @@
-use borrow.Author.Rules.{rules}
-use Rattle.prog_scope.proofs.Loops.{Holding, holding, holding-more, holding-long}
+use Rattle.prog_scope.proofs.Loops.{Holding}
 use Prim.Native.Nat.{◌-◌}
 use Rattle.prog_scope.proofs.rows_held.Given as goal
 

@@ -1,5 +1,4 @@
 use Rattle.prog_scope.proofs.Cases.{set-ways}
-use borrow.Author.Rules.{rules}
 use Rattle.prog_scope.proofs.set_held.Goals as goal
 
 pub returns-then-j-eq-SET : goal.returns-then-j-eq-SET

@@ -1,5 +1,4 @@
 use Rattle.prog_scope.proofs.Cases.{function-ways}
-use borrow.Author.Rules.{rules}
 use Rattle.prog_scope.proofs.size_of.Goals as goal
 
 pub returns : goal.returns

@@ -1,4 +1,3 @@
-use borrow.Author.Rules.{rules}
 use Rattle.prog_scope.proofs.slot_held.Goals as goal
 
 pub returns : goal.returns

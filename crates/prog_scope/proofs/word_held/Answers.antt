@@ -1,5 +1,4 @@
 use Rattle.prog_scope.proofs.Cases.{word-ways}
-use borrow.Author.Rules.{rules}
 use Rattle.prog_scope.proofs.word_held.Goals as goal
 
 pub returns-in-5 : goal.returns-in-5

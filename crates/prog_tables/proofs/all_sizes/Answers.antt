@@ -1,7 +1,5 @@
-use borrow.Author.Rules.{rules}
 use Rattle.prog_tables.specs.Layout.{sizes_of}
-use native.Mathlib.Omega.{arith}
-use mathlib.Core.Path.{◌≡◌, refl, sym, ◌∙◌, ap, subst}
+use mathlib.Core.Path.{refl}
 use Rattle.prog_tables.proofs.all_sizes.Goals as goal
 
 pub returns : goal.returns

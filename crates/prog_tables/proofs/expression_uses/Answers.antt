@@ -1,5 +1,4 @@
 use Rattle.prog_tables.proofs.Cases.{uses}
-use borrow.Author.Rules.{rules}
 use Rattle.prog_tables.proofs.expression_uses.Goals as goal
 
 pub returns-then-e-eq-PLAIN : goal.returns-then-e-eq-PLAIN

@@ -1,9 +1,6 @@
-use borrow.Author.Rules.{rules}
 use Rattle.base_prelude.proofs.Choice.{tests}
 use Rattle.prog_tables.specs.Statement.{has_expression, is_operator}
 use Rattle.prog_tables.specs.Nesting.{is_listed}
-use native.Mathlib.Omega.{arith}
-use mathlib.Core.Path.{◌≡◌, refl, sym, ◌∙◌, ap, subst}
 use Rattle.prog_tables.proofs.has_expression.Goals as goal
 
 pub returns-then-k-lt-LET : goal.returns-then-k-lt-LET

@@ -1,7 +1,6 @@
 use Rattle.prog_tables.proofs.Cases.{used}
 use Rattle.base_prelude.proofs.Choice.{tests}
 use Rattle.prog_tables.specs.Statement.{is_call}
-use borrow.Author.Rules.{rules}
 use Rattle.prog_tables.proofs.is_call.Goals as goal
 
 pub returns-then-e-eq-IMPORT : goal.returns-then-e-eq-IMPORT

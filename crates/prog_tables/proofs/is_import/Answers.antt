@@ -1,5 +1,4 @@
 use Rattle.prog_tables.proofs.Cases.{calls}
-use borrow.Author.Rules.{rules}
 use Rattle.prog_tables.proofs.is_import.Goals as goal
 
 pub returns-then-is_call_row : goal.returns-then-is_call_row

@@ -1,9 +1,6 @@
-use borrow.Author.Rules.{rules}
 use Rattle.base_prelude.proofs.Choice.{tests}
 use Rattle.prog_tables.specs.Statement.{has_expression, is_operator}
 use Rattle.prog_tables.specs.Nesting.{is_listed}
-use native.Mathlib.Omega.{arith}
-use mathlib.Core.Path.{◌≡◌, refl, sym, ◌∙◌, ap, subst}
 use Rattle.prog_tables.proofs.is_operator.Goals as goal
 
 pub returns-then-e-lt-ADD : goal.returns-then-e-lt-ADD

@@ -1,8 +1,5 @@
-use borrow.Author.Rules.{rules}
 use Rattle.base_prelude.proofs.Choice.{tests}
 use Rattle.prog_tables.specs.Statement.{is_test}
-use native.Mathlib.Omega.{arith}
-use mathlib.Core.Path.{◌≡◌, refl, sym, ◌∙◌, ap, subst}
 use Rattle.prog_tables.proofs.is_test.Goals as goal
 
 pub returns-then-k-lt-IFEQ : goal.returns-then-k-lt-IFEQ

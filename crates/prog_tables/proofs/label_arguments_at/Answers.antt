@@ -1,5 +1,4 @@
 use Rattle.prog_tables.specs.Label.{label_at}
-use borrow.Author.Rules.{rules}
 use Rattle.prog_tables.proofs.label_arguments_at.Goals as goal
 
 pub returns : goal.returns

@@ -1,4 +1,3 @@
-use borrow.Author.Rules.{rules}
 use Rattle.prog_tables.proofs.slot_at.Goals as goal
 
 pub returns : goal.returns

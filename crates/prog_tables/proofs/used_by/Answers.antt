@@ -1,5 +1,4 @@
 use Rattle.prog_tables.proofs.Cases.{used}
-use borrow.Author.Rules.{rules}
 use Rattle.prog_tables.proofs.used_by.Goals as goal
 
 pub returns-then-has_expression : goal.returns-then-has_expression

@@ -1,7 +1,4 @@
 use Rattle.prog_tables.proofs.Cases.{word_none}
-use native.Mathlib.Omega.{arith}
-use mathlib.Core.Path.{◌≡◌, refl, sym, ◌∙◌, ap, subst}
-use borrow.Author.Rules.{rules}
 use Rattle.prog_tables.proofs.word_at.Goals as goal
 
 pub returns-else-i-t : goal.returns-else-i-t

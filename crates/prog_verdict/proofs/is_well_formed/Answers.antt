@@ -1,7 +1,4 @@
 use Rattle.prog_verdict.proofs.Cases.{formed-ways}
-use native.Mathlib.Omega.{arith}
-use mathlib.Core.Path.{◌≡◌, refl, sym, ◌∙◌, ap, subst}
-use borrow.Author.Rules.{rules}
 use Rattle.prog_verdict.proofs.is_well_formed.Goals as goal
 
 pub returns-then-d-gt-DATA_BYTES : goal.returns-then-d-gt-DATA_BYTES

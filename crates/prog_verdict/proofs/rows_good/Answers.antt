@@ -1,6 +1,4 @@
 use Rattle.prog_verdict.proofs.Cases.{row-ways, all-standing, all-shallow}
-use native.Mathlib.Omega.{arith}
-use mathlib.Core.Path.{◌≡◌, refl, sym, ◌∙◌, ap, subst}
 use borrow.Author.Rules.{rules}
 use Rattle.prog_verdict.proofs.rows_good.Goals as goal
 

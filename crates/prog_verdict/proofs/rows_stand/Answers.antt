@@ -1,7 +1,4 @@
 use Rattle.prog_verdict.proofs.Cases.{stand-ways}
-use native.Mathlib.Omega.{arith}
-use mathlib.Core.Path.{◌≡◌, refl, sym, ◌∙◌, ap, subst}
-use borrow.Author.Rules.{rules}
 use Rattle.prog_verdict.proofs.rows_stand.Goals as goal
 
 pub returns-then-is_nested : goal.returns-then-is_nested

@@ -1,6 +1,4 @@
 use Rattle.res_data.proofs.Cases.{adding, line-sum}
-use native.Mathlib.Omega.{arith}
-use mathlib.Core.Path.{◌≡◌, refl, sym, ◌∙◌, ap, subst}
 use borrow.Author.Rules.{rules}
 use Rattle.res_data.proofs.add_line.Goals as goal
 

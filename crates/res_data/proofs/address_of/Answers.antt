@@ -1,7 +1,4 @@
 use Rattle.res_data.specs.Sizes.{address_of}
-use native.Mathlib.Omega.{arith}
-use mathlib.Core.Path.{◌≡◌, refl, sym, ◌∙◌, ap, subst}
-use borrow.Author.Rules.{rules}
 use Rattle.res_data.proofs.address_of.Goals as goal
 
 pub returns : goal.returns

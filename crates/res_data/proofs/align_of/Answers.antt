@@ -1,7 +1,4 @@
 use Rattle.res_data.proofs.Cases.{aligning}
-use native.Mathlib.Omega.{arith}
-use mathlib.Core.Path.{◌≡◌, refl, sym, ◌∙◌, ap, subst}
-use borrow.Author.Rules.{rules}
 use Rattle.res_data.proofs.align_of.Goals as goal
 
 pub returns-then-operand_count-eq0 : goal.returns-then-operand_count-eq0

@@ -1,9 +1,6 @@
 use Rattle.base_prelude.proofs.Choice.{tests}
 use Rattle.res_data.specs.Sizes.{align_size}
 use Rattle.res_data.proofs.Cases.{size-fills}
-use native.Mathlib.Omega.{arith}
-use mathlib.Core.Path.{◌≡◌, refl, sym, ◌∙◌, ap, subst}
-use borrow.Author.Rules.{rules}
 use Rattle.res_data.proofs.align_size.Goals as goal
 
 pub returns-then-section-lt-DATA_SECTION : goal.returns-then-section-lt-DATA_SECTION

@@ -1,8 +1,6 @@
 use Rattle.base_prelude.proofs.Choice.{tests}
 use Rattle.res_data.specs.Sizes.{fill_of}
 use Rattle.res_data.proofs.Cases.{rest-low}
-use native.Mathlib.Omega.{arith}
-use mathlib.Core.Path.{◌≡◌, refl, sym, ◌∙◌, ap, subst}
 use borrow.Author.Rules.{rules}
 use Rattle.res_data.proofs.fill_of.Goals as goal
 

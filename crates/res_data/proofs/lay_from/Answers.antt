@@ -1,8 +1,4 @@
-use borrow.Author.Rules.{rules}
-use Prim.Native.Nat.{◌-◌}
-use Rattle.res_data.proofs.Walks.{Imaging, imaging, imaging-less, imaging-fits}
-use native.Mathlib.Omega.{arith}
-use mathlib.Core.Path.{◌≡◌, refl, sym, ◌∙◌, ap, subst}
+use Rattle.res_data.proofs.Walks.{imaging, imaging-less, imaging-fits}
 use Rattle.res_data.proofs.lay_from.Goals as goal
 
 pub loop-y-init : goal.loop-y-init

@@ -1,8 +1,5 @@
-use borrow.Author.Rules.{rules}
 use Prim.Native.Nat.{◌-◌}
-use Rattle.res_data.proofs.Walks.{Imaging, imaging, imaging-less, imaging-fits}
-use native.Mathlib.Omega.{arith}
-use mathlib.Core.Path.{◌≡◌, refl, sym, ◌∙◌, ap, subst}
+use Rattle.res_data.proofs.Walks.{Imaging}
 use Rattle.res_data.proofs.lay_from.Given as goal
 
 abbrev pub invariant-loop-y : goal.invariant-loop-y

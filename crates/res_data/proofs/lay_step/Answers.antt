@@ -1,6 +1,4 @@
 use Rattle.res_data.proofs.Walks.{unit-small, stepping}
-use native.Mathlib.Omega.{arith}
-use mathlib.Core.Path.{◌≡◌, refl, sym, ◌∙◌, ap, subst}
 use borrow.Author.Rules.{rules}
 use Rattle.res_data.proofs.lay_step.Goals as goal
 

@@ -1,7 +1,5 @@
 use Rattle.res_data.specs.Sizes.{measure_of}
 use Rattle.res_data.proofs.Walks.{first_fits}
-use native.Mathlib.Omega.{arith}
-use mathlib.Core.Path.{◌≡◌, refl, sym, ◌∙◌, ap, subst}
 use borrow.Author.Rules.{rules}
 use Rattle.res_data.proofs.measure.Goals as goal
 

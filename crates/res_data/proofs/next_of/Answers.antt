@@ -1,7 +1,4 @@
 use Rattle.res_data.proofs.Cases.{nexting}
-use native.Mathlib.Omega.{arith}
-use mathlib.Core.Path.{◌≡◌, refl, sym, ◌∙◌, ap, subst}
-use borrow.Author.Rules.{rules}
 use Rattle.res_data.proofs.next_of.Goals as goal
 
 pub returns-then-k-eq-EDGE : goal.returns-then-k-eq-EDGE

@@ -1,7 +1,4 @@
 use Rattle.res_data.proofs.Cases.{putting}
-use native.Mathlib.Omega.{arith}
-use mathlib.Core.Path.{◌≡◌, refl, sym, ◌∙◌, ap, subst}
-use borrow.Author.Rules.{rules}
 use Rattle.res_data.proofs.put_line.Goals as goal
 
 pub returns-then-from-out : goal.returns-then-from-out

@@ -1,8 +1,5 @@
 use Rattle.base_prelude.proofs.Choice.{tests}
 use Rattle.res_data.specs.Sizes.{size_of}
-use native.Mathlib.Omega.{arith}
-use mathlib.Core.Path.{◌≡◌, refl, sym, ◌∙◌, ap, subst}
-use borrow.Author.Rules.{rules}
 use Rattle.res_data.proofs.size_of.Goals as goal
 
 pub returns-then-k-eq-BYTE : goal.returns-then-k-eq-BYTE

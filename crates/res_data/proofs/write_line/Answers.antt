@@ -1,7 +1,4 @@
 use Rattle.res_data.proofs.Cases.{lining}
-use native.Mathlib.Omega.{arith}
-use mathlib.Core.Path.{◌≡◌, refl, sym, ◌∙◌, ap, subst}
-use borrow.Author.Rules.{rules}
 use Rattle.res_data.proofs.write_line.Goals as goal
 
 pub returns-then-k-eq-BYTE : goal.returns-then-k-eq-BYTE

@@ -1,9 +1,4 @@
-use borrow.Author.Rules.{rules}
-use Prim.Native.Nat.{◌-◌}
-use lib.ListN.{length}
-use Rattle.res_data.proofs.Cases.{Writing, writing}
-use native.Mathlib.Omega.{arith}
-use mathlib.Core.Path.{◌≡◌, refl, sym, ◌∙◌, ap, subst}
+use Rattle.res_data.proofs.Cases.{writing}
 use Rattle.res_data.proofs.write_number.Goals as goal
 
 pub loop-k-init : goal.loop-k-init

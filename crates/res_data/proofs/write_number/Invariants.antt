@@ -1,9 +1,6 @@
-use borrow.Author.Rules.{rules}
 use Prim.Native.Nat.{◌-◌}
 use lib.ListN.{length}
-use Rattle.res_data.proofs.Cases.{Writing, writing}
-use native.Mathlib.Omega.{arith}
-use mathlib.Core.Path.{◌≡◌, refl, sym, ◌∙◌, ap, subst}
+use Rattle.res_data.proofs.Cases.{Writing}
 use Rattle.res_data.proofs.write_number.Given as goal
 
 abbrev pub invariant-loop-k : goal.invariant-loop-k

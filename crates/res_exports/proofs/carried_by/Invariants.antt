@@ -1,11 +1,7 @@
-use borrow.Author.Rules.{rules}
 use Prim.Native.Nat.{◌-◌}
 use Rattle.res_scope.specs.Names.{same_number}
-use Rattle.res_scope.proofs.Searches.{Upward, upward}
+use Rattle.res_scope.proofs.Searches.{Upward}
 use Rattle.res_exports.specs.Exports.{carries_label}
-use Rattle.res_exports.proofs.Cases.{carried-is}
-use native.Mathlib.Omega.{arith}
-use mathlib.Core.Path.{◌≡◌, refl, sym, ◌∙◌, ap, subst}
 use Rattle.res_exports.proofs.carried_by.Given as goal
 
 abbrev pub invariant-loop-j : goal.invariant-loop-j

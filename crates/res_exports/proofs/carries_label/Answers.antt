@@ -1,7 +1,4 @@
 use Rattle.res_exports.proofs.Cases.{carrying}
-use native.Mathlib.Omega.{arith}
-use mathlib.Core.Path.{◌≡◌, refl, sym, ◌∙◌, ap, subst}
-use borrow.Author.Rules.{rules}
 use Rattle.res_exports.proofs.carries_label.Goals as goal
 
 pub returns-then-q-first : goal.returns-then-q-first

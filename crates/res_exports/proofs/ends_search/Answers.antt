@@ -1,8 +1,5 @@
-use borrow.Author.Rules.{rules}
 use Rattle.base_prelude.proofs.Choice.{tests}
 use Rattle.res_exports.proofs.Lists.{ends_by}
-use native.Mathlib.Omega.{arith}
-use mathlib.Core.Path.{◌≡◌, refl, sym, ◌∙◌, ap, subst}
 use Rattle.res_exports.proofs.ends_search.Goals as goal
 
 pub returns-then-k-eq-EDGE : goal.returns-then-k-eq-EDGE

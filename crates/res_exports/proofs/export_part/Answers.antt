@@ -1,7 +1,5 @@
 use Rattle.res_exports.proofs.Cases.{exporting}
 use Rattle.res_exports.proofs.Units.{unit-fits}
-use native.Mathlib.Omega.{arith}
-use mathlib.Core.Path.{◌≡◌, refl, sym, ◌∙◌, ap, subst}
 use borrow.Author.Rules.{rules}
 use Rattle.res_exports.proofs.export_part.Goals as goal
 

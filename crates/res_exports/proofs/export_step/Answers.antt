@@ -1,6 +1,4 @@
 use Rattle.res_exports.proofs.Units.{stepping, step_small, step-near, step-next}
-use native.Mathlib.Omega.{arith}
-use mathlib.Core.Path.{◌≡◌, refl, sym, ◌∙◌, ap, subst}
 use borrow.Author.Rules.{rules}
 use Rattle.res_exports.proofs.export_step.Goals as goal
 

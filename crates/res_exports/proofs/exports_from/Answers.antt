@@ -1,9 +1,5 @@
 use borrow.Author.Rules.{rules}
-use Prim.Native.Nat.{◌-◌}
-use Rattle.res_scope.specs.Names.{same_number}
-use Rattle.res_exports.proofs.Units.{Exporting, exporting, exporting-less, exporting-fits, exporting-same}
-use native.Mathlib.Omega.{arith}
-use mathlib.Core.Path.{◌≡◌, refl, sym, ◌∙◌, ap, subst}
+use Rattle.res_exports.proofs.Units.{exporting, exporting-less, exporting-fits, exporting-same}
 use Rattle.res_exports.proofs.exports_from.Goals as goal
 
 pub loop-x-init : goal.loop-x-init

@@ -1,9 +1,6 @@
-use borrow.Author.Rules.{rules}
 use Prim.Native.Nat.{◌-◌}
 use Rattle.res_scope.specs.Names.{same_number}
-use Rattle.res_exports.proofs.Units.{Exporting, exporting, exporting-less, exporting-fits, exporting-same}
-use native.Mathlib.Omega.{arith}
-use mathlib.Core.Path.{◌≡◌, refl, sym, ◌∙◌, ap, subst}
+use Rattle.res_exports.proofs.Units.{Exporting}
 use Rattle.res_exports.proofs.exports_from.Given as goal
 
 abbrev pub invariant-loop-x : goal.invariant-loop-x

@@ -1,8 +1,4 @@
-use borrow.Author.Rules.{rules}
-use Prim.Native.Nat.{◌-◌}
-use Rattle.res_exports.proofs.Units.{Seeking, definitions, seeking-less, seeking-fits}
-use native.Mathlib.Omega.{arith}
-use mathlib.Core.Path.{◌≡◌, refl, sym, ◌∙◌, ap, subst}
+use Rattle.res_exports.proofs.Units.{definitions, seeking-less, seeking-fits}
 use Rattle.res_exports.proofs.find_definition.Goals as goal
 
 pub loop-x-init : goal.loop-x-init

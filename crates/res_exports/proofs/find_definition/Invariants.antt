@@ -1,8 +1,5 @@
-use borrow.Author.Rules.{rules}
 use Prim.Native.Nat.{◌-◌}
-use Rattle.res_exports.proofs.Units.{Seeking, definitions, seeking-less, seeking-fits}
-use native.Mathlib.Omega.{arith}
-use mathlib.Core.Path.{◌≡◌, refl, sym, ◌∙◌, ap, subst}
+use Rattle.res_exports.proofs.Units.{Seeking}
 use Rattle.res_exports.proofs.find_definition.Given as goal
 
 abbrev pub invariant-loop-x : goal.invariant-loop-x

@@ -1,7 +1,4 @@
 use Rattle.res_exports.proofs.Cases.{flagging}
-use native.Mathlib.Omega.{arith}
-use mathlib.Core.Path.{◌≡◌, refl, sym, ◌∙◌, ap, subst}
-use borrow.Author.Rules.{rules}
 use Rattle.res_exports.proofs.flag.Goals as goal
 
 pub returns-then-l-j : goal.returns-then-l-j

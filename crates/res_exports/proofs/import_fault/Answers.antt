@@ -1,7 +1,4 @@
 use Rattle.res_exports.proofs.Cases.{importing}
-use native.Mathlib.Omega.{arith}
-use mathlib.Core.Path.{◌≡◌, refl, sym, ◌∙◌, ap, subst}
-use borrow.Author.Rules.{rules}
 use Rattle.res_exports.proofs.import_fault.Goals as goal
 
 pub returns-then-host_at-eq0 : goal.returns-then-host_at-eq0

@@ -1,7 +1,4 @@
 use Rattle.res_exports.proofs.Cases.{import-uses}
-use native.Mathlib.Omega.{arith}
-use mathlib.Core.Path.{◌≡◌, refl, sym, ◌∙◌, ap, subst}
-use borrow.Author.Rules.{rules}
 use Rattle.res_exports.proofs.import_use.Goals as goal
 
 pub returns-then-j-l : goal.returns-then-j-l

@@ -1,6 +1,4 @@
 use Rattle.res_exports.proofs.Units.{exports-are, first_fits}
-use native.Mathlib.Omega.{arith}
-use mathlib.Core.Path.{◌≡◌, refl, sym, ◌∙◌, ap, subst}
 use borrow.Author.Rules.{rules}
 use Rattle.res_exports.proofs.judge_exports.Goals as goal
 

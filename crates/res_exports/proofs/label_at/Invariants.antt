@@ -1,11 +1,7 @@
-use borrow.Author.Rules.{rules}
 use Prim.Native.Nat.{◌-◌}
 use lib.Dec.{eqb}
 use Rattle.res_scope.specs.Lines.{label_token}
-use Rattle.res_scope.proofs.Searches.{Upward, upward}
-use Rattle.res_exports.proofs.Cases.{at-is}
-use native.Mathlib.Omega.{arith}
-use mathlib.Core.Path.{◌≡◌, refl, sym, ◌∙◌, ap, subst}
+use Rattle.res_scope.proofs.Searches.{Upward}
 use Rattle.res_exports.proofs.label_at.Given as goal
 
 abbrev pub invariant-loop-j : goal.invariant-loop-j

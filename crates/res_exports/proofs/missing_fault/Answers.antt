@@ -1,7 +1,4 @@
 use Rattle.res_exports.proofs.Cases.{faulting}
-use native.Mathlib.Omega.{arith}
-use mathlib.Core.Path.{◌≡◌, refl, sym, ◌∙◌, ap, subst}
-use borrow.Author.Rules.{rules}
 use Rattle.res_exports.proofs.missing_fault.Goals as goal
 
 pub returns-then-find_label-l : goal.returns-then-find_label-l

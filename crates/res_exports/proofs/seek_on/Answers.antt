@@ -1,7 +1,4 @@
 use Rattle.res_exports.proofs.Cases.{seeking}
-use native.Mathlib.Omega.{arith}
-use mathlib.Core.Path.{◌≡◌, refl, sym, ◌∙◌, ap, subst}
-use borrow.Author.Rules.{rules}
 use Rattle.res_exports.proofs.seek_on.Goals as goal
 
 pub returns-then-is_definition : goal.returns-then-is_definition

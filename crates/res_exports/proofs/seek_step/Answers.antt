@@ -1,7 +1,4 @@
 use Rattle.res_exports.proofs.Units.{seek_is, step_small}
-use Rattle.res_exports.specs.Fits.{UnitFits}
-use native.Mathlib.Omega.{arith}
-use mathlib.Core.Path.{◌≡◌, refl, sym, ◌∙◌, ap, subst}
 use borrow.Author.Rules.{rules}
 use Rattle.res_exports.proofs.seek_step.Goals as goal
 

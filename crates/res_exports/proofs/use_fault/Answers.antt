@@ -1,7 +1,4 @@
 use Rattle.res_exports.proofs.Cases.{faulting}
-use native.Mathlib.Omega.{arith}
-use mathlib.Core.Path.{◌≡◌, refl, sym, ◌∙◌, ap, subst}
-use borrow.Author.Rules.{rules}
 use Rattle.res_exports.proofs.use_fault.Goals as goal
 
 pub returns-then-q-eq0 : goal.returns-then-q-eq0

@@ -1,6 +1,4 @@
 use Rattle.res_frame_words.proofs.Cases.{words_are}
-use native.Mathlib.Omega.{arith}
-use mathlib.Core.Path.{◌≡◌, refl, sym, ◌∙◌, ap, subst}
 use borrow.Author.Rules.{rules}
 use Rattle.res_frame_words.proofs.make_words.Goals as goal
 

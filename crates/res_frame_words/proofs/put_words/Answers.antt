@@ -1,9 +1,5 @@
 use borrow.Author.Rules.{rules}
-use Prim.Native.Nat.{◌-◌}
-use Rattle.prog_tables.specs.Statement.{row_at}
-use Rattle.res_frame_words.proofs.Cases.{Putting, putting, putting-room}
-use native.Mathlib.Omega.{arith}
-use mathlib.Core.Path.{◌≡◌, refl, sym, ◌∙◌, ap, subst}
+use Rattle.res_frame_words.proofs.Cases.{putting, putting-room}
 use Rattle.res_frame_words.proofs.put_words.Goals as goal
 
 pub loop-n-init : goal.loop-n-init

@@ -1,7 +1,4 @@
 use Rattle.prog_tables.specs.Frames.{frame_size}
-use native.Mathlib.Omega.{arith}
-use mathlib.Core.Path.{◌≡◌, refl, sym, ◌∙◌, ap, subst}
-use borrow.Author.Rules.{rules}
 use Rattle.res_frame_words.proofs.size_of.Goals as goal
 
 pub returns : goal.returns

@@ -1,7 +1,4 @@
 use Rattle.res_frame_words.proofs.Cases.{values}
-use native.Mathlib.Omega.{arith}
-use mathlib.Core.Path.{◌≡◌, refl, sym, ◌∙◌, ap, subst}
-use borrow.Author.Rules.{rules}
 use Rattle.res_frame_words.proofs.value_of.Goals as goal
 
 pub returns-then-kind-eq-FUNCTION : goal.returns-then-kind-eq-FUNCTION

@@ -1,7 +1,5 @@
-use borrow.Author.Rules.{rules}
 use Rattle.prog_tables.specs.Hosts.{entries_of}
 use native.Mathlib.Omega.{arith}
-use mathlib.Core.Path.{◌≡◌, refl, sym, ◌∙◌, ap, subst}
 use Rattle.res_hosts.proofs.entries.Goals as goal
 
 pub returns-then-n-lt-HOST_ENTRIES : goal.returns-then-n-lt-HOST_ENTRIES

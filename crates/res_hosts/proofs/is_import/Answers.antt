@@ -1,7 +1,4 @@
 use Rattle.res_hosts.proofs.Cases.{importing}
-use native.Mathlib.Omega.{arith}
-use mathlib.Core.Path.{◌≡◌, refl, sym, ◌∙◌, ap, subst}
-use borrow.Author.Rules.{rules}
 use Rattle.res_hosts.proofs.is_import.Goals as goal
 
 pub returns-then-word_at-eq-IMPORT : goal.returns-then-word_at-eq-IMPORT

@@ -1,7 +1,4 @@
 use Rattle.res_hosts.proofs.Cases.{naming}
-use native.Mathlib.Omega.{arith}
-use mathlib.Core.Path.{◌≡◌, refl, sym, ◌∙◌, ap, subst}
-use borrow.Author.Rules.{rules}
 use Rattle.res_hosts.proofs.is_named.Goals as goal
 
 pub returns-then-size-lt1 : goal.returns-then-size-lt1

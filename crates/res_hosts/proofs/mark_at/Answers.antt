@@ -1,7 +1,4 @@
 use Rattle.res_hosts.proofs.Cases.{reading}
-use native.Mathlib.Omega.{arith}
-use mathlib.Core.Path.{◌≡◌, refl, sym, ◌∙◌, ap, subst}
-use borrow.Author.Rules.{rules}
 use Rattle.res_hosts.proofs.mark_at.Goals as goal
 
 pub returns-then-size-gt-NAME_BYTES : goal.returns-then-size-gt-NAME_BYTES

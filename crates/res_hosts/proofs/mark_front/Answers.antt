@@ -1,6 +1,4 @@
 use Rattle.res_hosts.proofs.Cases.{take_long}
-use native.Mathlib.Omega.{arith}
-use mathlib.Core.Path.{◌≡◌, refl, sym, ◌∙◌, ap, subst}
 use borrow.Author.Rules.{rules}
 use Rattle.res_hosts.proofs.mark_front.Goals as goal
 

@@ -1,6 +1,4 @@
 use Rattle.res_hosts.proofs.Cases.{marking, mark-low, mark-few}
-use native.Mathlib.Omega.{arith}
-use mathlib.Core.Path.{◌≡◌, refl, sym, ◌∙◌, ap, subst}
 use borrow.Author.Rules.{rules}
 use Rattle.res_hosts.proofs.mark_name.Goals as goal
 

@@ -1,8 +1,5 @@
 use borrow.Author.Rules.{rules}
-use Prim.Native.Nat.{◌-◌}
-use Rattle.res_hosts.proofs.Cases.{Marking, walking, marking-room, marking-same}
-use native.Mathlib.Omega.{arith}
-use mathlib.Core.Path.{◌≡◌, refl, sym, ◌∙◌, ap, subst}
+use Rattle.res_hosts.proofs.Cases.{walking, marking-room, marking-same}
 use Rattle.res_hosts.proofs.mark_tokens.Goals as goal
 
 pub loop-i-init : goal.loop-i-init

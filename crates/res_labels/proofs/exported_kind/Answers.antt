@@ -1,8 +1,5 @@
-use borrow.Author.Rules.{rules}
 use Rattle.base_prelude.proofs.Choice.{tests}
 use Rattle.res_labels.specs.Labelling.{exported_kind}
-use native.Mathlib.Omega.{arith}
-use mathlib.Core.Path.{◌≡◌, refl, sym, ◌∙◌, ap, subst}
 use Rattle.res_labels.proofs.exported_kind.Goals as goal
 
 pub returns-then-kind-eq-DATA : goal.returns-then-kind-eq-DATA

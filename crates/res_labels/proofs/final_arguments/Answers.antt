@@ -1,7 +1,4 @@
 use Rattle.res_labels.proofs.Cases.{arguing}
-use native.Mathlib.Omega.{arith}
-use mathlib.Core.Path.{◌≡◌, refl, sym, ◌∙◌, ap, subst}
-use borrow.Author.Rules.{rules}
 use Rattle.res_labels.proofs.final_arguments.Goals as goal
 
 pub returns-then-kind-eq-IMPORT : goal.returns-then-kind-eq-IMPORT

@@ -1,8 +1,5 @@
 use Rattle.base_prelude.proofs.Choice.{tests}
 use Rattle.res_labels.specs.Labelling.{final_kind}
-use native.Mathlib.Omega.{arith}
-use mathlib.Core.Path.{◌≡◌, refl, sym, ◌∙◌, ap, subst}
-use borrow.Author.Rules.{rules}
 use Rattle.res_labels.proofs.final_kind.Goals as goal
 
 pub returns-then-flag-eq1 : goal.returns-then-flag-eq1

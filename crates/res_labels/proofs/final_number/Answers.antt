@@ -1,7 +1,4 @@
 use Rattle.res_labels.proofs.Cases.{numbering}
-use native.Mathlib.Omega.{arith}
-use mathlib.Core.Path.{◌≡◌, refl, sym, ◌∙◌, ap, subst}
-use borrow.Author.Rules.{rules}
 use Rattle.res_labels.proofs.final_number.Goals as goal
 
 pub returns-then-kind-eq-DATA : goal.returns-then-kind-eq-DATA

@@ -1,6 +1,4 @@
 use Rattle.res_labels.proofs.Cases.{reading}
-use native.Mathlib.Omega.{arith}
-use mathlib.Core.Path.{◌≡◌, refl, sym, ◌∙◌, ap, subst}
 use borrow.Author.Rules.{rules}
 use Rattle.res_labels.proofs.outline_word.Goals as goal
 

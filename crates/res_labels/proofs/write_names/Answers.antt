@@ -1,8 +1,5 @@
 use borrow.Author.Rules.{rules}
-use Prim.Native.Nat.{◌-◌}
-use Rattle.res_labels.proofs.Cases.{Names, naming, names-room}
-use native.Mathlib.Omega.{arith}
-use mathlib.Core.Path.{◌≡◌, refl, sym, ◌∙◌, ap, subst}
+use Rattle.res_labels.proofs.Cases.{naming, names-room}
 use Rattle.res_labels.proofs.write_names.Goals as goal
 
 pub loop-j-init : goal.loop-j-init

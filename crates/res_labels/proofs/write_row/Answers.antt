@@ -1,7 +1,4 @@
 use Rattle.res_labels.specs.Labelling.{label_words}
-use native.Mathlib.Omega.{arith}
-use mathlib.Core.Path.{◌≡◌, refl, sym, ◌∙◌, ap, subst}
-use borrow.Author.Rules.{rules}
 use Rattle.res_labels.proofs.write_row.Goals as goal
 
 pub returns : goal.returns

@@ -1,8 +1,5 @@
-use borrow.Author.Rules.{rules}
 use Prim.Native.Nat.{◌-◌}
-use Rattle.res_labels.proofs.Cases.{Rows, rowing, rows-room}
-use native.Mathlib.Omega.{arith}
-use mathlib.Core.Path.{◌≡◌, refl, sym, ◌∙◌, ap, subst}
+use Rattle.res_labels.proofs.Cases.{Rows}
 use Rattle.res_labels.proofs.write_rows.Given as goal
 
 abbrev pub invariant-loop-j : goal.invariant-loop-j

@@ -1,7 +1,4 @@
 use Rattle.res_names.proofs.Cases.{callees}
-use native.Mathlib.Omega.{arith}
-use mathlib.Core.Path.{◌≡◌, refl, sym, ◌∙◌, ap, subst}
-use borrow.Author.Rules.{rules}
 use Rattle.res_names.proofs.callee_fault.Goals as goal
 
 pub returns-in-Let : goal.returns-in-Let

@@ -1,7 +1,4 @@
 use Rattle.res_names.proofs.Cases.{names}
-use native.Mathlib.Omega.{arith}
-use mathlib.Core.Path.{◌≡◌, refl, sym, ◌∙◌, ap, subst}
-use borrow.Author.Rules.{rules}
 use Rattle.res_names.proofs.callee_part.Goals as goal
 
 pub returns-then-i-eq0 : goal.returns-then-i-eq0

@@ -1,7 +1,4 @@
 use Rattle.res_names.proofs.Cases.{values}
-use native.Mathlib.Omega.{arith}
-use mathlib.Core.Path.{◌≡◌, refl, sym, ◌∙◌, ap, subst}
-use borrow.Author.Rules.{rules}
 use Rattle.res_names.proofs.data_fault.Goals as goal
 
 pub returns-then-label_kind-eq-DATA : goal.returns-then-label_kind-eq-DATA

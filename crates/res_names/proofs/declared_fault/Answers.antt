@@ -1,7 +1,5 @@
 use Rattle.res_scope.proofs.Cases.{first-room}
 use Rattle.res_names.proofs.Cases.{declaring}
-use native.Mathlib.Omega.{arith}
-use mathlib.Core.Path.{◌≡◌, refl, sym, ◌∙◌, ap, subst}
 use borrow.Author.Rules.{rules}
 use Rattle.res_names.proofs.declared_fault.Goals as goal
 

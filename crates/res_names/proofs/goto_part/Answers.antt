@@ -1,7 +1,4 @@
 use Rattle.res_names.proofs.Cases.{names}
-use native.Mathlib.Omega.{arith}
-use mathlib.Core.Path.{◌≡◌, refl, sym, ◌∙◌, ap, subst}
-use borrow.Author.Rules.{rules}
 use Rattle.res_names.proofs.goto_part.Goals as goal
 
 pub returns : goal.returns

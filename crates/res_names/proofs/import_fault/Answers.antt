@@ -1,7 +1,4 @@
 use Rattle.res_names.proofs.Cases.{imports}
-use native.Mathlib.Omega.{arith}
-use mathlib.Core.Path.{◌≡◌, refl, sym, ◌∙◌, ap, subst}
-use borrow.Author.Rules.{rules}
 use Rattle.res_names.proofs.import_fault.Goals as goal
 
 pub returns-then-label_arguments-count : goal.returns-then-label_arguments-count

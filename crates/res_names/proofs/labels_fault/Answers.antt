@@ -1,9 +1,4 @@
-use borrow.Author.Rules.{rules}
-use Prim.Native.Nat.{◌-◌}
-use Rattle.res_scope.specs.Names.{same_number}
-use Rattle.res_names.proofs.Folds.{Labels, labels}
-use native.Mathlib.Omega.{arith}
-use mathlib.Core.Path.{◌≡◌, refl, sym, ◌∙◌, ap, subst}
+use Rattle.res_names.proofs.Folds.{labels}
 use Rattle.res_names.proofs.labels_fault.Goals as goal
 
 pub loop-j-init : goal.loop-j-init

@@ -1,9 +1,6 @@
-use borrow.Author.Rules.{rules}
 use Prim.Native.Nat.{◌-◌}
 use Rattle.res_scope.specs.Names.{same_number}
-use Rattle.res_names.proofs.Folds.{Labels, labels}
-use native.Mathlib.Omega.{arith}
-use mathlib.Core.Path.{◌≡◌, refl, sym, ◌∙◌, ap, subst}
+use Rattle.res_names.proofs.Folds.{Labels}
 use Rattle.res_names.proofs.labels_fault.Given as goal
 
 abbrev pub invariant-loop-j : goal.invariant-loop-j

@@ -1,7 +1,4 @@
 use Rattle.res_names.proofs.Cases.{seconds}
-use native.Mathlib.Omega.{arith}
-use mathlib.Core.Path.{◌≡◌, refl, sym, ◌∙◌, ap, subst}
-use borrow.Author.Rules.{rules}
 use Rattle.res_names.proofs.let_fault.Goals as goal
 
 pub returns-then-is_local_taken : goal.returns-then-is_local_taken

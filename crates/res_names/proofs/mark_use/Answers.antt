@@ -1,7 +1,4 @@
 use Rattle.res_names.proofs.Cases.{marks}
-use native.Mathlib.Omega.{arith}
-use mathlib.Core.Path.{◌≡◌, refl, sym, ◌∙◌, ap, subst}
-use borrow.Author.Rules.{rules}
 use Rattle.res_names.proofs.mark_use.Goals as goal
 
 pub returns-then-w-u : goal.returns-then-w-u

@@ -1,9 +1,5 @@
 use borrow.Author.Rules.{rules}
-use Prim.Native.Nat.{◌-◌}
-use Rattle.res_scope.specs.Names.{same_number}
-use Rattle.res_names.proofs.Folds.{Operands, operands, operands_same}
-use native.Mathlib.Omega.{arith}
-use mathlib.Core.Path.{◌≡◌, refl, sym, ◌∙◌, ap, subst}
+use Rattle.res_names.proofs.Folds.{operands, operands_same}
 use Rattle.res_names.proofs.operands_part.Goals as goal
 
 pub loop-i-init : goal.loop-i-init

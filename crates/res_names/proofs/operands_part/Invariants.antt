@@ -1,9 +1,6 @@
-use borrow.Author.Rules.{rules}
 use Prim.Native.Nat.{◌-◌}
 use Rattle.res_scope.specs.Names.{same_number}
-use Rattle.res_names.proofs.Folds.{Operands, operands, operands_same}
-use native.Mathlib.Omega.{arith}
-use mathlib.Core.Path.{◌≡◌, refl, sym, ◌∙◌, ap, subst}
+use Rattle.res_names.proofs.Folds.{Operands}
 use Rattle.res_names.proofs.operands_part.Given as goal
 
 abbrev pub invariant-loop-i : goal.invariant-loop-i

@@ -1,9 +1,6 @@
-use borrow.Author.Rules.{rules}
 use Prim.Native.Nat.{◌-◌}
 use Rattle.res_scope.specs.Names.{same_number}
-use Rattle.res_names.proofs.Folds.{Parameters, parameters}
-use native.Mathlib.Omega.{arith}
-use mathlib.Core.Path.{◌≡◌, refl, sym, ◌∙◌, ap, subst}
+use Rattle.res_names.proofs.Folds.{Parameters}
 use Rattle.res_names.proofs.parameters_fault.Given as goal
 
 abbrev pub invariant-loop-q : goal.invariant-loop-q

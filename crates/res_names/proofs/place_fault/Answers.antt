@@ -1,7 +1,4 @@
 use Rattle.res_names.proofs.Cases.{gotos}
-use native.Mathlib.Omega.{arith}
-use mathlib.Core.Path.{◌≡◌, refl, sym, ◌∙◌, ap, subst}
-use borrow.Author.Rules.{rules}
 use Rattle.res_names.proofs.place_fault.Goals as goal
 
 pub returns-then-scope_at : goal.returns-then-scope_at

@@ -1,7 +1,4 @@
 use Rattle.res_names.proofs.Cases.{marks}
-use native.Mathlib.Omega.{arith}
-use mathlib.Core.Path.{◌≡◌, refl, sym, ◌∙◌, ap, subst}
-use borrow.Author.Rules.{rules}
 use Rattle.res_names.proofs.put_use.Goals as goal
 
 pub returns-then-u-w-eq0 : goal.returns-then-u-w-eq0

@@ -1,7 +1,4 @@
 use Rattle.res_names.proofs.Cases.{sets}
-use native.Mathlib.Omega.{arith}
-use mathlib.Core.Path.{◌≡◌, refl, sym, ◌∙◌, ap, subst}
-use borrow.Author.Rules.{rules}
 use Rattle.res_names.proofs.set_fault.Goals as goal
 
 pub returns-in-Let : goal.returns-in-Let

@@ -1,7 +1,5 @@
 use Rattle.res_names.proofs.Cases.{statement-is}
 use Rattle.res_scope.proofs.Cases.{first-low}
-use native.Mathlib.Omega.{arith}
-use mathlib.Core.Path.{◌≡◌, refl, sym, ◌∙◌, ap, subst}
 use borrow.Author.Rules.{rules}
 use Rattle.res_names.proofs.statement_part.Goals as goal
 

@@ -1,9 +1,5 @@
 use borrow.Author.Rules.{rules}
-use Prim.Native.Nat.{◌-◌}
-use Rattle.res_scope.specs.Names.{same_number}
-use Rattle.res_names.proofs.Folds.{Statements, statements, statements-same}
-use native.Mathlib.Omega.{arith}
-use mathlib.Core.Path.{◌≡◌, refl, sym, ◌∙◌, ap, subst}
+use Rattle.res_names.proofs.Folds.{statements, statements-same}
 use Rattle.res_names.proofs.statements_part.Goals as goal
 
 pub loop-r-init : goal.loop-r-init

@@ -1,7 +1,4 @@
 use Rattle.res_names.proofs.Cases.{values}
-use native.Mathlib.Omega.{arith}
-use mathlib.Core.Path.{◌≡◌, refl, sym, ◌∙◌, ap, subst}
-use borrow.Author.Rules.{rules}
 use Rattle.res_names.proofs.value_fault.Goals as goal
 
 pub returns-in-Let : goal.returns-in-Let

@@ -1,7 +1,4 @@
 use Rattle.res_rows.proofs.Cases.{destinations}
-use native.Mathlib.Omega.{arith}
-use mathlib.Core.Path.{◌≡◌, refl, sym, ◌∙◌, ap, subst}
-use borrow.Author.Rules.{rules}
 use Rattle.res_rows.proofs.a_of.Goals as goal
 
 pub returns-then-kind-eq-SET : goal.returns-then-kind-eq-SET

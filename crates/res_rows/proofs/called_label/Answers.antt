@@ -1,7 +1,4 @@
 use Rattle.res_rows.proofs.Cases.{calling}
-use native.Mathlib.Omega.{arith}
-use mathlib.Core.Path.{◌≡◌, refl, sym, ◌∙◌, ap, subst}
-use borrow.Author.Rules.{rules}
 use Rattle.res_rows.proofs.called_label.Goals as goal
 
 pub returns-then-label_kind-eq-IMPORT : goal.returns-then-label_kind-eq-IMPORT

@@ -1,7 +1,4 @@
 use Rattle.res_rows.specs.Rows.{callee_target}
-use native.Mathlib.Omega.{arith}
-use mathlib.Core.Path.{◌≡◌, refl, sym, ◌∙◌, ap, subst}
-use borrow.Author.Rules.{rules}
 use Rattle.res_rows.proofs.callee_target.Goals as goal
 
 pub returns-in-Let : goal.returns-in-Let

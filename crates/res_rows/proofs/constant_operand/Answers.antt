@@ -1,8 +1,5 @@
-use borrow.Author.Rules.{rules}
 use Rattle.base_prelude.proofs.Choice.{tests}
 use Rattle.res_rows.specs.Rows.{constant_operand}
-use native.Mathlib.Omega.{arith}
-use mathlib.Core.Path.{◌≡◌, refl, sym, ◌∙◌, ap, subst}
 use Rattle.res_rows.proofs.constant_operand.Goals as goal
 
 pub returns-then-kind-eq-INTEGER : goal.returns-then-kind-eq-INTEGER

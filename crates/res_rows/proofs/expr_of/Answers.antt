@@ -1,7 +1,4 @@
 use Rattle.res_rows.proofs.Cases.{expressing}
-use native.Mathlib.Omega.{arith}
-use mathlib.Core.Path.{◌≡◌, refl, sym, ◌∙◌, ap, subst}
-use borrow.Author.Rules.{rules}
 use Rattle.res_rows.proofs.expr_of.Goals as goal
 
 pub returns-then-i-eq0 : goal.returns-then-i-eq0

@@ -1,6 +1,4 @@
 use Rattle.res_rows.specs.Rows.{label_number}
-use native.Mathlib.Omega.{arith}
-use mathlib.Core.Path.{◌≡◌, refl, sym, ◌∙◌, ap, subst}
 use borrow.Author.Rules.{rules}
 use Rattle.res_rows.proofs.label_number.Goals as goal
 

@@ -1,7 +1,4 @@
 use Rattle.prog_tables.specs.Statement.{operand_kind}
-use native.Mathlib.Omega.{arith}
-use mathlib.Core.Path.{◌≡◌, refl, sym, ◌∙◌, ap, subst}
-use borrow.Author.Rules.{rules}
 use Rattle.res_rows.proofs.operand_kind.Goals as goal
 
 pub returns-in-Constant : goal.returns-in-Constant

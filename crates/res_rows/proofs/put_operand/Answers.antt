@@ -1,7 +1,6 @@
 use lib.ListN.{length-set}
 use Rattle.res_rows.proofs.Tables.{operand-put}
 use native.Mathlib.Omega.{arith}
-use mathlib.Core.Path.{◌≡◌, refl, sym, ◌∙◌, ap, subst}
 use borrow.Author.Rules.{rules}
 use Rattle.res_rows.proofs.put_operand.Goals as goal
 

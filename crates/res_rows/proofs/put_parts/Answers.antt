@@ -1,6 +1,4 @@
 use Rattle.res_rows.proofs.Tables.{parts-put}
-use native.Mathlib.Omega.{arith}
-use mathlib.Core.Path.{◌≡◌, refl, sym, ◌∙◌, ap, subst}
 use borrow.Author.Rules.{rules}
 use Rattle.res_rows.proofs.put_parts.Goals as goal
 

@@ -1,9 +1,6 @@
-use borrow.Author.Rules.{rules}
 use Rattle.res_scope.specs.Names.{same_number}
 use Prim.Native.Nat.{◌-◌}
-use Rattle.res_rows.proofs.Tables.{Slots, slotting, slots-room, slots_same}
-use native.Mathlib.Omega.{arith}
-use mathlib.Core.Path.{◌≡◌, refl, sym, ◌∙◌, ap, subst}
+use Rattle.res_rows.proofs.Tables.{Slots}
 use Rattle.res_rows.proofs.put_slots.Given as goal
 
 abbrev pub invariant-loop-j : goal.invariant-loop-j

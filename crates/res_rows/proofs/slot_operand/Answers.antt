@@ -1,7 +1,4 @@
 use Rattle.res_rows.proofs.Cases.{slots}
-use native.Mathlib.Omega.{arith}
-use mathlib.Core.Path.{◌≡◌, refl, sym, ◌∙◌, ap, subst}
-use borrow.Author.Rules.{rules}
 use Rattle.res_rows.proofs.slot_operand.Goals as goal
 
 pub returns-then-j-count : goal.returns-then-j-count

@@ -1,7 +1,4 @@
 use Rattle.res_rows.proofs.Cases.{operands}
-use native.Mathlib.Omega.{arith}
-use mathlib.Core.Path.{◌≡◌, refl, sym, ◌∙◌, ap, subst}
-use borrow.Author.Rules.{rules}
 use Rattle.res_rows.proofs.token_operand.Goals as goal
 
 pub returns-then-kind-eq-SYMBOL : goal.returns-then-kind-eq-SYMBOL

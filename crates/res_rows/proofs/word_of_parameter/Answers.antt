@@ -1,6 +1,4 @@
 use Rattle.res_rows.specs.Rows.{word_of_parameter}
-use native.Mathlib.Omega.{arith}
-use mathlib.Core.Path.{◌≡◌, refl, sym, ◌∙◌, ap, subst}
 use borrow.Author.Rules.{rules}
 use Rattle.res_rows.proofs.word_of_parameter.Goals as goal
 

@@ -1,7 +1,5 @@
 use Rattle.res_scope.proofs.Cases.{first-low}
 use Rattle.res_rows.proofs.Tables.{row_written}
-use native.Mathlib.Omega.{arith}
-use mathlib.Core.Path.{◌≡◌, refl, sym, ◌∙◌, ap, subst}
 use borrow.Author.Rules.{rules}
 use Rattle.res_rows.proofs.write_row.Goals as goal
 

@@ -1,9 +1,6 @@
-use borrow.Author.Rules.{rules}
 use Rattle.res_scope.specs.Names.{same_number}
 use Prim.Native.Nat.{◌-◌}
-use Rattle.res_rows.proofs.Tables.{Writing, writing, writing-room, writing-same}
-use native.Mathlib.Omega.{arith}
-use mathlib.Core.Path.{◌≡◌, refl, sym, ◌∙◌, ap, subst}
+use Rattle.res_rows.proofs.Tables.{Writing}
 use Rattle.res_rows.proofs.write_rows.Given as goal
 
 abbrev pub invariant-loop-r : goal.invariant-loop-r

@@ -1,7 +1,4 @@
 use Rattle.res_scope.proofs.Cases.{parting}
-use native.Mathlib.Omega.{arith}
-use mathlib.Core.Path.{◌≡◌, refl, sym, ◌∙◌, ap, subst}
-use borrow.Author.Rules.{rules}
 use Rattle.res_scope.proofs.expression_parts.Goals as goal
 
 pub returns-then-is_name : goal.returns-then-is_name

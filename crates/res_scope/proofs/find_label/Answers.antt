@@ -1,10 +1,6 @@
 use borrow.Author.Rules.{rules}
-use Prim.Native.Nat.{◌-◌, ◌+◌}
-use Rattle.res_scope.specs.Names.{same_number, label_named}
-use Rattle.res_scope.proofs.Searches.{Upward, upward}
+use Rattle.res_scope.proofs.Searches.{upward}
 use Rattle.res_scope.proofs.Cases.{label-of, label_same}
-use native.Mathlib.Omega.{arith}
-use mathlib.Core.Path.{◌≡◌, refl, sym, ◌∙◌, ap, subst}
 use Rattle.res_scope.proofs.find_label.Goals as goal
 
 pub loop-j-init : goal.loop-j-init

@@ -1,10 +1,6 @@
-use borrow.Author.Rules.{rules}
-use Prim.Native.Nat.{◌-◌, ◌+◌}
+use Prim.Native.Nat.{◌-◌}
 use Rattle.res_scope.specs.Names.{same_number, label_named}
-use Rattle.res_scope.proofs.Searches.{Upward, upward}
-use Rattle.res_scope.proofs.Cases.{label-of, label_same}
-use native.Mathlib.Omega.{arith}
-use mathlib.Core.Path.{◌≡◌, refl, sym, ◌∙◌, ap, subst}
+use Rattle.res_scope.proofs.Searches.{Upward}
 use Rattle.res_scope.proofs.find_label.Given as goal
 
 abbrev pub invariant-loop-j : goal.invariant-loop-j

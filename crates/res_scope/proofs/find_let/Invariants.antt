@@ -1,10 +1,6 @@
-use borrow.Author.Rules.{rules}
-use Prim.Native.Nat.{◌-◌, ◌+◌}
+use Prim.Native.Nat.{◌-◌}
 use Rattle.res_scope.specs.Names.{same_number, let_named}
-use Rattle.res_scope.proofs.Searches.{Downward, downward}
-use Rattle.res_scope.proofs.Cases.{let-of}
-use native.Mathlib.Omega.{arith}
-use mathlib.Core.Path.{◌≡◌, refl, sym, ◌∙◌, ap, subst}
+use Rattle.res_scope.proofs.Searches.{Downward}
 use Rattle.res_scope.proofs.find_let.Given as goal
 
 abbrev pub invariant-loop-m : goal.invariant-loop-m

@@ -1,9 +1,5 @@
 use borrow.Author.Rules.{rules}
-use Prim.Native.Nat.{◌-◌, ◌+◌}
-use Rattle.res_scope.specs.Names.{same_number, let_here}
-use Rattle.res_scope.proofs.Searches.{Upward, upward}
-use native.Mathlib.Omega.{arith}
-use mathlib.Core.Path.{◌≡◌, refl, sym, ◌∙◌, ap, subst}
+use Rattle.res_scope.proofs.Searches.{upward}
 use Rattle.res_scope.proofs.find_let_here.Goals as goal
 
 pub loop-m-init : goal.loop-m-init

@@ -1,9 +1,6 @@
-use borrow.Author.Rules.{rules}
-use Prim.Native.Nat.{◌-◌, ◌+◌}
+use Prim.Native.Nat.{◌-◌}
 use Rattle.res_scope.specs.Names.{same_number, let_here}
-use Rattle.res_scope.proofs.Searches.{Upward, upward}
-use native.Mathlib.Omega.{arith}
-use mathlib.Core.Path.{◌≡◌, refl, sym, ◌∙◌, ap, subst}
+use Rattle.res_scope.proofs.Searches.{Upward}
 use Rattle.res_scope.proofs.find_let_here.Given as goal
 
 abbrev pub invariant-loop-m : goal.invariant-loop-m

@@ -1,10 +1,6 @@
 use borrow.Author.Rules.{rules}
-use Prim.Native.Nat.{◌-◌, ◌+◌}
-use Rattle.res_scope.specs.Names.{same_number, parameter_named}
-use Rattle.res_scope.proofs.Searches.{Upward, upward}
+use Rattle.res_scope.proofs.Searches.{upward}
 use Rattle.res_scope.proofs.Cases.{parameter-of, first-room}
-use native.Mathlib.Omega.{arith}
-use mathlib.Core.Path.{◌≡◌, refl, sym, ◌∙◌, ap, subst}
 use Rattle.res_scope.proofs.find_parameter.Goals as goal
 
 pub overflow_add-q : goal.overflow_add-q

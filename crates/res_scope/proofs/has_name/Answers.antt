@@ -1,7 +1,4 @@
 use Rattle.res_scope.proofs.Cases.{named}
-use native.Mathlib.Omega.{arith}
-use mathlib.Core.Path.{◌≡◌, refl, sym, ◌∙◌, ap, subst}
-use borrow.Author.Rules.{rules}
 use Rattle.res_scope.proofs.has_name.Goals as goal
 
 pub returns-then-kind-lt-LABEL : goal.returns-then-kind-lt-LABEL

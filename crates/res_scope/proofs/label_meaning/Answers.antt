@@ -1,8 +1,5 @@
-use borrow.Author.Rules.{rules}
 use Rattle.base_prelude.proofs.Choice.{tests}
 use Rattle.res_scope.specs.Names.{label_meaning}
-use native.Mathlib.Omega.{arith}
-use mathlib.Core.Path.{◌≡◌, refl, sym, ◌∙◌, ap, subst}
 use Rattle.res_scope.proofs.label_meaning.Goals as goal
 
 pub returns-then-j-l : goal.returns-then-j-l

@@ -1,6 +1,4 @@
 use Rattle.res_scope.proofs.Cases.{lets, first-room}
-use native.Mathlib.Omega.{arith}
-use mathlib.Core.Path.{◌≡◌, refl, sym, ◌∙◌, ap, subst}
 use borrow.Author.Rules.{rules}
 use Rattle.res_scope.proofs.let_named.Goals as goal
 

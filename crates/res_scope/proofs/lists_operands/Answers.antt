@@ -1,8 +1,5 @@
-use borrow.Author.Rules.{rules}
 use Rattle.base_prelude.proofs.Choice.{tests}
 use Rattle.res_scope.specs.Parts.{lists_operands}
-use native.Mathlib.Omega.{arith}
-use mathlib.Core.Path.{◌≡◌, refl, sym, ◌∙◌, ap, subst}
 use Rattle.res_scope.proofs.lists_operands.Goals as goal
 
 pub returns-then-kind-lt-SET_BYTE : goal.returns-then-kind-lt-SET_BYTE

@@ -1,6 +1,4 @@
 use Rattle.res_scope.proofs.Cases.{outer, first-room, parameter-room}
-use native.Mathlib.Omega.{arith}
-use mathlib.Core.Path.{◌≡◌, refl, sym, ◌∙◌, ap, subst}
 use borrow.Author.Rules.{rules}
 use Rattle.res_scope.proofs.outer_meaning.Goals as goal
 

@@ -1,7 +1,4 @@
 use Rattle.res_scope.proofs.Cases.{same_name}
-use native.Mathlib.Omega.{arith}
-use mathlib.Core.Path.{◌≡◌, refl, sym, ◌∙◌, ap, subst}
-use borrow.Author.Rules.{rules}
 use Rattle.res_scope.proofs.same_name.Goals as goal
 
 pub returns-then-has_name-2 : goal.returns-then-has_name-2

@@ -1,8 +1,5 @@
 use Rattle.res_skeleton.specs.Skeleton.{bare}
 use Rattle.parse_units.specs.Outline.{row_at}
-use native.Mathlib.Omega.{arith}
-use mathlib.Core.Path.{◌≡◌, refl, sym, ◌∙◌, ap, subst}
-use borrow.Author.Rules.{rules}
 use Rattle.res_skeleton.proofs.bare_row.Goals as goal
 
 pub returns : goal.returns

@@ -1,6 +1,4 @@
 use Rattle.res_skeleton.proofs.Cases.{skeleton-is}
-use native.Mathlib.Omega.{arith}
-use mathlib.Core.Path.{◌≡◌, refl, sym, ◌∙◌, ap, subst}
 use borrow.Author.Rules.{rules}
 use Rattle.res_skeleton.proofs.make_skeleton.Goals as goal
 

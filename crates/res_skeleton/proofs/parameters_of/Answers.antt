@@ -1,7 +1,4 @@
-use borrow.Author.Rules.{rules}
 use Rattle.res_skeleton.proofs.Cases.{parameters}
-use native.Mathlib.Omega.{arith}
-use mathlib.Core.Path.{◌≡◌, refl, sym, ◌∙◌, ap, subst}
 use Rattle.res_skeleton.proofs.parameters_of.Goals as goal
 
 pub returns-then-kind-eq-FUNCTION : goal.returns-then-kind-eq-FUNCTION

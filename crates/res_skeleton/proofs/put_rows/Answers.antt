@@ -1,8 +1,5 @@
 use borrow.Author.Rules.{rules}
-use Prim.Native.Nat.{◌-◌}
-use Rattle.res_skeleton.proofs.Cases.{Putting, putting, putting-room}
-use native.Mathlib.Omega.{arith}
-use mathlib.Core.Path.{◌≡◌, refl, sym, ◌∙◌, ap, subst}
+use Rattle.res_skeleton.proofs.Cases.{putting, putting-room}
 use Rattle.res_skeleton.proofs.put_rows.Goals as goal
 
 pub loop-n-init : goal.loop-n-init

@@ -1,8 +1,5 @@
-use borrow.Author.Rules.{rules}
 use Prim.Native.Nat.{◌-◌}
-use Rattle.res_tokens.proofs.Cases.{Clearing, clearing, clearing-room, clearing-same}
-use native.Mathlib.Omega.{arith}
-use mathlib.Core.Path.{◌≡◌, refl, sym, ◌∙◌, ap, subst}
+use Rattle.res_tokens.proofs.Cases.{Clearing}
 use Rattle.res_tokens.proofs.clear_marks.Given as goal
 
 abbrev pub invariant-loop-i : goal.invariant-loop-i

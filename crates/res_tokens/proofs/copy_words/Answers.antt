@@ -1,8 +1,5 @@
 use borrow.Author.Rules.{rules}
-use Prim.Native.Nat.{◌-◌}
-use Rattle.res_tokens.proofs.Cases.{Copying, copying, copying-room, copying-same}
-use native.Mathlib.Omega.{arith}
-use mathlib.Core.Path.{◌≡◌, refl, sym, ◌∙◌, ap, subst}
+use Rattle.res_tokens.proofs.Cases.{copying, copying-room, copying-same}
 use Rattle.res_tokens.proofs.copy_words.Goals as goal
 
 pub loop-i-init : goal.loop-i-init

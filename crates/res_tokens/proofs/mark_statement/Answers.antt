@@ -1,8 +1,4 @@
-use lib.ListN.{length-set}
 use Rattle.res_tokens.proofs.Cases.{beginning}
-use native.Mathlib.Omega.{arith}
-use mathlib.Core.Path.{◌≡◌, refl, sym, ◌∙◌, ap, subst}
-use borrow.Author.Rules.{rules}
 use Rattle.res_tokens.proofs.mark_statement.Goals as goal
 
 pub returns-then-i-n : goal.returns-then-i-n

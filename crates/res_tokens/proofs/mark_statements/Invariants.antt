@@ -1,8 +1,5 @@
-use borrow.Author.Rules.{rules}
 use Prim.Native.Nat.{◌-◌}
-use Rattle.res_tokens.proofs.Cases.{Marking, marking, marking-room, marking-same}
-use native.Mathlib.Omega.{arith}
-use mathlib.Core.Path.{◌≡◌, refl, sym, ◌∙◌, ap, subst}
+use Rattle.res_tokens.proofs.Cases.{Marking}
 use Rattle.res_tokens.proofs.mark_statements.Given as goal
 
 abbrev pub invariant-loop-r : goal.invariant-loop-r

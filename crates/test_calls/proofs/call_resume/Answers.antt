@@ -1,4 +1,3 @@
-use borrow.Author.Rules.{rules}
 use Rattle.test_calls.proofs.Cases.{call-resume-is}
 use Rattle.test_calls.proofs.call_resume.Goals as goal
 

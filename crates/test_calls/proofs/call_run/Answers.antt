@@ -1,5 +1,4 @@
 use Rattle.test_calls.proofs.Cases.{call-run-is}
-use borrow.Author.Rules.{rules}
 use Rattle.test_calls.proofs.call_run.Goals as goal
 
 pub returns : goal.returns

@@ -1,5 +1,4 @@
 use Rattle.test_calls.proofs.Cases.{call-step-is}
-use borrow.Author.Rules.{rules}
 use Rattle.test_calls.proofs.call_step.Goals as goal
 
 pub returns : goal.returns

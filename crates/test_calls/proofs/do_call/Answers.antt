@@ -1,4 +1,3 @@
-use borrow.Author.Rules.{rules}
 use Rattle.test_calls.proofs.Cases.{do-call-ways}
 use Rattle.test_calls.proofs.do_call.Goals as goal
 

@@ -1,4 +1,3 @@
-use borrow.Author.Rules.{rules}
 use Rattle.test_calls.proofs.Cases.{do-resume-is}
 use Rattle.test_calls.proofs.do_resume.Goals as goal
 

@@ -1,5 +1,4 @@
 use Rattle.test_calls.proofs.Cases.{do-run-is}
-use borrow.Author.Rules.{rules}
 use Rattle.test_calls.proofs.do_run.Goals as goal
 
 pub returns : goal.returns

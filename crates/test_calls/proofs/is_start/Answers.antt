@@ -1,5 +1,4 @@
 use Rattle.test_calls.proofs.Cases.{is-start-ways}
-use borrow.Author.Rules.{rules}
 use Rattle.test_calls.proofs.is_start.Goals as goal
 
 pub returns-then-starts_with : goal.returns-then-starts_with

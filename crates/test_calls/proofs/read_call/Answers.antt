@@ -1,5 +1,4 @@
 use Rattle.test_calls.proofs.Cases.{read-call-is}
-use borrow.Author.Rules.{rules}
 use Rattle.test_calls.proofs.read_call.Goals as goal
 
 pub returns : goal.returns

@@ -1,5 +1,4 @@
 use Rattle.test_calls.proofs.Cases.{read-name-is}
-use borrow.Author.Rules.{rules}
 use Rattle.test_calls.proofs.read_name.Goals as goal
 
 pub returns : goal.returns

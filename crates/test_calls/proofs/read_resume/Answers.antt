@@ -1,4 +1,3 @@
-use borrow.Author.Rules.{rules}
 use Rattle.test_calls.proofs.Cases.{read-resume-ways}
 use Rattle.test_calls.proofs.read_resume.Goals as goal
 

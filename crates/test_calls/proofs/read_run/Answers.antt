@@ -1,5 +1,4 @@
 use Rattle.test_calls.proofs.Cases.{read-run-ways}
-use borrow.Author.Rules.{rules}
 use Rattle.test_calls.proofs.read_run.Goals as goal
 
 pub returns-then-is_digits : goal.returns-then-is_digits

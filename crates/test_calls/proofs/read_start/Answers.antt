@@ -1,7 +1,6 @@
 use Rattle.test_state.specs.Views.{blank}
 use Rattle.test_calls.specs.Calls.{no_words}
 use Rattle.test_calls.proofs.Cases.{read-start-ways}
-use borrow.Author.Rules.{rules}
 use Rattle.test_calls.proofs.read_start.Goals as goal
 
 pub returns-then-size-ge-SOURCE : goal.returns-then-size-ge-SOURCE

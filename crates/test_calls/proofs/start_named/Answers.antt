@@ -1,5 +1,4 @@
 use Rattle.test_calls.proofs.Cases.{start-named-is}
-use borrow.Author.Rules.{rules}
 use Rattle.test_calls.proofs.start_named.Goals as goal
 
 pub returns : goal.returns

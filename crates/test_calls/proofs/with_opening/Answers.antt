@@ -1,5 +1,4 @@
 use Rattle.test_calls.proofs.Cases.{with-opening-is}
-use borrow.Author.Rules.{rules}
 use Rattle.test_calls.proofs.with_opening.Goals as goal
 
 pub returns : goal.returns

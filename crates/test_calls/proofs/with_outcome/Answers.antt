@@ -1,5 +1,4 @@
 use Rattle.test_calls.proofs.Cases.{with-outcome-is}
-use borrow.Author.Rules.{rules}
 use Rattle.test_calls.proofs.with_outcome.Goals as goal
 
 pub returns : goal.returns

@@ -1,4 +1,3 @@
-use borrow.Author.Rules.{rules}
 use Rattle.test_calls.proofs.Cases.{with-resumed-is}
 use Rattle.test_calls.proofs.with_resumed.Goals as goal
 

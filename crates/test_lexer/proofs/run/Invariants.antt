@@ -1,4 +1,3 @@
-use borrow.Author.Rules.{rules}
 use Prim.Native.Nat.{◌-◌, ◌≤◌, suc}
 use lib.ListN.{length}
 use Rattle.test_lexer.proofs.run.Given as goal

@@ -1,6 +1,5 @@
 use Rattle.base_prelude.proofs.Choice.{tests}
 use Rattle.test_lines.specs.Sources.{add_byte}
-use Rattle.std.proofs.Common.{◌≡◌, sym, refl, ap, ◌∙◌, subst, arith, rules}
 use Rattle.test_lines.proofs.add_byte.Goals as goal
 
 pub returns-then-size-lt-SOURCE : goal.returns-then-size-lt-SOURCE

@@ -1,5 +1,4 @@
 use Rattle.test_lines.proofs.Cases.{line-added}
-use Rattle.std.proofs.Common.{◌≡◌, sym, refl, ap, ◌∙◌, subst, arith, rules}
 use Rattle.test_lines.proofs.add_line.Goals as goal
 
 pub returns : goal.returns

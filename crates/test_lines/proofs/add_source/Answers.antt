@@ -1,5 +1,4 @@
 use Rattle.test_lines.proofs.Cases.{adds}
-use Rattle.std.proofs.Common.{◌≡◌, sym, refl, ap, ◌∙◌, subst, arith, rules}
 use Rattle.test_lines.proofs.add_source.Goals as goal
 
 pub returns-then-starts_with : goal.returns-then-starts_with

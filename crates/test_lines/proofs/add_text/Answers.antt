@@ -1,6 +1,4 @@
-use Rattle.std.proofs.Common.{◌≡◌, ◌-◌, length, sym, refl, ap, ◌∙◌, subst, arith, rules}
-use Rattle.test_lines.specs.Sources.{source}
-use Rattle.test_lines.proofs.Loops.{Texting, texting}
+use Rattle.test_lines.proofs.Loops.{texting}
 use Rattle.test_lines.proofs.add_text.Goals as goal
 
 pub loop-i-init : goal.loop-i-init

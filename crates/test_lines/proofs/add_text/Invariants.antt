@@ -1,6 +1,6 @@
-use Rattle.std.proofs.Common.{◌≡◌, ◌-◌, length, sym, refl, ap, ◌∙◌, subst, arith, rules}
+use Rattle.std.proofs.Common.{◌-◌, length}
 use Rattle.test_lines.specs.Sources.{source}
-use Rattle.test_lines.proofs.Loops.{Texting, texting}
+use Rattle.test_lines.proofs.Loops.{Texting}
 use Rattle.test_lines.proofs.add_text.Given as goal
 
 abbrev pub invariant-loop-i : goal.invariant-loop-i

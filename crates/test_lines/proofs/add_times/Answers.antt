@@ -1,6 +1,4 @@
-use Rattle.std.proofs.Common.{◌≡◌, ◌-◌, sym, refl, ap, ◌∙◌, subst, arith, rules}
-use Rattle.test_lines.specs.Sources.{source}
-use Rattle.test_lines.proofs.Loops.{Repeating, repeating}
+use Rattle.test_lines.proofs.Loops.{repeating}
 use Rattle.test_lines.proofs.add_times.Goals as goal
 
 pub loop-k-init : goal.loop-k-init

@@ -1,6 +1,6 @@
-use Rattle.std.proofs.Common.{◌≡◌, ◌-◌, sym, refl, ap, ◌∙◌, subst, arith, rules}
+use Rattle.std.proofs.Common.{◌-◌}
 use Rattle.test_lines.specs.Sources.{source}
-use Rattle.test_lines.proofs.Loops.{Repeating, repeating}
+use Rattle.test_lines.proofs.Loops.{Repeating}
 use Rattle.test_lines.proofs.add_times.Given as goal
 
 abbrev pub invariant-loop-k : goal.invariant-loop-k

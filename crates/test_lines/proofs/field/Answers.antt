@@ -1,5 +1,4 @@
 use Rattle.test_lines.specs.Fields.{field_of}
-use Rattle.std.proofs.Common.{◌≡◌, sym, refl, ap, ◌∙◌, subst, arith, rules}
 use Rattle.test_lines.proofs.field.Goals as goal
 
 pub returns : goal.returns

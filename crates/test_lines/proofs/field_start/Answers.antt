@@ -1,5 +1,5 @@
-use Rattle.std.proofs.Common.{◌≡◌, ◌-◌, length, sym, refl, ap, ◌∙◌, subst, arith, rules}
-use Rattle.test_lines.proofs.Loops.{Fielding, fielding}
+use Rattle.std.proofs.Common.{rules}
+use Rattle.test_lines.proofs.Loops.{fielding}
 use Rattle.test_lines.proofs.field_start.Goals as goal
 
 pub loop-i-init : goal.loop-i-init

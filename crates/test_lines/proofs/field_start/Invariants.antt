@@ -1,5 +1,5 @@
-use Rattle.std.proofs.Common.{◌≡◌, ◌-◌, length, sym, refl, ap, ◌∙◌, subst, arith, rules}
-use Rattle.test_lines.proofs.Loops.{Fielding, fielding}
+use Rattle.std.proofs.Common.{◌-◌, length}
+use Rattle.test_lines.proofs.Loops.{Fielding}
 use Rattle.test_lines.proofs.field_start.Given as goal
 
 abbrev pub invariant-loop-i : goal.invariant-loop-i

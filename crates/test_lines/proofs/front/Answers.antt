@@ -1,5 +1,4 @@
 use Rattle.test_lines.proofs.Cases.{fronts}
-use Rattle.std.proofs.Common.{◌≡◌, sym, refl, ap, ◌∙◌, subst, arith, rules}
 use Rattle.test_lines.proofs.front.Goals as goal
 
 pub returns-then-size-text : goal.returns-then-size-text

@@ -1,5 +1,4 @@
-use Rattle.std.proofs.Common.{◌≡◌, ◌-◌, sym, refl, ap, ◌∙◌, subst, arith, rules}
-use Rattle.test_lines.proofs.Loops.{Checking, checking}
+use Rattle.test_lines.proofs.Loops.{checking}
 use Rattle.test_lines.proofs.has_numbers.Goals as goal
 
 pub loop-k-init : goal.loop-k-init

@@ -1,5 +1,5 @@
-use Rattle.std.proofs.Common.{◌≡◌, ◌-◌, sym, refl, ap, ◌∙◌, subst, arith, rules}
-use Rattle.test_lines.proofs.Loops.{Checking, checking}
+use Rattle.std.proofs.Common.{◌-◌}
+use Rattle.test_lines.proofs.Loops.{Checking}
 use Rattle.test_lines.proofs.has_numbers.Given as goal
 
 abbrev pub invariant-loop-k : goal.invariant-loop-k

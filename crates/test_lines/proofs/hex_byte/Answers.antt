@@ -1,6 +1,5 @@
 use Rattle.base_prelude.proofs.Choice.{tests}
 use Rattle.test_lines.specs.Sources.{hex_byte}
-use Rattle.std.proofs.Common.{◌≡◌, sym, refl, ap, ◌∙◌, subst, arith, rules}
 use Rattle.test_lines.proofs.hex_byte.Goals as goal
 
 pub returns-then-low-lt16 : goal.returns-then-low-lt16

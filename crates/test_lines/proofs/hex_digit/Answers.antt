@@ -1,6 +1,6 @@
 use Rattle.base_prelude.proofs.Choice.{tests}
 use Rattle.test_lines.specs.Sources.{hex_of}
-use Rattle.std.proofs.Common.{◌≡◌, sym, refl, ap, ◌∙◌, subst, arith, rules}
+use Rattle.std.proofs.Common.{arith}
 use Rattle.test_lines.proofs.hex_digit.Goals as goal
 
 pub returns-then-c-lt48 : goal.returns-then-c-lt48

@@ -1,5 +1,4 @@
 use Rattle.test_lines.proofs.Cases.{comments}
-use Rattle.std.proofs.Common.{◌≡◌, sym, refl, ap, ◌∙◌, subst, arith, rules}
 use Rattle.test_lines.proofs.is_comment.Goals as goal
 
 pub returns-then-l-eq0 : goal.returns-then-l-eq0

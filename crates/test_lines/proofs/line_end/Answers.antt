@@ -1,5 +1,5 @@
-use Rattle.std.proofs.Common.{◌≡◌, ◌-◌, length, sym, refl, ap, ◌∙◌, subst, arith, rules}
-use Rattle.test_lines.proofs.Loops.{Lining, lining}
+use Rattle.std.proofs.Common.{rules}
+use Rattle.test_lines.proofs.Loops.{lining}
 use Rattle.test_lines.proofs.line_end.Goals as goal
 
 pub loop-i-init : goal.loop-i-init

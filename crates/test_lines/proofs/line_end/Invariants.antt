@@ -1,5 +1,5 @@
-use Rattle.std.proofs.Common.{◌≡◌, ◌-◌, length, sym, refl, ap, ◌∙◌, subst, arith, rules}
-use Rattle.test_lines.proofs.Loops.{Lining, lining}
+use Rattle.std.proofs.Common.{◌-◌, length}
+use Rattle.test_lines.proofs.Loops.{Lining}
 use Rattle.test_lines.proofs.line_end.Given as goal
 
 abbrev pub invariant-loop-i : goal.invariant-loop-i

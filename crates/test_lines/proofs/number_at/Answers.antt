@@ -1,5 +1,4 @@
 use Rattle.test_lines.proofs.Cases.{numbers}
-use Rattle.std.proofs.Common.{◌≡◌, sym, refl, ap, ◌∙◌, subst, arith, rules}
 use Rattle.test_lines.proofs.number_at.Goals as goal
 
 pub returns-then-c-gt57 : goal.returns-then-c-gt57

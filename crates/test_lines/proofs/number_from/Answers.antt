@@ -1,5 +1,4 @@
-use Rattle.std.proofs.Common.{◌≡◌, ◌-◌, length, sym, refl, ap, ◌∙◌, subst, arith, rules}
-use Rattle.test_lines.proofs.Loops.{Numbering, numbering}
+use Rattle.test_lines.proofs.Loops.{numbering}
 use Rattle.test_lines.proofs.number_from.Goals as goal
 
 pub loop-i-init : goal.loop-i-init

@@ -1,5 +1,4 @@
-use Rattle.std.proofs.Common.{◌≡◌, ◌-◌, length, sym, refl, ap, ◌∙◌, subst, arith, rules}
-use Rattle.test_lines.proofs.Loops.{Placing, placing}
+use Rattle.test_lines.proofs.Loops.{placing}
 use Rattle.test_lines.proofs.place_of.Goals as goal
 
 pub loop-i-init : goal.loop-i-init

@@ -1,4 +1,4 @@
-use Rattle.std.proofs.Common.{◌≡◌, sym, refl, ap, ◌∙◌, subst, arith, rules}
+use Rattle.std.proofs.Common.{rules}
 use Rattle.base_prelude.proofs.Choice.{tests}
 use Rattle.test_lines.specs.Sources.{spelled_size}
 use Rattle.test_lines.proofs.spelled_size.Goals as goal

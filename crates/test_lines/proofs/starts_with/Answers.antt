@@ -1,5 +1,4 @@
-use Rattle.std.proofs.Common.{◌≡◌, ◌-◌, length, sym, refl, ap, ◌∙◌, subst, arith, rules}
-use Rattle.test_lines.proofs.Loops.{Prefixing, prefixing}
+use Rattle.test_lines.proofs.Loops.{prefixing}
 use Rattle.test_lines.proofs.starts_with.Goals as goal
 
 pub loop-i-init : goal.loop-i-init

@@ -1,5 +1,5 @@
-use Rattle.std.proofs.Common.{◌≡◌, ◌-◌, length, sym, refl, ap, ◌∙◌, subst, arith, rules}
-use Rattle.test_lines.proofs.Loops.{Prefixing, prefixing}
+use Rattle.std.proofs.Common.{◌-◌, length}
+use Rattle.test_lines.proofs.Loops.{Prefixing}
 use Rattle.test_lines.proofs.starts_with.Given as goal
 
 abbrev pub invariant-loop-i : goal.invariant-loop-i

@@ -1,5 +1,4 @@
 use Rattle.test_lines.proofs.Cases.{bytes}
-use Rattle.std.proofs.Common.{◌≡◌, sym, refl, ap, ◌∙◌, subst, arith, rules}
 use Rattle.test_lines.proofs.text_byte.Goals as goal
 
 pub returns-then-c-eq126 : goal.returns-then-c-eq126

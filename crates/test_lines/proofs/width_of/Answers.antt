@@ -1,4 +1,3 @@
-use Rattle.std.proofs.Common.{◌≡◌, sym, refl, ap, ◌∙◌, subst, arith, rules}
 use Rattle.base_prelude.proofs.Choice.{tests}
 use Rattle.test_lines.specs.Lines.{width_of}
 use Rattle.test_lines.proofs.width_of.Goals as goal

@@ -1,5 +1,4 @@
 use Rattle.test_lines.proofs.Cases.{digits}
-use Rattle.std.proofs.Common.{◌≡◌, sym, refl, ap, ◌∙◌, subst, arith, rules}
 use Rattle.test_lines.proofs.with_digit.Goals as goal
 
 pub returns-then-c-lt48 : goal.returns-then-c-lt48

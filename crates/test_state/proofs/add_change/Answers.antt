@@ -1,5 +1,4 @@
 use Rattle.test_state.proofs.Cases.{add-change-ways}
-use borrow.Author.Rules.{rules}
 use Rattle.test_state.proofs.add_change.Goals as goal
 
 pub returns-then-i-n : goal.returns-then-i-n

@@ -1,6 +1,5 @@
 use Rattle.test_state.specs.Views.{blank}
 use Rattle.test_state.proofs.Cases.{compare-ways}
-use borrow.Author.Rules.{rules}
 use Rattle.test_state.proofs.compare.Goals as goal
 
 pub returns-then-n-ge-SOURCE : goal.returns-then-n-ge-SOURCE

@@ -1,5 +1,4 @@
 use Rattle.test_state.proofs.Cases.{compare-texts-ways}
-use borrow.Author.Rules.{rules}
 use Rattle.test_state.proofs.compare_texts.Goals as goal
 
 pub returns-then-same : goal.returns-then-same

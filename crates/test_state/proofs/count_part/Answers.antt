@@ -1,5 +1,4 @@
 use Rattle.test_state.proofs.Cases.{count-part-ways}
-use borrow.Author.Rules.{rules}
 use Rattle.test_state.proofs.count_part.Goals as goal
 
 pub returns-then-has_word : goal.returns-then-has_word

@@ -1,5 +1,4 @@
 use Rattle.test_state.proofs.Cases.{first-is}
-use borrow.Author.Rules.{rules}
 use Rattle.test_state.proofs.first.Goals as goal
 
 pub returns : goal.returns

@@ -1,5 +1,4 @@
 use Rattle.test_state.proofs.Cases.{lend-bytes-ways}
-use borrow.Author.Rules.{rules}
 use Rattle.test_state.proofs.lend_bytes.Goals as goal
 
 pub returns-then-n-gt32768 : goal.returns-then-n-gt32768

@@ -1,5 +1,4 @@
 use Rattle.test_state.proofs.Cases.{lend-labels-ways}
-use borrow.Author.Rules.{rules}
 use Rattle.test_state.proofs.lend_labels.Goals as goal
 
 pub returns-then-n-gt1024 : goal.returns-then-n-gt1024

@@ -1,5 +1,4 @@
 use Rattle.test_state.proofs.Cases.{lend-names-ways}
-use borrow.Author.Rules.{rules}
 use Rattle.test_state.proofs.lend_names.Goals as goal
 
 pub returns-then-n-gt16384 : goal.returns-then-n-gt16384

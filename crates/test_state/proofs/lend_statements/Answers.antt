@@ -1,5 +1,4 @@
 use Rattle.test_state.proofs.Cases.{lend-statements-ways}
-use borrow.Author.Rules.{rules}
 use Rattle.test_state.proofs.lend_statements.Goals as goal
 
 pub returns-then-n-gt27648 : goal.returns-then-n-gt27648

@@ -1,5 +1,4 @@
 use Rattle.test_state.proofs.Cases.{open-body-ways}
-use borrow.Author.Rules.{rules}
 use Rattle.test_state.proofs.open_body.Goals as goal
 
 pub returns-then-q : goal.returns-then-q

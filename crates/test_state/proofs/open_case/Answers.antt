@@ -1,5 +1,4 @@
 use Rattle.test_state.proofs.Cases.{opened-is}
-use borrow.Author.Rules.{rules}
 use Rattle.test_state.proofs.open_case.Goals as goal
 
 pub returns : goal.returns

@@ -1,5 +1,4 @@
 use Rattle.test_state.proofs.Cases.{poke-label-ways}
-use borrow.Author.Rules.{rules}
 use Rattle.test_state.proofs.poke_label.Goals as goal
 
 pub returns-then-row-ge256 : goal.returns-then-row-ge256

@@ -1,5 +1,4 @@
 use Rattle.test_state.proofs.Cases.{poke-name-ways}
-use borrow.Author.Rules.{rules}
 use Rattle.test_state.proofs.poke_name.Goals as goal
 
 pub returns-then-row-ge256 : goal.returns-then-row-ge256

@@ -1,5 +1,4 @@
 use Rattle.test_state.proofs.Cases.{poke-record-ways}
-use borrow.Author.Rules.{rules}
 use Rattle.test_state.proofs.poke_record.Goals as goal
 
 pub returns-then-is_record_poke : goal.returns-then-is_record_poke

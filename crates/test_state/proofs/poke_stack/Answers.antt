@@ -1,5 +1,4 @@
 use Rattle.test_state.proofs.Cases.{poke-stack-ways}
-use borrow.Author.Rules.{rules}
 use Rattle.test_state.proofs.poke_stack.Goals as goal
 
 pub returns-then-at-ge16385 : goal.returns-then-at-ge16385

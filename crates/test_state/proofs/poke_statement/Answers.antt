@@ -1,5 +1,4 @@
 use Rattle.test_state.proofs.Cases.{poke-statement-ways}
-use borrow.Author.Rules.{rules}
 use Rattle.test_state.proofs.poke_statement.Goals as goal
 
 pub returns-then-row-ge1024 : goal.returns-then-row-ge1024

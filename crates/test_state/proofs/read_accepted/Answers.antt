@@ -1,5 +1,4 @@
 use Rattle.test_state.proofs.Cases.{read-accepted-ways}
-use borrow.Author.Rules.{rules}
 use Rattle.test_state.proofs.read_accepted.Goals as goal
 
 pub returns-then-starts_with : goal.returns-then-starts_with

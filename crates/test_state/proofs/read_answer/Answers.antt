@@ -1,5 +1,4 @@
 use Rattle.test_state.proofs.Cases.{read-answer-ways}
-use borrow.Author.Rules.{rules}
 use Rattle.test_state.proofs.read_answer.Goals as goal
 
 pub returns-then-size-eq0 : goal.returns-then-size-eq0

@@ -1,5 +1,4 @@
 use Rattle.test_state.proofs.Cases.{read-body-is}
-use borrow.Author.Rules.{rules}
 use Rattle.test_state.proofs.read_body.Goals as goal
 
 pub returns : goal.returns

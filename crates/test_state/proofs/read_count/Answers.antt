@@ -1,5 +1,4 @@
 use Rattle.test_state.proofs.Cases.{read-count-ways}
-use borrow.Author.Rules.{rules}
 use Rattle.test_state.proofs.read_count.Goals as goal
 
 pub returns-then-has_values : goal.returns-then-has_values

@@ -1,5 +1,4 @@
 use Rattle.test_state.proofs.Cases.{read-lend-ways}
-use borrow.Author.Rules.{rules}
 use Rattle.test_state.proofs.read_lend.Goals as goal
 
 pub returns-then-count_fields-ne3 : goal.returns-then-count_fields-ne3

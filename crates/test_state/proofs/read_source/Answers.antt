@@ -1,5 +1,4 @@
 use Rattle.test_state.proofs.Cases.{read-source-ways}
-use borrow.Author.Rules.{rules}
 use Rattle.test_state.proofs.read_source.Goals as goal
 
 pub returns-then-q : goal.returns-then-q

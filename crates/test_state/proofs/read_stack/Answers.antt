@@ -1,5 +1,4 @@
 use Rattle.test_state.proofs.Cases.{read-stack-ways}
-use borrow.Author.Rules.{rules}
 use Rattle.test_state.proofs.read_stack.Goals as goal
 
 pub returns-then-count_fields-ne2 : goal.returns-then-count_fields-ne2

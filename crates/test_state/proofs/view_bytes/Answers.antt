@@ -1,5 +1,4 @@
 use Rattle.test_state.proofs.Cases.{view-bytes-ways}
-use borrow.Author.Rules.{rules}
 use Rattle.test_state.proofs.view_bytes.Goals as goal
 
 pub returns-then-at-ge65537 : goal.returns-then-at-ge65537

@@ -1,5 +1,4 @@
 use Rattle.test_state.proofs.Cases.{with-memory-is}
-use borrow.Author.Rules.{rules}
 use Rattle.test_state.proofs.with_memory.Goals as goal
 
 pub returns : goal.returns

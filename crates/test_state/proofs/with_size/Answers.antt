@@ -1,5 +1,4 @@
 use Rattle.test_state.proofs.Cases.{with-size-ways}
-use borrow.Author.Rules.{rules}
 use Rattle.test_state.proofs.with_size.Goals as goal
 
 pub returns-then-q : goal.returns-then-q

@@ -1,5 +1,4 @@
 use Rattle.test_state.proofs.Cases.{with-stack-is}
-use borrow.Author.Rules.{rules}
 use Rattle.test_state.proofs.with_stack.Goals as goal
 
 pub returns : goal.returns

@@ -1,6 +1,4 @@
-use Rattle.std.proofs.Common.{◌-◌, length, rules}
-use Rattle.test_lines.specs.Sources.{source}
-use Rattle.test_text.proofs.Loops.{Adding, adding}
+use Rattle.test_text.proofs.Loops.{adding}
 use Rattle.test_text.proofs.add_all.Goals as goal
 
 pub loop-i-init : goal.loop-i-init

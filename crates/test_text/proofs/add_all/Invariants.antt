@@ -1,6 +1,6 @@
-use Rattle.std.proofs.Common.{◌-◌, length, rules}
+use Rattle.std.proofs.Common.{◌-◌, length}
 use Rattle.test_lines.specs.Sources.{source}
-use Rattle.test_text.proofs.Loops.{Adding, adding}
+use Rattle.test_text.proofs.Loops.{Adding}
 use Rattle.test_text.proofs.add_all.Given as goal
 
 abbrev pub invariant-loop-i : goal.invariant-loop-i

@@ -1,5 +1,4 @@
 use Rattle.test_text.proofs.Cases.{brokens}
-use Rattle.std.proofs.Common.{rules}
 use Rattle.test_text.proofs.add_broken.Goals as goal
 
 pub returns-in-No : goal.returns-in-No

@@ -1,6 +1,4 @@
-use Rattle.std.proofs.Common.{◌-◌, rules}
-use Rattle.test_lines.specs.Sources.{source}
-use Rattle.test_text.proofs.Loops.{Showing, showing-start, showing-more, shown-bytes}
+use Rattle.test_text.proofs.Loops.{showing-start, showing-more, shown-bytes}
 use Rattle.test_text.proofs.add_bytes.Goals as goal
 
 pub returns-then-memory-i : goal.returns-then-memory-i

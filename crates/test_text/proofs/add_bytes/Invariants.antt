@@ -1,6 +1,6 @@
-use Rattle.std.proofs.Common.{◌-◌, rules}
+use Rattle.std.proofs.Common.{◌-◌}
 use Rattle.test_lines.specs.Sources.{source}
-use Rattle.test_text.proofs.Loops.{Showing, showing-start, showing-more, shown-bytes}
+use Rattle.test_text.proofs.Loops.{Showing}
 use Rattle.test_text.proofs.add_bytes.Given as goal
 
 abbrev pub invariant-loop-k : goal.invariant-loop-k

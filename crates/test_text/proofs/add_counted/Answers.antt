@@ -1,5 +1,4 @@
 use Rattle.test_text.proofs.Cases.{counted-added}
-use Rattle.std.proofs.Common.{rules}
 use Rattle.test_text.proofs.add_counted.Goals as goal
 
 pub returns : goal.returns

@@ -1,4 +1,3 @@
-use Rattle.std.proofs.Common.{rules}
 use Rattle.test_text.proofs.Cases.{fields}
 use Rattle.test_text.proofs.add_field.Goals as goal
 

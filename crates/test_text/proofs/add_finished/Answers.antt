@@ -1,5 +1,4 @@
 use Rattle.test_text.proofs.Cases.{finished-added}
-use Rattle.std.proofs.Common.{rules}
 use Rattle.test_text.proofs.add_finished.Goals as goal
 
 pub returns : goal.returns

@@ -1,6 +1,4 @@
-use Rattle.std.proofs.Common.{◌-◌, length, rules}
-use Rattle.test_text.proofs.Loops.{Listed, listed-words}
-use Rattle.test_lines.specs.Sources.{source}
+use Rattle.test_text.proofs.Loops.{listed-words}
 use Rattle.test_text.proofs.add_list.Goals as goal
 
 pub loop-i-init : goal.loop-i-init

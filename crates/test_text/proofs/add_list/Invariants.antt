@@ -1,5 +1,5 @@
-use Rattle.std.proofs.Common.{◌-◌, length, rules}
-use Rattle.test_text.proofs.Loops.{Listed, listed-words}
+use Rattle.std.proofs.Common.{◌-◌, length}
+use Rattle.test_text.proofs.Loops.{Listed}
 use Rattle.test_lines.specs.Sources.{source}
 use Rattle.test_text.proofs.add_list.Given as goal
 

@@ -1,4 +1,3 @@
-use Rattle.std.proofs.Common.{rules}
 use Rattle.test_text.proofs.Cases.{paused-added}
 use Rattle.test_text.proofs.add_paused.Goals as goal
 

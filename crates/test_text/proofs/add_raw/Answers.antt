@@ -1,4 +1,3 @@
-use Rattle.std.proofs.Common.{rules}
 use Rattle.test_text.proofs.Cases.{raw-added}
 use Rattle.test_text.proofs.add_raw.Goals as goal
 

@@ -1,4 +1,3 @@
-use Rattle.std.proofs.Common.{rules}
 use Rattle.test_text.proofs.Cases.{resumptions}
 use Rattle.test_text.proofs.add_resumed.Goals as goal
 

@@ -1,5 +1,4 @@
 use Rattle.test_text.proofs.Cases.{starteds}
-use Rattle.std.proofs.Common.{rules}
 use Rattle.test_text.proofs.add_started.Goals as goal
 
 pub returns-in-Begun : goal.returns-in-Begun

@@ -1,4 +1,3 @@
-use Rattle.std.proofs.Common.{rules}
 use Rattle.test_text.proofs.Cases.{states}
 use Rattle.test_text.proofs.add_state.Goals as goal
 

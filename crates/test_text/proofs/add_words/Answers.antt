@@ -1,6 +1,4 @@
-use Rattle.std.proofs.Common.{◌-◌, rules}
-use Rattle.test_lines.specs.Sources.{source}
-use Rattle.test_text.proofs.Loops.{Showing, showing-start, showing-more, shown-words}
+use Rattle.test_text.proofs.Loops.{showing-start, showing-more, shown-words}
 use Rattle.test_text.proofs.add_words.Goals as goal
 
 pub returns-then-stack-i : goal.returns-then-stack-i

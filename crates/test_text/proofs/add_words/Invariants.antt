@@ -1,6 +1,6 @@
-use Rattle.std.proofs.Common.{◌-◌, rules}
+use Rattle.std.proofs.Common.{◌-◌}
 use Rattle.test_lines.specs.Sources.{source}
-use Rattle.test_text.proofs.Loops.{Showing, showing-start, showing-more, shown-words}
+use Rattle.test_text.proofs.Loops.{Showing}
 use Rattle.test_text.proofs.add_words.Given as goal
 
 abbrev pub invariant-loop-k : goal.invariant-loop-k

@@ -1,5 +1,4 @@
-use Rattle.std.proofs.Common.{◌-◌, rules}
-use Rattle.test_text.proofs.Loops.{Valuing, valuing}
+use Rattle.test_text.proofs.Loops.{valuing}
 use Rattle.test_text.proofs.are_values.Goals as goal
 
 pub loop-k-init : goal.loop-k-init

@@ -1,5 +1,5 @@
-use Rattle.std.proofs.Common.{◌-◌, rules}
-use Rattle.test_text.proofs.Loops.{Valuing, valuing}
+use Rattle.std.proofs.Common.{◌-◌}
+use Rattle.test_text.proofs.Loops.{Valuing}
 use Rattle.test_text.proofs.are_values.Given as goal
 
 abbrev pub invariant-loop-k : goal.invariant-loop-k

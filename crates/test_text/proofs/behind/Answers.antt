@@ -1,5 +1,4 @@
 use Rattle.test_text.proofs.Cases.{behinds}
-use Rattle.std.proofs.Common.{rules}
 use Rattle.test_text.proofs.behind.Goals as goal
 
 pub returns-then-t-ge27648 : goal.returns-then-t-ge27648

@@ -1,5 +1,4 @@
 use Rattle.test_text.proofs.Cases.{behinds}
-use Rattle.std.proofs.Common.{rules}
 use Rattle.test_text.proofs.behind_names.Goals as goal
 
 pub returns-then-b-ge16384 : goal.returns-then-b-ge16384

@@ -1,5 +1,4 @@
-use Rattle.std.proofs.Common.{◌-◌, rules}
-use Rattle.test_text.proofs.Loops.{Changing, changing}
+use Rattle.test_text.proofs.Loops.{changing}
 use Rattle.test_text.proofs.changed_byte.Goals as goal
 
 pub loop-i-init : goal.loop-i-init

@@ -1,5 +1,5 @@
-use Rattle.std.proofs.Common.{◌-◌, rules}
-use Rattle.test_text.proofs.Loops.{Changing, changing}
+use Rattle.std.proofs.Common.{◌-◌}
+use Rattle.test_text.proofs.Loops.{Changing}
 use Rattle.test_text.proofs.changed_byte.Given as goal
 
 abbrev pub invariant-loop-i : goal.invariant-loop-i

@@ -1,5 +1,4 @@
-use Rattle.std.proofs.Common.{◌-◌, rules}
-use Rattle.test_text.proofs.Loops.{Zeroing, zeroing}
+use Rattle.test_text.proofs.Loops.{zeroing}
 use Rattle.test_text.proofs.clear_memory.Goals as goal
 
 pub loop-i-init : goal.loop-i-init

@@ -1,5 +1,5 @@
-use Rattle.std.proofs.Common.{◌-◌, rules}
-use Rattle.test_text.proofs.Loops.{Zeroing, zeroing}
+use Rattle.std.proofs.Common.{◌-◌}
+use Rattle.test_text.proofs.Loops.{Zeroing}
 use Rattle.test_text.proofs.clear_memory.Given as goal
 
 abbrev pub invariant-loop-i : goal.invariant-loop-i

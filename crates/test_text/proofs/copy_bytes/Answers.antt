@@ -1,5 +1,4 @@
-use Rattle.std.proofs.Common.{◌-◌, length, rules}
-use Rattle.vm_memory.proofs.Cases.{Putting, wording}
+use Rattle.vm_memory.proofs.Cases.{wording}
 use Rattle.test_text.proofs.copy_bytes.Goals as goal
 
 pub loop-i-init : goal.loop-i-init

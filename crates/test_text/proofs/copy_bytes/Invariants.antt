@@ -1,5 +1,5 @@
-use Rattle.std.proofs.Common.{◌-◌, length, rules}
-use Rattle.vm_memory.proofs.Cases.{Putting, wording}
+use Rattle.std.proofs.Common.{◌-◌, length}
+use Rattle.vm_memory.proofs.Cases.{Putting}
 use Rattle.test_text.proofs.copy_bytes.Given as goal
 
 abbrev pub invariant-loop-i : goal.invariant-loop-i

@@ -1,5 +1,4 @@
-use Rattle.std.proofs.Common.{◌-◌, length, rules}
-use Rattle.test_text.proofs.Loops.{Counting, counting}
+use Rattle.test_text.proofs.Loops.{counting}
 use Rattle.test_text.proofs.count_fields.Goals as goal
 
 pub loop-i-init : goal.loop-i-init

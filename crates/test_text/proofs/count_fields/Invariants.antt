@@ -1,5 +1,5 @@
-use Rattle.std.proofs.Common.{◌-◌, length, rules}
-use Rattle.test_text.proofs.Loops.{Counting, counting}
+use Rattle.std.proofs.Common.{◌-◌, length}
+use Rattle.test_text.proofs.Loops.{Counting}
 use Rattle.test_text.proofs.count_fields.Given as goal
 
 abbrev pub invariant-loop-i : goal.invariant-loop-i

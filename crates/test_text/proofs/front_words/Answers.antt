@@ -1,5 +1,4 @@
 use Rattle.test_lines.proofs.Cases.{fronts}
-use Rattle.std.proofs.Common.{rules}
 use Rattle.test_text.proofs.front_words.Goals as goal
 
 pub returns-then-size-t : goal.returns-then-size-t

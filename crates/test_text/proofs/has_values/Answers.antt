@@ -1,4 +1,3 @@
-use Rattle.std.proofs.Common.{rules}
 use Rattle.test_text.proofs.Cases.{has-values}
 use Rattle.test_text.proofs.has_values.Goals as goal
 

@@ -1,5 +1,4 @@
 use Rattle.test_text.proofs.Cases.{word_at}
-use Rattle.std.proofs.Common.{rules}
 use Rattle.test_text.proofs.has_word.Goals as goal
 
 pub returns : goal.returns

@@ -1,5 +1,4 @@
-use Rattle.std.proofs.Common.{◌-◌, length, rules}
-use Rattle.test_text.proofs.Loops.{Testing, testing}
+use Rattle.test_text.proofs.Loops.{testing}
 use Rattle.test_text.proofs.is_digits.Goals as goal
 
 pub loop-i-init : goal.loop-i-init

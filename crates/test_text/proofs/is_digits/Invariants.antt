@@ -1,5 +1,5 @@
-use Rattle.std.proofs.Common.{◌-◌, length, rules}
-use Rattle.test_text.proofs.Loops.{Testing, testing}
+use Rattle.std.proofs.Common.{◌-◌, length}
+use Rattle.test_text.proofs.Loops.{Testing}
 use Rattle.test_text.proofs.is_digits.Given as goal
 
 abbrev pub invariant-loop-i : goal.invariant-loop-i

@@ -1,5 +1,4 @@
 use Rattle.test_text.proofs.Cases.{named}
-use Rattle.std.proofs.Common.{rules}
 use Rattle.test_text.proofs.is_number_poke.Goals as goal
 
 pub returns-then-has_word : goal.returns-then-has_word

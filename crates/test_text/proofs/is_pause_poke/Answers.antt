@@ -1,4 +1,3 @@
-use Rattle.std.proofs.Common.{rules}
 use Rattle.test_text.proofs.Cases.{pauses}
 use Rattle.test_text.proofs.is_pause_poke.Goals as goal
 

@@ -1,4 +1,3 @@
-use Rattle.std.proofs.Common.{rules}
 use Rattle.test_text.proofs.Cases.{changes}
 use Rattle.test_text.proofs.is_record_poke.Goals as goal
 

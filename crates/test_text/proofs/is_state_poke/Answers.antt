@@ -1,4 +1,3 @@
-use Rattle.std.proofs.Common.{rules}
 use Rattle.test_text.proofs.Cases.{state-names}
 use Rattle.test_text.proofs.is_state_poke.Goals as goal
 

@@ -1,5 +1,5 @@
-use Rattle.std.proofs.Common.{◌-◌, rules}
-use Rattle.test_text.proofs.Loops.{Keeping, keeping}
+use Rattle.std.proofs.Common.{◌-◌}
+use Rattle.test_text.proofs.Loops.{Keeping}
 use Rattle.test_text.proofs.keep_memory.Given as goal
 
 abbrev pub invariant-loop-i : goal.invariant-loop-i

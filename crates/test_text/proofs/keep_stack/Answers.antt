@@ -1,5 +1,4 @@
-use Rattle.std.proofs.Common.{◌-◌, rules}
-use Rattle.test_text.proofs.Loops.{Keeping, keeping}
+use Rattle.test_text.proofs.Loops.{keeping}
 use Rattle.test_text.proofs.keep_stack.Goals as goal
 
 pub loop-i-init : goal.loop-i-init

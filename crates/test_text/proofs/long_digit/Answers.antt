@@ -1,5 +1,4 @@
 use Rattle.test_text.proofs.Cases.{longs}
-use Rattle.std.proofs.Common.{rules}
 use Rattle.test_text.proofs.long_digit.Goals as goal
 
 pub returns-then-c-lt48 : goal.returns-then-c-lt48

@@ -1,5 +1,4 @@
-use Rattle.std.proofs.Common.{◌-◌, length, rules}
-use Rattle.test_text.proofs.Loops.{LongReading, long-reading}
+use Rattle.test_text.proofs.Loops.{long-reading}
 use Rattle.test_text.proofs.long_number.Goals as goal
 
 pub loop-i-init : goal.loop-i-init

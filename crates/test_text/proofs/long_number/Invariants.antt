@@ -1,5 +1,5 @@
-use Rattle.std.proofs.Common.{◌-◌, length, rules}
-use Rattle.test_text.proofs.Loops.{LongReading, long-reading}
+use Rattle.std.proofs.Common.{◌-◌, length}
+use Rattle.test_text.proofs.Loops.{LongReading}
 use Rattle.test_text.proofs.long_number.Given as goal
 
 abbrev pub invariant-loop-i : goal.invariant-loop-i

@@ -1,5 +1,4 @@
 use Rattle.test_text.proofs.Cases.{negations}
-use Rattle.std.proofs.Common.{rules}
 use Rattle.test_text.proofs.negated.Goals as goal
 
 pub returns-then-n-lt-NO_NUMBER : goal.returns-then-n-lt-NO_NUMBER

@@ -1,4 +1,3 @@
-use Rattle.std.proofs.Common.{rules}
 use Rattle.test_text.proofs.Cases.{pause-read}
 use Rattle.test_text.proofs.pause_in.Goals as goal
 

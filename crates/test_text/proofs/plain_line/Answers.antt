@@ -1,6 +1,4 @@
-use Rattle.std.proofs.Common.{◌-◌, rules}
-use Rattle.test_lines.specs.Sources.{source}
-use Rattle.test_text.proofs.Loops.{Lining, lining}
+use Rattle.test_text.proofs.Loops.{lining}
 use Rattle.test_text.proofs.plain_line.Goals as goal
 
 pub loop-k-init : goal.loop-k-init

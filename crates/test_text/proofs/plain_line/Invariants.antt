@@ -1,6 +1,6 @@
-use Rattle.std.proofs.Common.{◌-◌, rules}
+use Rattle.std.proofs.Common.{◌-◌}
 use Rattle.test_lines.specs.Sources.{source}
-use Rattle.test_text.proofs.Loops.{Lining, lining}
+use Rattle.test_text.proofs.Loops.{Lining}
 use Rattle.test_text.proofs.plain_line.Given as goal
 
 abbrev pub invariant-loop-k : goal.invariant-loop-k

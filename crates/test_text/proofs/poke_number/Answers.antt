@@ -1,5 +1,4 @@
 use Rattle.test_text.proofs.Cases.{pokes}
-use Rattle.std.proofs.Common.{rules}
 use Rattle.test_text.proofs.poke_number.Goals as goal
 
 pub returns-then-has_word : goal.returns-then-has_word

@@ -1,4 +1,3 @@
-use Rattle.std.proofs.Common.{rules}
 use Rattle.test_text.proofs.Cases.{poked}
 use Rattle.test_text.proofs.poke_record.Goals as goal
 

@@ -1,4 +1,3 @@
-use Rattle.std.proofs.Common.{rules}
 use Rattle.test_text.proofs.Cases.{state-pokes}
 use Rattle.test_text.proofs.poke_state.Goals as goal
 

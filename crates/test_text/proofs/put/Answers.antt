@@ -1,5 +1,4 @@
 use Rattle.vm_memory.proofs.Cases.{put-past}
-use Rattle.std.proofs.Common.{rules}
 use Rattle.test_text.proofs.put.Goals as goal
 
 pub returns-else-i-m : goal.returns-else-i-m

@@ -1,5 +1,4 @@
-use Rattle.std.proofs.Common.{◌-◌, rules}
-use Rattle.test_text.proofs.Loops.{Bytes, storing-bytes}
+use Rattle.test_text.proofs.Loops.{storing-bytes}
 use Rattle.test_text.proofs.put_bytes.Goals as goal
 
 pub loop-f-init : goal.loop-f-init

@@ -1,5 +1,5 @@
-use Rattle.std.proofs.Common.{◌-◌, rules}
-use Rattle.test_text.proofs.Loops.{Bytes, storing-bytes}
+use Rattle.std.proofs.Common.{◌-◌}
+use Rattle.test_text.proofs.Loops.{Bytes}
 use Rattle.test_text.proofs.put_bytes.Given as goal
 
 abbrev pub invariant-loop-f : goal.invariant-loop-f

@@ -1,5 +1,4 @@
-use Rattle.std.proofs.Common.{◌-◌, rules}
-use Rattle.test_text.proofs.Loops.{Listing, listing}
+use Rattle.test_text.proofs.Loops.{listing}
 use Rattle.test_text.proofs.read_arguments.Goals as goal
 
 pub loop-n-init : goal.loop-n-init

@@ -1,5 +1,5 @@
-use Rattle.std.proofs.Common.{◌-◌, rules}
-use Rattle.test_text.proofs.Loops.{Listing, listing}
+use Rattle.std.proofs.Common.{◌-◌}
+use Rattle.test_text.proofs.Loops.{Listing}
 use Rattle.test_text.proofs.read_arguments.Given as goal
 
 abbrev pub invariant-loop-n : goal.invariant-loop-n

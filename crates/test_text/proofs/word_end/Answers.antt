@@ -1,5 +1,5 @@
-use Rattle.std.proofs.Common.{◌-◌, length, rules}
-use Rattle.test_text.proofs.Loops.{Wording, wording}
+use Rattle.std.proofs.Common.{rules}
+use Rattle.test_text.proofs.Loops.{wording}
 use Rattle.test_text.proofs.word_end.Goals as goal
 
 pub loop-i-init : goal.loop-i-init

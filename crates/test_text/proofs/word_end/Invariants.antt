@@ -1,5 +1,5 @@
-use Rattle.std.proofs.Common.{◌-◌, length, rules}
-use Rattle.test_text.proofs.Loops.{Wording, wording}
+use Rattle.std.proofs.Common.{◌-◌, length}
+use Rattle.test_text.proofs.Loops.{Wording}
 use Rattle.test_text.proofs.word_end.Given as goal
 
 abbrev pub invariant-loop-i : goal.invariant-loop-i

@@ -1,4 +1,3 @@
-use Rattle.std.proofs.Common.{rules}
 use Rattle.test_text.proofs.Cases.{word_in}
 use Rattle.test_text.proofs.word_in.Goals as goal
 

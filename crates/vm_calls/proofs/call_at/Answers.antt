@@ -1,7 +1,4 @@
 use Rattle.vm_calls.proofs.Cases.{addressed}
-use native.Mathlib.Omega.{arith}
-use mathlib.Core.Path.{◌≡◌, refl, sym, ◌∙◌, ap, subst}
-use borrow.Author.Rules.{rules}
 use Rattle.vm_calls.proofs.call_at.Goals as goal
 
 pub returns-then-has_word : goal.returns-then-has_word

@@ -1,4 +1,3 @@
-use borrow.Author.Rules.{rules}
 use Rattle.vm_calls.proofs.go_on.Goals as goal
 
 pub returns : goal.returns

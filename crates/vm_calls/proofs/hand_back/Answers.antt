@@ -1,7 +1,6 @@
 use Rattle.vm_calls.proofs.Cases.{back, resumed-low}
 use native.Mathlib.Omega.{arith}
-use mathlib.Core.Path.{◌≡◌, refl, sym, ◌∙◌, ap, subst}
-use borrow.Author.Rules.{rules}
+use mathlib.Core.Path.{refl}
 use Rattle.vm_calls.proofs.hand_back.Goals as goal
 
 pub overflow_add-call : goal.overflow_add-call

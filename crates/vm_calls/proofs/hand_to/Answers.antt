@@ -1,7 +1,5 @@
 use Rattle.vm_calls.proofs.Cases.{handed}
 use Rattle.vm_operands.proofs.Cases.{word_in}
-use native.Mathlib.Omega.{arith}
-use mathlib.Core.Path.{◌≡◌, refl, sym, ◌∙◌, ap, subst}
 use borrow.Author.Rules.{rules}
 use Rattle.vm_calls.proofs.hand_to.Goals as goal
 

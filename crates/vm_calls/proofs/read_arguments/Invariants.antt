@@ -1,11 +1,7 @@
-use borrow.Author.Rules.{rules}
 use Rattle.base_limits.specs.declared.Width.TheVariants.{Bits32}
 use Rattle.vm_definitions.specs.Operands.{read_of}
 use Rattle.vm_quick_operands.proofs.Reading.{Reading}
-use Rattle.vm_calls.proofs.Reading.{reading}
 use Prim.Native.Nat.{◌-◌, ◌*◌}
-use native.Mathlib.Omega.{arith}
-use mathlib.Core.Path.{◌≡◌, refl, sym, ◌∙◌, ap, subst}
 use Rattle.vm_calls.proofs.read_arguments.Given as goal
 
 abbrev pub invariant-loop-i : goal.invariant-loop-i

@@ -1,5 +1,4 @@
 use Rattle.vm_counts.proofs.Cases.{count-ways}
-use borrow.Author.Rules.{rules}
 use Rattle.vm_counts.proofs.count_fault.Goals as goal
 
 pub returns-then-statements_past : goal.returns-then-statements_past

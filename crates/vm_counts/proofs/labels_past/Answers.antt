@@ -1,5 +1,4 @@
 use Rattle.vm_counts.proofs.Cases.{label-ways}
-use borrow.Author.Rules.{rules}
 use Rattle.vm_counts.proofs.labels_past.Goals as goal
 
 pub returns-then-l-labels : goal.returns-then-l-labels

@@ -1,5 +1,4 @@
 use Rattle.vm_guard.proofs.Cases.{within-row}
-use borrow.Author.Rules.{rules}
 use Rattle.vm_guard.proofs.find_broken.Goals as goal
 
 pub returns : goal.returns

@@ -1,5 +1,4 @@
 use Rattle.vm_guard.proofs.Cases.{frames-ways}
-use borrow.Author.Rules.{rules}
 use Rattle.vm_guard.proofs.find_frames.Goals as goal
 
 pub returns-then-frame_ends : goal.returns-then-frame_ends

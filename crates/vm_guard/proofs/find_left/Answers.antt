@@ -1,8 +1,4 @@
-use borrow.Author.Rules.{rules}
-use Rattle.vm_guard.proofs.Cases.{Finding, finding}
-use Rattle.prog_tables.specs.Program.{lent_program}
-use native.Mathlib.Omega.{arith}
-use mathlib.Core.Path.{◌≡◌, refl, sym, ◌∙◌, ap, subst}
+use Rattle.vm_guard.proofs.Cases.{finding}
 use Rattle.vm_guard.proofs.find_left.Goals as goal
 
 pub loop-left-init : goal.loop-left-init

@@ -1,8 +1,5 @@
-use borrow.Author.Rules.{rules}
-use Rattle.vm_guard.proofs.Cases.{Finding, finding}
+use Rattle.vm_guard.proofs.Cases.{Finding}
 use Rattle.prog_tables.specs.Program.{lent_program}
-use native.Mathlib.Omega.{arith}
-use mathlib.Core.Path.{◌≡◌, refl, sym, ◌∙◌, ap, subst}
 use Rattle.vm_guard.proofs.find_left.Given as goal
 
 abbrev pub invariant-loop-left : goal.invariant-loop-left

@@ -1,5 +1,4 @@
 use Rattle.vm_guard.proofs.Cases.{within-resume}
-use borrow.Author.Rules.{rules}
 use Rattle.vm_guard.proofs.find_unresumable.Goals as goal
 
 pub returns : goal.returns

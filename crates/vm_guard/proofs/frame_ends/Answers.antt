@@ -1,7 +1,4 @@
 use Rattle.vm_guard.proofs.Cases.{ends-ways}
-use native.Mathlib.Omega.{arith}
-use mathlib.Core.Path.{◌≡◌, refl, sym, ◌∙◌, ap, subst}
-use borrow.Author.Rules.{rules}
 use Rattle.vm_guard.proofs.frame_ends.Goals as goal
 
 pub returns-then-end-used : goal.returns-then-end-used

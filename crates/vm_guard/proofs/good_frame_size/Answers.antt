@@ -1,7 +1,4 @@
 use Rattle.vm_guard.proofs.FrameInUse.{frame-size-ways}
-use native.Mathlib.Omega.{arith}
-use mathlib.Core.Path.{◌≡◌, refl, sym, ◌∙◌, ap, subst}
-use borrow.Author.Rules.{rules}
 use Rattle.vm_guard.proofs.good_frame_size.Goals as goal
 
 pub returns-then-c-next : goal.returns-then-c-next

@@ -1,5 +1,4 @@
 use Rattle.vm_guard.proofs.Cases.{kept-ways}
-use borrow.Author.Rules.{rules}
 use Rattle.vm_guard.proofs.has_kept.Goals as goal
 
 pub returns-then-k-eq-END_BLOCK : goal.returns-then-k-eq-END_BLOCK

@@ -1,7 +1,4 @@
 use Rattle.vm_guard.proofs.Cases.{shape-ways}
-use native.Mathlib.Omega.{arith}
-use mathlib.Core.Path.{◌≡◌, refl, sym, ◌∙◌, ap, subst}
-use borrow.Author.Rules.{rules}
 use Rattle.vm_guard.proofs.has_shape.Goals as goal
 
 pub returns-then-c-next : goal.returns-then-c-next

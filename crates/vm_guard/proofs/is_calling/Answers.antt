@@ -1,5 +1,4 @@
 use Rattle.vm_guard.proofs.Cases.{calling-ways}
-use borrow.Author.Rules.{rules}
 use Rattle.vm_guard.proofs.is_calling.Goals as goal
 
 pub returns-then-k-eq-CALL : goal.returns-then-k-eq-CALL

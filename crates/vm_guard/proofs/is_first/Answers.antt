@@ -1,7 +1,4 @@
 use Rattle.vm_guard.proofs.Cases.{first-ways}
-use native.Mathlib.Omega.{arith}
-use mathlib.Core.Path.{◌≡◌, refl, sym, ◌∙◌, ap, subst}
-use borrow.Author.Rules.{rules}
 use Rattle.vm_guard.proofs.is_first.Goals as goal
 
 pub returns-then-p : goal.returns-then-p

@@ -1,7 +1,4 @@
 use Rattle.vm_guard.proofs.FrameInUse.{frame-good-ways}
-use native.Mathlib.Omega.{arith}
-use mathlib.Core.Path.{◌≡◌, refl, sym, ◌∙◌, ap, subst}
-use borrow.Author.Rules.{rules}
 use Rattle.vm_guard.proofs.is_frame_good.Goals as goal
 
 pub returns-then-m-top : goal.returns-then-m-top

@@ -1,4 +1,3 @@
-use borrow.Author.Rules.{rules}
 use Rattle.vm_guard.proofs.is_importing.Goals as goal
 
 pub returns : goal.returns

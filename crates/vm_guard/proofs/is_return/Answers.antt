@@ -1,5 +1,4 @@
 use Rattle.vm_guard.proofs.Cases.{return-ways}
-use borrow.Author.Rules.{rules}
 use Rattle.vm_guard.proofs.is_return.Goals as goal
 
 pub returns-then-k-eq-END_FUNCTION : goal.returns-then-k-eq-END_FUNCTION

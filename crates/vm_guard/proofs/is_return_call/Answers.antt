@@ -1,5 +1,4 @@
 use Rattle.vm_guard.proofs.Cases.{through-ways}
-use borrow.Author.Rules.{rules}
 use Rattle.vm_guard.proofs.is_return_call.Goals as goal
 
 pub returns-then-k-eq-RETURN : goal.returns-then-k-eq-RETURN

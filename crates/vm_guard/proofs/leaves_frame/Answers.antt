@@ -1,5 +1,4 @@
 use Rattle.vm_guard.proofs.Cases.{import-ways}
-use borrow.Author.Rules.{rules}
 use Rattle.vm_guard.proofs.leaves_frame.Goals as goal
 
 pub returns-then-is_return : goal.returns-then-is_return

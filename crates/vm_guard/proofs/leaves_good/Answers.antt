@@ -1,8 +1,4 @@
-use borrow.Author.Rules.{rules}
-use Rattle.vm_guard.proofs.Cases.{Leaving, leaving}
-use Rattle.prog_tables.specs.Statement.{row_at}
-use native.Mathlib.Omega.{arith}
-use mathlib.Core.Path.{◌≡◌, refl, sym, ◌∙◌, ap, subst}
+use Rattle.vm_guard.proofs.Cases.{leaving}
 use Rattle.vm_guard.proofs.leaves_good.Goals as goal
 
 pub loop-left-init : goal.loop-left-init

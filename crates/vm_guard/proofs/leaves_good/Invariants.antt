@@ -1,8 +1,5 @@
-use borrow.Author.Rules.{rules}
-use Rattle.vm_guard.proofs.Cases.{Leaving, leaving}
+use Rattle.vm_guard.proofs.Cases.{Leaving}
 use Rattle.prog_tables.specs.Statement.{row_at}
-use native.Mathlib.Omega.{arith}
-use mathlib.Core.Path.{◌≡◌, refl, sym, ◌∙◌, ap, subst}
 use Rattle.vm_guard.proofs.leaves_good.Given as goal
 
 abbrev pub invariant-loop-left : goal.invariant-loop-left

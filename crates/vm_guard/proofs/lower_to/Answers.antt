@@ -1,7 +1,4 @@
 use Rattle.vm_guard.proofs.Cases.{lower-ways}
-use native.Mathlib.Omega.{arith}
-use mathlib.Core.Path.{◌≡◌, refl, sym, ◌∙◌, ap, subst}
-use borrow.Author.Rules.{rules}
 use Rattle.vm_guard.proofs.lower_to.Goals as goal
 
 pub returns-in-No : goal.returns-in-No

@@ -1,7 +1,4 @@
 use Rattle.vm_guard.proofs.Cases.{callee-ways}
-use native.Mathlib.Omega.{arith}
-use mathlib.Core.Path.{◌≡◌, refl, sym, ◌∙◌, ap, subst}
-use borrow.Author.Rules.{rules}
 use Rattle.vm_guard.proofs.mark_callee.Goals as goal
 
 pub returns-then-g-c : goal.returns-then-g-c

@@ -1,7 +1,4 @@
 use Rattle.vm_guard.proofs.Cases.{function-ways}
-use native.Mathlib.Omega.{arith}
-use mathlib.Core.Path.{◌≡◌, refl, sym, ◌∙◌, ap, subst}
-use borrow.Author.Rules.{rules}
 use Rattle.vm_guard.proofs.mark_function.Goals as goal
 
 pub returns-then-is_in_function : goal.returns-then-is_in_function

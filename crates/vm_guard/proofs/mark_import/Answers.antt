@@ -1,5 +1,4 @@
 use Rattle.vm_guard.proofs.Cases.{asks-ways}
-use borrow.Author.Rules.{rules}
 use Rattle.vm_guard.proofs.mark_import.Goals as goal
 
 pub returns-then-c-next : goal.returns-then-c-next

@@ -1,7 +1,4 @@
 use Rattle.vm_guard.proofs.Cases.{mark-ways}
-use native.Mathlib.Omega.{arith}
-use mathlib.Core.Path.{◌≡◌, refl, sym, ◌∙◌, ap, subst}
-use borrow.Author.Rules.{rules}
 use Rattle.vm_guard.proofs.mark_row.Goals as goal
 
 pub returns-then-row_bad : goal.returns-then-row_bad

@@ -1,7 +1,4 @@
 use Rattle.vm_guard.proofs.Cases.{passes-ways}
-use native.Mathlib.Omega.{arith}
-use mathlib.Core.Path.{◌≡◌, refl, sym, ◌∙◌, ap, subst}
-use borrow.Author.Rules.{rules}
 use Rattle.vm_guard.proofs.passes_on.Goals as goal
 
 pub returns-then-is_first : goal.returns-then-is_first

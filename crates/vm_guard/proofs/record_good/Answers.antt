@@ -1,7 +1,4 @@
-use borrow.Author.Rules.{rules}
 use Rattle.vm_guard.proofs.Cases.{record-ways}
-use native.Mathlib.Omega.{arith}
-use mathlib.Core.Path.{◌≡◌, refl, sym, ◌∙◌, ap, subst}
 use Rattle.vm_guard.proofs.record_good.Goals as goal
 
 pub returns-then-has_head : goal.returns-then-has_head

@@ -1,8 +1,5 @@
-use borrow.Author.Rules.{rules}
-use Rattle.vm_guard.proofs.Cases.{Resumption-to, resumptions}
+use Rattle.vm_guard.proofs.Cases.{Resumption-to}
 use Rattle.prog_tables.specs.Statement.{row_at}
-use native.Mathlib.Omega.{arith}
-use mathlib.Core.Path.{◌≡◌, refl, sym, ◌∙◌, ap, subst}
 use Rattle.vm_guard.proofs.resumption.Given as goal
 
 abbrev pub invariant-loop-left : goal.invariant-loop-left

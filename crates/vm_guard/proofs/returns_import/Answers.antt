@@ -1,5 +1,4 @@
 use Rattle.vm_guard.proofs.Cases.{import-ways}
-use borrow.Author.Rules.{rules}
 use Rattle.vm_guard.proofs.returns_import.Goals as goal
 
 pub returns-then-k-eq-TAIL_CALL : goal.returns-then-k-eq-TAIL_CALL

@@ -1,7 +1,4 @@
 use Rattle.vm_guard.proofs.Cases.{bad-ways}
-use native.Mathlib.Omega.{arith}
-use mathlib.Core.Path.{◌≡◌, refl, sym, ◌∙◌, ap, subst}
-use borrow.Author.Rules.{rules}
 use Rattle.vm_guard.proofs.row_bad.Goals as goal
 
 pub returns-then-row_fault : goal.returns-then-row_fault

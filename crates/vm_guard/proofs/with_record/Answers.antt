@@ -1,5 +1,4 @@
 use Rattle.vm_guard.proofs.Cases.{broken-ways}
-use borrow.Author.Rules.{rules}
 use Rattle.vm_guard.proofs.with_record.Goals as goal
 
 pub returns-then-record_good : goal.returns-then-record_good

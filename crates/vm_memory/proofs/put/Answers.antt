@@ -1,7 +1,4 @@
 use Rattle.vm_memory.proofs.Cases.{put-past}
-use native.Mathlib.Omega.{arith}
-use mathlib.Core.Path.{◌≡◌, refl, sym, ◌∙◌, ap, subst}
-use borrow.Author.Rules.{rules}
 use Rattle.vm_memory.proofs.put.Goals as goal
 
 pub returns-else-i-st : goal.returns-else-i-st

@@ -1,8 +1,4 @@
-use borrow.Author.Rules.{rules}
-use Prim.Native.Nat.{◌-◌}
-use Rattle.vm_memory.proofs.Cases.{Copying, copying}
-use native.Mathlib.Omega.{arith}
-use mathlib.Core.Path.{◌≡◌, refl, sym, ◌∙◌, ap, subst}
+use Rattle.vm_memory.proofs.Cases.{copying}
 use Rattle.vm_memory.proofs.put_bytes.Goals as goal
 
 pub loop-i-init : goal.loop-i-init

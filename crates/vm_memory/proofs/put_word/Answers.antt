@@ -1,8 +1,6 @@
 use Rattle.vm_memory.proofs.Cases.{word-put}
 use lib.ListN.{length-set}
 use native.Mathlib.Omega.{arith}
-use mathlib.Core.Path.{◌≡◌, refl, sym, ◌∙◌, ap, subst}
-use borrow.Author.Rules.{rules}
 use Rattle.vm_memory.proofs.put_word.Goals as goal
 
 pub bounds-m-i-2 : goal.bounds-m-i-2

@@ -1,9 +1,4 @@
-use borrow.Author.Rules.{rules}
-use Prim.Native.Nat.{◌-◌}
-use lib.ListN.{length, replicate}
-use Rattle.vm_memory.proofs.Cases.{Putting, zeroing}
-use native.Mathlib.Omega.{arith}
-use mathlib.Core.Path.{◌≡◌, refl, sym, ◌∙◌, ap, subst}
+use Rattle.vm_memory.proofs.Cases.{zeroing}
 use Rattle.vm_memory.proofs.put_zeros.Goals as goal
 
 pub loop-i-init : goal.loop-i-init

@@ -1,9 +1,6 @@
-use borrow.Author.Rules.{rules}
 use Prim.Native.Nat.{◌-◌}
-use lib.ListN.{length, replicate}
-use Rattle.vm_memory.proofs.Cases.{Putting, zeroing}
-use native.Mathlib.Omega.{arith}
-use mathlib.Core.Path.{◌≡◌, refl, sym, ◌∙◌, ap, subst}
+use lib.ListN.{replicate}
+use Rattle.vm_memory.proofs.Cases.{Putting}
 use Rattle.vm_memory.proofs.put_zeros.Given as goal
 
 abbrev pub invariant-loop-i : goal.invariant-loop-i

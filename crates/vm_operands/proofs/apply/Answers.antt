@@ -1,7 +1,4 @@
 use Rattle.vm_operands.proofs.Cases.{apply-ways}
-use native.Mathlib.Omega.{arith}
-use mathlib.Core.Path.{◌≡◌, refl, sym, ◌∙◌, ap, subst}
-use borrow.Author.Rules.{rules}
 use Rattle.vm_operands.proofs.apply.Goals as goal
 
 pub returns-in-33 : goal.returns-in-33

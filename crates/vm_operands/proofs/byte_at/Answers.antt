@@ -1,6 +1,4 @@
 use Rattle.vm_operands.proofs.Cases.{byte-ways, byte-in}
-use native.Mathlib.Omega.{arith}
-use mathlib.Core.Path.{◌≡◌, refl, sym, ◌∙◌, ap, subst}
 use borrow.Author.Rules.{rules}
 use Rattle.vm_operands.proofs.byte_at.Goals as goal
 

@@ -1,7 +1,4 @@
 use Rattle.vm_operands.proofs.Cases.{eval-ways}
-use native.Mathlib.Omega.{arith}
-use mathlib.Core.Path.{◌≡◌, refl, sym, ◌∙◌, ap, subst}
-use borrow.Author.Rules.{rules}
 use Rattle.vm_operands.proofs.eval.Goals as goal
 
 pub returns-then-e-eq-PLAIN : goal.returns-then-e-eq-PLAIN

@@ -1,6 +1,4 @@
 use Rattle.vm_operands.proofs.Cases.{fetch-ways, word_in}
-use native.Mathlib.Omega.{arith}
-use mathlib.Core.Path.{◌≡◌, refl, sym, ◌∙◌, ap, subst}
 use borrow.Author.Rules.{rules}
 use Rattle.vm_operands.proofs.fetch.Goals as goal
 

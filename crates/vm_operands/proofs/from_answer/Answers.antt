@@ -1,7 +1,4 @@
 use Rattle.vm_definitions.specs.Operators.{answered}
-use native.Mathlib.Omega.{arith}
-use mathlib.Core.Path.{◌≡◌, refl, sym, ◌∙◌, ap, subst}
-use borrow.Author.Rules.{rules}
 use Rattle.vm_operands.proofs.from_answer.Goals as goal
 
 pub returns-in-Word : goal.returns-in-Word

@@ -1,7 +1,4 @@
 use Rattle.vm_definitions.specs.Operators.{fetched}
-use native.Mathlib.Omega.{arith}
-use mathlib.Core.Path.{◌≡◌, refl, sym, ◌∙◌, ap, subst}
-use borrow.Author.Rules.{rules}
 use Rattle.vm_operands.proofs.from_read.Goals as goal
 
 pub returns-in-Got : goal.returns-in-Got

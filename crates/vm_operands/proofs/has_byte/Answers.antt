@@ -1,7 +1,5 @@
-use borrow.Author.Rules.{rules}
 use Rattle.vm_definitions.specs.Access.{byte_good}
-use native.Mathlib.Omega.{arith}
-use mathlib.Core.Path.{◌≡◌, refl, sym, ◌∙◌, ap, subst}
+use mathlib.Core.Path.{refl}
 use Rattle.vm_operands.proofs.has_byte.Goals as goal
 
 pub returns : goal.returns

@@ -1,7 +1,4 @@
 use Rattle.vm_operands.proofs.Cases.{word-ways}
-use native.Mathlib.Omega.{arith}
-use mathlib.Core.Path.{◌≡◌, refl, sym, ◌∙◌, ap, subst}
-use borrow.Author.Rules.{rules}
 use Rattle.vm_operands.proofs.has_word.Goals as goal
 
 pub returns-then-a-eq0 : goal.returns-then-a-eq0

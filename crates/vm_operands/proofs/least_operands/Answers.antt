@@ -1,7 +1,4 @@
 use Rattle.vm_operands.proofs.Cases.{least-operator}
-use native.Mathlib.Omega.{arith}
-use mathlib.Core.Path.{◌≡◌, refl, sym, ◌∙◌, ap, subst}
-use borrow.Author.Rules.{rules}
 use Rattle.vm_operands.proofs.least_operands.Goals as goal
 
 pub returns-then-is_operator : goal.returns-then-is_operator

@@ -1,7 +1,4 @@
 use Rattle.vm_operands.proofs.Cases.{number-ways}
-use native.Mathlib.Omega.{arith}
-use mathlib.Core.Path.{◌≡◌, refl, sym, ◌∙◌, ap, subst}
-use borrow.Author.Rules.{rules}
 use Rattle.vm_operands.proofs.number_in.Goals as goal
 
 pub returns-in-Constant : goal.returns-in-Constant

@@ -1,7 +1,4 @@
 use Rattle.vm_operands.proofs.Cases.{read-ways}
-use native.Mathlib.Omega.{arith}
-use mathlib.Core.Path.{◌≡◌, refl, sym, ◌∙◌, ap, subst}
-use borrow.Author.Rules.{rules}
 use Rattle.vm_operands.proofs.read_operand.Goals as goal
 
 pub returns-in-Constant : goal.returns-in-Constant

@@ -1,7 +1,5 @@
 use Rattle.vm_operands.proofs.Cases.{reserve-past, reserve-in}
 use native.Mathlib.Omega.{arith}
-use mathlib.Core.Path.{◌≡◌, refl, sym, ◌∙◌, ap, subst}
-use borrow.Author.Rules.{rules}
 use Rattle.vm_operands.proofs.reserve.Goals as goal
 
 pub returns-then-n-end : goal.returns-then-n-end

@@ -1,7 +1,4 @@
 use Rattle.vm_operands.proofs.Cases.{holds-ways}
-use native.Mathlib.Omega.{arith}
-use mathlib.Core.Path.{◌≡◌, refl, sym, ◌∙◌, ap, subst}
-use borrow.Author.Rules.{rules}
 use Rattle.vm_operands.proofs.test.Goals as goal
 
 pub returns-in-14 : goal.returns-in-14

@@ -1,5 +1,4 @@
 use Rattle.vm_operands.proofs.Cases.{word_address_lem}
-use borrow.Author.Rules.{rules}
 use Rattle.vm_operands.proofs.word_address.Goals as goal
 
 pub returns : goal.returns

@@ -1,5 +1,4 @@
 use Rattle.vm_pauses.proofs.Cases.{asks}
-use borrow.Author.Rules.{rules}
 use Rattle.vm_pauses.proofs.ask.Goals as goal
 
 pub returns-then-good : goal.returns-then-good

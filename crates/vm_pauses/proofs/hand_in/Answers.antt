@@ -1,5 +1,4 @@
 use Rattle.vm_pauses.proofs.Cases.{in-ways, awaits-leaves}
-use borrow.Author.Rules.{rules}
 use Rattle.vm_pauses.proofs.hand_in.Goals as goal
 
 pub hand_back-requires : goal.hand_back-requires

@@ -1,5 +1,3 @@
-use mathlib.Core.Path.{◌≡◌, refl}
-use borrow.Author.Rules.{rules}
 use Rattle.vm_pauses.proofs.hold.Goals as goal
 
 pub returns : goal.returns

@@ -1,5 +1,4 @@
 use Rattle.vm_pauses.proofs.Cases.{pauses}
-use borrow.Author.Rules.{rules}
 use Rattle.vm_pauses.proofs.pause.Goals as goal
 
 pub returns-then-has_word : goal.returns-then-has_word

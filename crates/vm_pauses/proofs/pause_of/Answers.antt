@@ -1,5 +1,4 @@
 use Rattle.vm_pauses.proofs.Cases.{paused-words}
-use borrow.Author.Rules.{rules}
 use Rattle.vm_pauses.proofs.pause_of.Goals as goal
 
 pub returns : goal.returns

@@ -1,5 +1,4 @@
 use Rattle.vm_pauses.proofs.Cases.{words_of}
-use borrow.Author.Rules.{rules}
 use Rattle.vm_pauses.proofs.word_of.Goals as goal
 
 pub returns-then-i-k : goal.returns-then-i-k

@@ -1,8 +1,4 @@
-use borrow.Author.Rules.{rules}
-use Prim.Native.Nat.{◌-◌, ◌*◌}
-use Rattle.vm_quick_calls.proofs.Cases.{GoodSoFar, goods}
-use native.Mathlib.Omega.{arith}
-use mathlib.Core.Path.{◌≡◌, refl, sym, ◌∙◌, ap, subst}
+use Rattle.vm_quick_calls.proofs.Cases.{goods}
 use Rattle.vm_quick_calls.proofs.are_good.Goals as goal
 
 pub loop-i-init : goal.loop-i-init

@@ -1,8 +1,5 @@
-use borrow.Author.Rules.{rules}
 use Prim.Native.Nat.{◌-◌, ◌*◌}
-use Rattle.vm_quick_calls.proofs.Cases.{GoodSoFar, goods}
-use native.Mathlib.Omega.{arith}
-use mathlib.Core.Path.{◌≡◌, refl, sym, ◌∙◌, ap, subst}
+use Rattle.vm_quick_calls.proofs.Cases.{GoodSoFar}
 use Rattle.vm_quick_calls.proofs.are_good.Given as goal
 
 abbrev pub invariant-loop-i : goal.invariant-loop-i

@@ -1,7 +1,4 @@
 use Rattle.vm_quick_calls.proofs.Cases.{calling}
-use native.Mathlib.Omega.{arith}
-use mathlib.Core.Path.{◌≡◌, refl, sym, ◌∙◌, ap, subst}
-use borrow.Author.Rules.{rules}
 use Rattle.vm_quick_calls.proofs.call_at.Goals as goal
 
 pub returns-then-k-gt-PARAMETERS : goal.returns-then-k-gt-PARAMETERS

@@ -1,7 +1,4 @@
 use Rattle.vm_quick_calls.proofs.Cases.{callees}
-use native.Mathlib.Omega.{arith}
-use mathlib.Core.Path.{◌≡◌, refl, sym, ◌∙◌, ap, subst}
-use borrow.Author.Rules.{rules}
 use Rattle.vm_quick_calls.proofs.callee_size.Goals as goal
 
 pub returns-then-parameters_at-k : goal.returns-then-parameters_at-k

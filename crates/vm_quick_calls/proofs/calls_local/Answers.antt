@@ -1,5 +1,4 @@
 use Rattle.vm_quick_calls.proofs.Cases.{locals}
-use borrow.Author.Rules.{rules}
 use Rattle.vm_quick_calls.proofs.calls_local.Goals as goal
 
 pub returns-in-11 : goal.returns-in-11

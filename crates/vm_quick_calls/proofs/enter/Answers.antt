@@ -1,7 +1,4 @@
 use Rattle.vm_quick_calls.proofs.Cases.{entering}
-use native.Mathlib.Omega.{arith}
-use mathlib.Core.Path.{◌≡◌, refl, sym, ◌∙◌, ap, subst}
-use borrow.Author.Rules.{rules}
 use Rattle.vm_quick_calls.proofs.enter.Goals as goal
 
 pub returns-then-st-at : goal.returns-then-st-at

@@ -1,7 +1,4 @@
 use Rattle.vm_quick_calls.proofs.Cases.{backs}
-use native.Mathlib.Omega.{arith}
-use mathlib.Core.Path.{◌≡◌, refl, sym, ◌∙◌, ap, subst}
-use borrow.Author.Rules.{rules}
 use Rattle.vm_quick_calls.proofs.give_back.Goals as goal
 
 pub returns-in-Value : goal.returns-in-Value

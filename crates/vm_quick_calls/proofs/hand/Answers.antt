@@ -1,7 +1,4 @@
 use Rattle.vm_quick_calls.proofs.Cases.{handing}
-use native.Mathlib.Omega.{arith}
-use mathlib.Core.Path.{◌≡◌, refl, sym, ◌∙◌, ap, subst}
-use borrow.Author.Rules.{rules}
 use Rattle.vm_quick_calls.proofs.hand.Goals as goal
 
 pub returns-then-c-p : goal.returns-then-c-p

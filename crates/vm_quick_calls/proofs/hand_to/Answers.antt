@@ -1,7 +1,4 @@
 use Rattle.vm_quick_calls.proofs.Cases.{handing-to, to_high, to-apart, to-bad}
-use native.Mathlib.Omega.{arith}
-use mathlib.Core.Path.{◌≡◌, refl, sym, ◌∙◌, ap, subst}
-use borrow.Author.Rules.{rules}
 use Rattle.vm_quick_calls.proofs.hand_to.Goals as goal
 
 pub returns-then-m-back : goal.returns-then-m-back

@@ -1,7 +1,4 @@
 use Rattle.vm_quick_calls.proofs.Cases.{bads}
-use native.Mathlib.Omega.{arith}
-use mathlib.Core.Path.{◌≡◌, refl, sym, ◌∙◌, ap, subst}
-use borrow.Author.Rules.{rules}
 use Rattle.vm_quick_calls.proofs.is_bad.Goals as goal
 
 pub returns-in-1 : goal.returns-in-1

@@ -1,4 +1,3 @@
-use borrow.Author.Rules.{rules}
 use Rattle.vm_quick_calls.proofs.is_slot_bad.Goals as goal
 
 pub returns : goal.returns

@@ -1,9 +1,6 @@
-use borrow.Author.Rules.{rules}
 use Prim.Native.Nat.{◌-◌, ◌*◌}
 use Rattle.vm_quick_operands.specs.Fast.{good_read}
-use Rattle.vm_quick_operands.proofs.Reading.{Reading, reading}
-use native.Mathlib.Omega.{arith}
-use mathlib.Core.Path.{◌≡◌, refl, sym, ◌∙◌, ap, subst}
+use Rattle.vm_quick_operands.proofs.Reading.{Reading}
 use Rattle.vm_quick_calls.proofs.read_arguments.Given as goal
 
 abbrev pub invariant-loop-i : goal.invariant-loop-i

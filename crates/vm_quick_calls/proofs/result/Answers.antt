@@ -1,7 +1,4 @@
 use Rattle.vm_quick_calls.proofs.Cases.{results}
-use native.Mathlib.Omega.{arith}
-use mathlib.Core.Path.{◌≡◌, refl, sym, ◌∙◌, ap, subst}
-use borrow.Author.Rules.{rules}
 use Rattle.vm_quick_calls.proofs.result.Goals as goal
 
 pub returns-then-k-eq-END_FUNCTION : goal.returns-then-k-eq-END_FUNCTION

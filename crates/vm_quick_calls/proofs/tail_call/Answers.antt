@@ -1,5 +1,4 @@
 use Rattle.vm_quick_calls.proofs.Cases.{tailing, tail-high}
-use borrow.Author.Rules.{rules}
 use Rattle.vm_quick_calls.proofs.tail_call.Goals as goal
 
 pub returns-then-e-ne-CALL : goal.returns-then-e-ne-CALL

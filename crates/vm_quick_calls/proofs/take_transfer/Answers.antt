@@ -1,7 +1,4 @@
 use Rattle.vm_quick_calls.proofs.Cases.{transferring}
-use native.Mathlib.Omega.{arith}
-use mathlib.Core.Path.{◌≡◌, refl, sym, ◌∙◌, ap, subst}
-use borrow.Author.Rules.{rules}
 use Rattle.vm_quick_calls.proofs.take_transfer.Goals as goal
 
 pub returns-then-c-n : goal.returns-then-c-n

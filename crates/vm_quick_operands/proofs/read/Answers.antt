@@ -1,7 +1,4 @@
 use Rattle.vm_quick_operands.proofs.Cases.{reading}
-use native.Mathlib.Omega.{arith}
-use mathlib.Core.Path.{◌≡◌, refl, sym, ◌∙◌, ap, subst}
-use borrow.Author.Rules.{rules}
 use Rattle.vm_quick_operands.proofs.read.Goals as goal
 
 pub returns-then-v-size : goal.returns-then-v-size

@@ -1,4 +1,3 @@
-use borrow.Author.Rules.{rules}
 use Rattle.vm_quick_operands.proofs.read_slot.Goals as goal
 
 pub returns : goal.returns

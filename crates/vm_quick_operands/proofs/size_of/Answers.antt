@@ -1,7 +1,4 @@
 use Rattle.vm_quick_operands.proofs.Cases.{sizing}
-use native.Mathlib.Omega.{arith}
-use mathlib.Core.Path.{◌≡◌, refl, sym, ◌∙◌, ap, subst}
-use borrow.Author.Rules.{rules}
 use Rattle.vm_quick_operands.proofs.size_of.Goals as goal
 
 pub returns-then-c-g : goal.returns-then-c-g

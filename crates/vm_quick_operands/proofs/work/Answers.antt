@@ -1,7 +1,4 @@
 use Rattle.vm_quick_operands.proofs.Cases.{working}
-use native.Mathlib.Omega.{arith}
-use mathlib.Core.Path.{◌≡◌, refl, sym, ◌∙◌, ap, subst}
-use borrow.Author.Rules.{rules}
 use Rattle.vm_quick_operands.proofs.work.Goals as goal
 
 pub returns-then-k-eq1 : goal.returns-then-k-eq1

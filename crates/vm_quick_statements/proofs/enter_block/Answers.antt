@@ -1,7 +1,4 @@
 use Rattle.vm_quick_statements.proofs.Cases.{blocks, block_in}
-use native.Mathlib.Omega.{arith}
-use mathlib.Core.Path.{◌≡◌, refl, sym, ◌∙◌, ap, subst}
-use borrow.Author.Rules.{rules}
 use Rattle.vm_quick_statements.proofs.enter_block.Goals as goal
 
 pub returns-then-a-lt-FRAME_HEAD : goal.returns-then-a-lt-FRAME_HEAD

@@ -1,7 +1,4 @@
 use Rattle.vm_quick_statements.proofs.Cases.{aiming}
-use native.Mathlib.Omega.{arith}
-use mathlib.Core.Path.{◌≡◌, refl, sym, ◌∙◌, ap, subst}
-use borrow.Author.Rules.{rules}
 use Rattle.vm_quick_statements.proofs.is_aimed.Goals as goal
 
 pub returns-then-a-c : goal.returns-then-a-c

@@ -1,7 +1,4 @@
 use Rattle.vm_quick_statements.proofs.Cases.{jumping}
-use native.Mathlib.Omega.{arith}
-use mathlib.Core.Path.{◌≡◌, refl, sym, ◌∙◌, ap, subst}
-use borrow.Author.Rules.{rules}
 use Rattle.vm_quick_statements.proofs.jump.Goals as goal
 
 pub returns-then-is_aimed : goal.returns-then-is_aimed

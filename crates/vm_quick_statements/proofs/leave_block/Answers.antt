@@ -1,7 +1,4 @@
 use Rattle.vm_quick_statements.proofs.Cases.{ends}
-use native.Mathlib.Omega.{arith}
-use mathlib.Core.Path.{◌≡◌, refl, sym, ◌∙◌, ap, subst}
-use borrow.Author.Rules.{rules}
 use Rattle.vm_quick_statements.proofs.leave_block.Goals as goal
 
 pub returns-then-size-a : goal.returns-then-size-a

@@ -1,7 +1,4 @@
 use Rattle.vm_quick_statements.proofs.Cases.{threes}
-use native.Mathlib.Omega.{arith}
-use mathlib.Core.Path.{◌≡◌, refl, sym, ◌∙◌, ap, subst}
-use borrow.Author.Rules.{rules}
 use Rattle.vm_quick_statements.proofs.read_three.Goals as goal
 
 pub returns-in_default : goal.returns-in_default

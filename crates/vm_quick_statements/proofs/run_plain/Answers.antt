@@ -1,8 +1,4 @@
-use borrow.Author.Rules.{rules}
-use Prim.Native.Nat.{◌-◌}
-use Rattle.vm_quick_statements.proofs.Cases.{SoFar, going}
-use native.Mathlib.Omega.{arith}
-use mathlib.Core.Path.{◌≡◌, refl, sym, ◌∙◌, ap, subst}
+use Rattle.vm_quick_statements.proofs.Cases.{going}
 use Rattle.vm_quick_statements.proofs.run_plain.Goals as goal
 
 pub loop-count-init : goal.loop-count-init

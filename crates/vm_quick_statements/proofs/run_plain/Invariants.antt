@@ -1,8 +1,5 @@
-use borrow.Author.Rules.{rules}
 use Prim.Native.Nat.{◌-◌}
-use Rattle.vm_quick_statements.proofs.Cases.{SoFar, going}
-use native.Mathlib.Omega.{arith}
-use mathlib.Core.Path.{◌≡◌, refl, sym, ◌∙◌, ap, subst}
+use Rattle.vm_quick_statements.proofs.Cases.{SoFar}
 use Rattle.vm_quick_statements.proofs.run_plain.Given as goal
 
 abbrev pub invariant-loop-count : goal.invariant-loop-count

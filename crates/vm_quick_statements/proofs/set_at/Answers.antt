@@ -1,6 +1,4 @@
 use Rattle.vm_quick_statements.proofs.Cases.{ats, word_in}
-use native.Mathlib.Omega.{arith}
-use mathlib.Core.Path.{◌≡◌, refl, sym, ◌∙◌, ap, subst}
 use borrow.Author.Rules.{rules}
 use Rattle.vm_quick_statements.proofs.set_at.Goals as goal
 

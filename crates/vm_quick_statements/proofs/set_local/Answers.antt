@@ -1,5 +1,4 @@
 use Rattle.vm_quick_statements.proofs.Cases.{assign-call}
-use borrow.Author.Rules.{rules}
 use Rattle.vm_quick_statements.proofs.set_local.Goals as goal
 
 pub returns-then-e-eq-CALL : goal.returns-then-e-eq-CALL

@@ -1,7 +1,4 @@
 use Rattle.vm_quick_statements.proofs.Cases.{steps}
-use native.Mathlib.Omega.{arith}
-use mathlib.Core.Path.{◌≡◌, refl, sym, ◌∙◌, ap, subst}
-use borrow.Author.Rules.{rules}
 use Rattle.vm_quick_statements.proofs.take.Goals as goal
 
 pub returns-then-c-n : goal.returns-then-c-n

@@ -1,7 +1,4 @@
 use Rattle.vm_quick_statements.proofs.Cases.{forms}
-use native.Mathlib.Omega.{arith}
-use mathlib.Core.Path.{◌≡◌, refl, sym, ◌∙◌, ap, subst}
-use borrow.Author.Rules.{rules}
 use Rattle.vm_quick_statements.proofs.take_form.Goals as goal
 
 pub returns-then-is_test : goal.returns-then-is_test

@@ -1,5 +1,4 @@
 use Rattle.vm_resume.proofs.Cases.{going-ways}
-use borrow.Author.Rules.{rules}
 use Rattle.vm_resume.proofs.go_on.Goals as goal
 
 pub returns-then-count_fault : goal.returns-then-count_fault

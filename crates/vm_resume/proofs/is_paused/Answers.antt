@@ -1,5 +1,4 @@
 use Rattle.vm_definitions.specs.Claim.{is_paused}
-use borrow.Author.Rules.{rules}
 use Rattle.vm_resume.proofs.is_paused.Goals as goal
 
 pub returns-in-Running : goal.returns-in-Running

@@ -1,5 +1,4 @@
 use Rattle.vm_resume.proofs.Cases.{counts-ways}
-use borrow.Author.Rules.{rules}
 use Rattle.vm_resume.proofs.judge_counts.Goals as goal
 
 pub returns-then-statements_past : goal.returns-then-statements_past

@@ -1,5 +1,4 @@
 use Rattle.vm_resume.proofs.Cases.{resuming}
-use borrow.Author.Rules.{rules}
 use Rattle.vm_resume.proofs.resume.Goals as goal
 
 pub returns-then-is_paused : goal.returns-then-is_paused

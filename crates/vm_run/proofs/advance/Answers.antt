@@ -1,6 +1,4 @@
 use Rattle.vm_run.proofs.Cases.{somes, usable-running, usable-room, usable-stack, usable-memory}
-use native.Mathlib.Omega.{arith}
-use mathlib.Core.Path.{◌≡◌, refl, sym, ◌∙◌, ap, subst}
 use borrow.Author.Rules.{rules}
 use Rattle.vm_run.proofs.advance.Goals as goal
 

@@ -1,6 +1,4 @@
 use Rattle.vm_run.proofs.Cases.{in_frame, moved-running, moved-room}
-use native.Mathlib.Omega.{arith}
-use mathlib.Core.Path.{◌≡◌, refl, sym, ◌∙◌, ap, subst}
 use borrow.Author.Rules.{rules}
 use Rattle.vm_run.proofs.advance_in_frame.Goals as goal
 

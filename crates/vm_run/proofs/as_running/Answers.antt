@@ -1,5 +1,4 @@
 use Rattle.vm_run.proofs.Cases.{as-running}
-use borrow.Author.Rules.{rules}
 use Rattle.vm_run.proofs.as_running.Goals as goal
 
 pub returns : goal.returns

@@ -1,5 +1,4 @@
 use Rattle.vm_run.proofs.Cases.{plain-ends}
-use borrow.Author.Rules.{rules}
 use Rattle.vm_run.proofs.end_plain.Goals as goal
 
 pub returns-then-count-gt0 : goal.returns-then-count-gt0

@@ -1,5 +1,4 @@
 use Rattle.vm_run.specs.Within.{is_running}
-use borrow.Author.Rules.{rules}
 use Rattle.vm_run.proofs.is_running.Goals as goal
 
 pub returns-in-Running : goal.returns-in-Running

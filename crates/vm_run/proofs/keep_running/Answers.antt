@@ -1,5 +1,4 @@
 use Rattle.vm_run.proofs.Cases.{keeps-running}
-use borrow.Author.Rules.{rules}
 use Rattle.vm_run.proofs.keep_running.Goals as goal
 
 pub returns : goal.returns

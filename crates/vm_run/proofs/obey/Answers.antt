@@ -1,5 +1,4 @@
 use Rattle.vm_run.proofs.Cases.{obeying, obey-asks, obey-ready}
-use borrow.Author.Rules.{rules}
 use Rattle.vm_run.proofs.obey.Goals as goal
 
 pub pause-requires : goal.pause-requires

@@ -1,4 +1,3 @@
-use borrow.Author.Rules.{rules}
 use Rattle.vm_run.proofs.refuse_counts.Goals as goal
 
 pub returns : goal.returns

@@ -1,5 +1,4 @@
 use Rattle.vm_run.proofs.Cases.{runs, rows_fit, state-running}
-use borrow.Author.Rules.{rules}
 use Rattle.vm_run.proofs.run.Goals as goal
 
 pub returns-then-budget-eq0 : goal.returns-then-budget-eq0

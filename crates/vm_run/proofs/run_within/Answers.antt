@@ -1,7 +1,4 @@
-use borrow.Author.Rules.{rules}
-use Prim.Native.Nat.{◌-◌}
-use Rattle.vm_definitions.specs.Lent.{world}
-use Rattle.vm_run.proofs.Cases.{RunSoFar, running, running-low, state-running}
+use Rattle.vm_run.proofs.Cases.{running, running-low, state-running}
 use native.Mathlib.Omega.{arith}
 use Rattle.vm_run.proofs.run_within.Goals as goal
 

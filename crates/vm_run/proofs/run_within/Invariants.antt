@@ -1,8 +1,6 @@
-use borrow.Author.Rules.{rules}
 use Prim.Native.Nat.{◌-◌}
 use Rattle.vm_definitions.specs.Lent.{world}
-use Rattle.vm_run.proofs.Cases.{RunSoFar, running, running-low, state-running}
-use native.Mathlib.Omega.{arith}
+use Rattle.vm_run.proofs.Cases.{RunSoFar}
 use Rattle.vm_run.proofs.run_within.Given as goal
 
 abbrev pub invariant-loop-count : goal.invariant-loop-count

@@ -1,5 +1,4 @@
 use Rattle.vm_run.proofs.Cases.{step_run}
-use borrow.Author.Rules.{rules}
 use Rattle.vm_run.proofs.step.Goals as goal
 
 pub returns : goal.returns

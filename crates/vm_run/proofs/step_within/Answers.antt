@@ -1,7 +1,4 @@
 use Rattle.vm_run.proofs.Cases.{within, state-running}
-use native.Mathlib.Omega.{arith}
-use mathlib.Core.Path.{◌≡◌, refl, sym, ◌∙◌, ap, subst}
-use borrow.Author.Rules.{rules}
 use Rattle.vm_run.proofs.step_within.Goals as goal
 
 pub as_running-requires : goal.as_running-requires

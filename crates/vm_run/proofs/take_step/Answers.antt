@@ -1,6 +1,5 @@
 use Rattle.std.proofs.Common.{refl}
 use Rattle.vm_run.proofs.Cases.{taking, take-passed}
-use borrow.Author.Rules.{rules}
 use Rattle.vm_run.proofs.take_step.Goals as goal
 
 pub obey-requires : goal.obey-requires

@@ -1,7 +1,4 @@
 use Rattle.vm_start.proofs.Cases.{aim-ways}
-use native.Mathlib.Omega.{arith}
-use mathlib.Core.Path.{◌≡◌, refl, sym, ◌∙◌, ap, subst}
-use borrow.Author.Rules.{rules}
 use Rattle.vm_start.proofs.aim_fault.Goals as goal
 
 pub returns-then-is_data : goal.returns-then-is_data

@@ -1,6 +1,4 @@
 use Rattle.vm_start.proofs.Cases.{sound-data, sound-few, begin-ways}
-use native.Mathlib.Omega.{arith}
-use mathlib.Core.Path.{◌≡◌, refl, sym, ◌∙◌, ap, subst}
 use borrow.Author.Rules.{rules}
 use Rattle.vm_start.proofs.begin.Goals as goal
 

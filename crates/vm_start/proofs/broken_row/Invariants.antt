@@ -1,10 +1,7 @@
-use borrow.Author.Rules.{rules}
 use Prim.Native.Nat.{◌-◌}
 use Rattle.prog_tables.specs.Program.{lent_program}
 use Rattle.prog_tables.specs.Faults.{row_fault}
-use Rattle.vm_start.proofs.Cases.{Scanning, scanning}
-use native.Mathlib.Omega.{arith}
-use mathlib.Core.Path.{◌≡◌, refl, sym, ◌∙◌, ap, subst}
+use Rattle.vm_start.proofs.Cases.{Scanning}
 use Rattle.vm_start.proofs.broken_row.Given as goal
 
 abbrev pub invariant-loop-i : goal.invariant-loop-i

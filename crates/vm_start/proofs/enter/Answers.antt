@@ -1,7 +1,4 @@
 use Rattle.vm_start.proofs.Cases.{enter-ways}
-use native.Mathlib.Omega.{arith}
-use mathlib.Core.Path.{◌≡◌, refl, sym, ◌∙◌, ap, subst}
-use borrow.Author.Rules.{rules}
 use Rattle.vm_start.proofs.enter.Goals as goal
 
 pub returns-then-n-p : goal.returns-then-n-p

@@ -1,8 +1,4 @@
-use borrow.Author.Rules.{rules}
-use Prim.Native.Nat.{◌-◌}
-use Rattle.vm_start.proofs.Cases.{Finding, finding}
-use native.Mathlib.Omega.{arith}
-use mathlib.Core.Path.{◌≡◌, refl, sym, ◌∙◌, ap, subst}
+use Rattle.vm_start.proofs.Cases.{finding}
 use Rattle.vm_start.proofs.find_export.Goals as goal
 
 pub loop-i-init : goal.loop-i-init

@@ -1,8 +1,5 @@
-use borrow.Author.Rules.{rules}
 use Prim.Native.Nat.{◌-◌}
-use Rattle.vm_start.proofs.Cases.{Finding, finding}
-use native.Mathlib.Omega.{arith}
-use mathlib.Core.Path.{◌≡◌, refl, sym, ◌∙◌, ap, subst}
+use Rattle.vm_start.proofs.Cases.{Finding}
 use Rattle.vm_start.proofs.find_export.Given as goal
 
 abbrev pub invariant-loop-i : goal.invariant-loop-i

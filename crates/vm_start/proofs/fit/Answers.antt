@@ -1,7 +1,4 @@
 use Rattle.vm_start.proofs.Cases.{fit-ways}
-use native.Mathlib.Omega.{arith}
-use mathlib.Core.Path.{◌≡◌, refl, sym, ◌∙◌, ap, subst}
-use borrow.Author.Rules.{rules}
 use Rattle.vm_start.proofs.fit.Goals as goal
 
 pub returns-then-m-d : goal.returns-then-m-d

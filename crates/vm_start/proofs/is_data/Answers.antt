@@ -1,8 +1,6 @@
 use borrow.Author.Rules.{rules}
 use Rattle.prog_tables.specs.Label.{is_data}
 use Rattle.base_prelude.proofs.Choice.{tests}
-use native.Mathlib.Omega.{arith}
-use mathlib.Core.Path.{◌≡◌, refl, sym, ◌∙◌, ap, subst}
 use Rattle.vm_start.proofs.is_data.Goals as goal
 
 pub returns-then-k-eq-DATA : goal.returns-then-k-eq-DATA

@@ -1,7 +1,4 @@
 use Rattle.vm_start.proofs.Cases.{exported-ways}
-use native.Mathlib.Omega.{arith}
-use mathlib.Core.Path.{◌≡◌, refl, sym, ◌∙◌, ap, subst}
-use borrow.Author.Rules.{rules}
 use Rattle.vm_start.proofs.is_exported.Goals as goal
 
 pub returns-then-k-eq-EXPORTED_FUNCTION : goal.returns-then-k-eq-EXPORTED_FUNCTION

@@ -1,8 +1,6 @@
 use borrow.Author.Rules.{rules}
 use Rattle.prog_tables.specs.Label.{is_function_label}
 use Rattle.base_prelude.proofs.Choice.{tests}
-use native.Mathlib.Omega.{arith}
-use mathlib.Core.Path.{◌≡◌, refl, sym, ◌∙◌, ap, subst}
 use Rattle.vm_start.proofs.is_function_label.Goals as goal
 
 pub returns-then-k-eq-FUNCTION : goal.returns-then-k-eq-FUNCTION

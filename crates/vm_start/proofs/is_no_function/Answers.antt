@@ -1,7 +1,4 @@
 use Rattle.vm_start.proofs.Cases.{function-ways}
-use native.Mathlib.Omega.{arith}
-use mathlib.Core.Path.{◌≡◌, refl, sym, ◌∙◌, ap, subst}
-use borrow.Author.Rules.{rules}
 use Rattle.vm_start.proofs.is_no_function.Goals as goal
 
 pub returns-then-n-c : goal.returns-then-n-c

@@ -1,5 +1,4 @@
 use Rattle.vm_start.proofs.Cases.{judge-ways}
-use borrow.Author.Rules.{rules}
 use Rattle.vm_start.proofs.judge.Goals as goal
 
 pub returns-then-statements_past : goal.returns-then-statements_past

@@ -1,5 +1,4 @@
 use Rattle.vm_start.proofs.Cases.{row-ways}
-use borrow.Author.Rules.{rules}
 use Rattle.vm_start.proofs.judge_rows.Goals as goal
 
 pub returns-then-rest_fault : goal.returns-then-rest_fault

@@ -1,5 +1,4 @@
 use Rattle.vm_start.proofs.Cases.{rest-ways}
-use borrow.Author.Rules.{rules}
 use Rattle.vm_start.proofs.rest_fault.Goals as goal
 
 pub returns-then-labels_past : goal.returns-then-labels_past

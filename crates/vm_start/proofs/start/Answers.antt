@@ -1,7 +1,5 @@
 use Rattle.vm_start.proofs.Cases.{start-sound, start-ways}
-use native.Mathlib.Omega.{arith}
-use mathlib.Core.Path.{◌≡◌, refl, sym, ◌∙◌, ap, subst}
-use borrow.Author.Rules.{rules}
+use mathlib.Core.Path.{refl}
 use Rattle.vm_start.proofs.start.Goals as goal
 
 pub begin-requires : goal.begin-requires

@@ -1,7 +1,4 @@
 use Rattle.vm_statements.proofs.Cases.{assigns}
-use native.Mathlib.Omega.{arith}
-use mathlib.Core.Path.{◌≡◌, refl, sym, ◌∙◌, ap, subst}
-use borrow.Author.Rules.{rules}
 use Rattle.vm_statements.proofs.assign.Goals as goal
 
 pub returns-in-Value : goal.returns-in-Value

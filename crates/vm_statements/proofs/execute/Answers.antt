@@ -1,8 +1,6 @@
 use Rattle.vm_statements.proofs.Chosen.{doing}
 use Rattle.vm_statements.proofs.Forms.{kind-calls, kind-tail-calls, kind-leaves, kind-let, kind-set}
 use Rattle.vm_statements.proofs.Cases.{test-is}
-use native.Mathlib.Omega.{arith}
-use mathlib.Core.Path.{◌≡◌, refl, sym, ◌∙◌, ap, subst}
 use borrow.Author.Rules.{rules}
 use Rattle.vm_statements.proofs.execute.Goals as goal
 

@@ -1,7 +1,5 @@
 use Rattle.vm_statements.proofs.Chosen.{return-forms}
 use Rattle.vm_statements.proofs.Forms.{return-called, bare-leaves, return-expressed}
-use native.Mathlib.Omega.{arith}
-use mathlib.Core.Path.{◌≡◌, refl, sym, ◌∙◌, ap, subst}
 use borrow.Author.Rules.{rules}
 use Rattle.vm_statements.proofs.give_back.Goals as goal
 

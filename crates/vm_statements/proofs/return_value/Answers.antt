@@ -1,8 +1,5 @@
 use Rattle.vm_statements.proofs.Cases as cases
 use Rattle.vm_statements.proofs.Forms.{expressed-leaves}
-use native.Mathlib.Omega.{arith}
-use mathlib.Core.Path.{◌≡◌, refl, sym, ◌∙◌, ap, subst}
-use borrow.Author.Rules.{rules}
 use Rattle.vm_statements.proofs.return_value.Goals as goal
 
 pub hand_back-requires : goal.hand_back-requires

@@ -1,7 +1,4 @@
 use Rattle.vm_statements.proofs.Cases.{tested}
-use native.Mathlib.Omega.{arith}
-use mathlib.Core.Path.{◌≡◌, refl, sym, ◌∙◌, ap, subst}
-use borrow.Author.Rules.{rules}
 use Rattle.vm_statements.proofs.run_test.Goals as goal
 
 pub returns-in_default : goal.returns-in_default

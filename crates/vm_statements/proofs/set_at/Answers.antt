@@ -1,7 +1,5 @@
 use Rattle.vm_statements.proofs.Chosen.{at-forms}
 use Rattle.vm_statements.proofs.Forms.{at_called, at-expressed}
-use native.Mathlib.Omega.{arith}
-use mathlib.Core.Path.{◌≡◌, refl, sym, ◌∙◌, ap, subst}
 use borrow.Author.Rules.{rules}
 use Rattle.vm_statements.proofs.set_at.Goals as goal
 

@@ -1,7 +1,5 @@
 use Rattle.vm_statements.proofs.Cases.{byte-ways}
 use Rattle.vm_operands.proofs.Cases.{byte-in}
-use native.Mathlib.Omega.{arith}
-use mathlib.Core.Path.{◌≡◌, refl, sym, ◌∙◌, ap, subst}
 use borrow.Author.Rules.{rules}
 use Rattle.vm_statements.proofs.set_byte.Goals as goal
 

@@ -1,7 +1,5 @@
 use Rattle.vm_statements.proofs.Chosen.{locals}
 use Rattle.vm_statements.proofs.Forms.{local-calls, local-expressed}
-use native.Mathlib.Omega.{arith}
-use mathlib.Core.Path.{◌≡◌, refl, sym, ◌∙◌, ap, subst}
 use borrow.Author.Rules.{rules}
 use Rattle.vm_statements.proofs.set_local.Goals as goal
 

@@ -1,0 +1,18 @@
+use Rattle.test_cases.proofs.Cases.{is-view-ways}
+use Rattle.test_cases.proofs.is_view.Goals as goal
+
+pub returns-then-starts_with : goal.returns-then-starts_with
+returns-then-starts_with c =
+    search is-view-ways
+
+pub returns-then-starts_with-2 : goal.returns-then-starts_with-2
+returns-then-starts_with-2 c =
+    search is-view-ways
+
+pub returns-then-starts_with-3 : goal.returns-then-starts_with-3
+returns-then-starts_with-3 c =
+    search is-view-ways
+
+pub returns : goal.returns
+returns c =
+    search is-view-ways
