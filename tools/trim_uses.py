@@ -13,11 +13,12 @@ TOKEN = r"[^\s(){}\[\].,;⌜⌝]+"
 def main():
     for crate in sys.argv[1:]:
         for path in glob.glob(f"crates/{crate}/proofs/**/*.antt", recursive=True):
-            if not path.endswith(("/Answers.antt", "/Invariants.antt")):
+            if not path.endswith(("/Answers.antt", "/Invariants.antt")) or path.count("/") < 4:
                 continue
             text = open(path, encoding="utf-8").read()
             lines = text.split("\n")
-            words = set(re.findall(TOKEN, "\n".join(l for l in lines if not l.startswith(("use ", "--")))))
+            body = "\n".join(l for l in lines if not l.startswith(("use ", "--")))
+            words = set(re.findall(TOKEN, body)) | ({"[]"} if "[]" in body else set())
             out = []
             for line in lines:
                 m = re.match(r"use (\S+)\.\{(.*)\}$", line)

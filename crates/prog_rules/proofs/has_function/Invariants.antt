@@ -1,3 +1,4 @@
+use mathlib.Core.List.{[]}
 use Rattle.prog_names.proofs.Loops.{Seeking}
 use Rattle.prog_rules.specs.Rules.{bears}
 use Rattle.prog_tables.specs.Label.{label_at, is_function_label}

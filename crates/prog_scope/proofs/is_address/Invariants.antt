@@ -1,3 +1,4 @@
+use mathlib.Core.List.{[]}
 use Rattle.prog_scope.proofs.Loops.{Searching}
 use Prim.Native.Nat.{◌-◌}
 use Rattle.prog_tables.specs.Label.{label_at}

@@ -1,3 +1,4 @@
+use mathlib.Core.List.{[]}
 use Rattle.prog_scope.proofs.Loops.{Passing}
 use Prim.Native.Nat.{◌-◌}
 use Rattle.prog_tables.specs.Statement.{row_at}
