@@ -38,6 +38,13 @@ pub enum State {
     Paused(Pause),
 }
 
+// A refusal: its number, and the place it speaks of.
+#[derive(Clone, Copy)]
+pub struct Refusal {
+    pub number: u32,
+    pub place: usize,
+}
+
 // The run record: the state, the next statement, the start of the frame in use, the stack words in use, the auto top.
 #[derive(Clone, Copy)]
 pub struct Machine {
