@@ -22,11 +22,8 @@ pub fn put_zeros(st: &mut [u32], at: usize, n: u32)
     requires { at < 1099511627776 }
     ensures { st.new ≡ store_from st.old at (replicate n 0) }
 {
-    let k = n as usize;
-    let mut i: usize = 0;
-    while i < k {
+    for i in 0..n as usize {
         put(st, at + i, 0);
-        i += 1;
     }
 }
 
@@ -36,10 +33,8 @@ pub fn put_words(st: &mut [u32], at: usize, ws: &[u32])
     requires ws_len_bound { length ws.now < word_values }
     ensures { st.new ≡ store_from st.old at ws.now }
 {
-    let mut i: usize = 0;
-    while i < ws.len() {
-        put(st, at + i, ws[i]);
-        i += 1;
+    for (i, w) in ws.iter().enumerate() {
+        put(st, at + i, *w);
     }
 }
 
@@ -47,12 +42,7 @@ pub fn put_words(st: &mut [u32], at: usize, ws: &[u32])
 fn left_over(size: u32, n: u32) -> u32
     ensures { result ≡ size - (3 + n) }
 {
-    let least = 3 + n as u64;
-    let whole = size as u64;
-    if whole < least {
-        return 0;
-    }
-    size - 3 - n
+    size.saturating_sub(3).saturating_sub(n)
 }
 
 // The head of a new frame.
@@ -112,9 +102,5 @@ pub fn put_bytes(m: &mut [u8], bytes: &[u8], n: u32)
     ensures { m.new ≡ store_from m.old 0 (take n bytes.now) }
 {
     let k = n as usize;
-    let mut i: usize = 0;
-    while i < k {
-        m[i] = bytes[i];
-        i += 1;
-    }
+    m[..k].copy_from_slice(&bytes[..k]);
 }

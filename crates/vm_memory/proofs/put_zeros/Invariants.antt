@@ -1,4 +1,3 @@
-use Prim.Native.Nat.{◌-◌}
 use lib.ListN.{replicate}
 use Rattle.vm_memory.proofs.Cases.{Putting}
 use Rattle.vm_memory.proofs.put_zeros.Given as goal
@@ -6,7 +5,3 @@ use Rattle.vm_memory.proofs.put_zeros.Given as goal
 abbrev pub invariant-loop-i : goal.invariant-loop-i
 invariant-loop-i l =
     Putting l.initial.st l.at (replicate l.n 0) l.st l.i
-
-abbrev pub decreases-loop-i : goal.decreases-loop-i
-decreases-loop-i l =
-    l.n - l.i
