@@ -2,7 +2,7 @@
 -- Assumes nothing.
 use mathlib.Core.Path.{◌≡◌, refl, sym, ◌∙◌, ap, subst}
 use mathlib.Core.Bool.{Bool, true, false, not}
-use mathlib.Core.List.{List, [], ◌∷◌}
+use mathlib.Core.List.{List}
 use Prim.Native.Nat.{ℕ, zero, suc, ◌+◌, ◌-◌, ◌*◌, ◌<◌, ◌≤◌, min}
 use native.Mathlib.Nat.{not-suc-le-zero}
 use native.Mathlib.Numerals.{add-one}
@@ -11,12 +11,11 @@ use native.Mathlib.Omega.{arith}
 use lib.Dec.{eqb, ltb, leb}
 use lib.ListN.{length, get_or, take, drop, length-drop, drop_of_length-le}
 use lib.Seq.{take_all, take-nil}
-use borrow.Author.Tests.{eq-eqb, ne_eqb, lt-ltb, le-ltb, le-leb, lt-leb, ltb-true, ltb-false, eqb-true}
-use Rattle.base_prelude.specs.Choice.{pick, if_lt, if_eq, if_true}
+use borrow.Author.Tests.{eq-eqb, ne_eqb, lt-ltb, le-ltb, le-leb, ltb-true, ltb-false, eqb-true}
+use Rattle.base_prelude.specs.Choice.{pick, if_eq, if_true}
 use Rattle.base_prelude.specs.Lists.{same_list}
 use Rattle.base_prelude.proofs.Choice.{true-false, if_lt-yes, if_lt-no, if_true-no}
 use Rattle.base_limits.specs.declared.Machine.{Machine}
-use Rattle.base_limits.specs.declared.Width.{Width}
 use Rattle.base_limits.specs.declared.Width.TheVariants.{Bits32}
 use Rattle.base_limits.specs.Record.{fresh_of, mark}
 use Rattle.prog_tables.specs.Tests.{both, one_of, some, some_below, first_from}
@@ -35,7 +34,6 @@ use Rattle.vm_definitions.specs.declared.Broken.{Broken}
 use Rattle.vm_definitions.specs.declared.Broken.TheVariants.{No, At, Somewhere}
 use Rattle.vm_definitions.specs.declared.Started.{Started}
 use Rattle.vm_definitions.specs.declared.Started.TheVariants.{Begun, Refused, Unsound}
-use Rattle.vm_definitions.specs.declared.Opening.{Opening}
 use Rattle.vm_start.specs.Opening.{Opened, opened, opening_of, labels_alone, no_function, aim_fault, rest_fault, rows_broken, refused_with, begun_at, fitted_of, entered_of}
 use Rattle.prog_tables.proofs.Each.{some_at, one-no, one-false}
 
@@ -84,8 +82,8 @@ module _ (f : ℕ → Row) (c n : ℕ) where
   pub aim-kind : (k : ℕ) → n < c → k ≡ (f n).kind → not (eqb k 1) ≡ no_function f c n
   aim-kind k h e = rw (lt-ltb _ _ h, e)
 
-  pub aim-past : c ≤ n → true ≡ no_function f c n
-  aim-past h = rw (le-ltb _ _ h)
+  pub aim-past : c ≤ n → leb c n ≡ no_function f c n
+  aim-past h = rw (le-ltb _ _ h, le-leb _ _ h)
 
 pub ruleset function-ways = (aim-kind, aim-past)
 
@@ -248,9 +246,9 @@ module _ (l names name : List ℕ) (k i : ℕ) (h : Finding l names name k i) wh
   unfolding export_of exports_as
   whole = refl
 
-  pub finding-done : k ≤ i → i ≡ export_of (labels_alone l k names) name
+  pub finding-done : k ≤ i → k ≡ export_of (labels_alone l k names) name
   unfolding first_from
-  finding-done g = let z : k - i ≡ 0 = omega arith in (rw z at h.rest) ∙ whole
+  finding-done g = let z : k - i ≡ 0 = omega arith in let o : k ≡ i = omega (arith, h.within) in o ∙ (rw z at h.rest) ∙ whole
 
   module _ (b : Bool) (g : i < k) (e : b ≡ exports_as (labels_alone l 0 names) name i) where
     pub finding-more : b ≡ false → Finding l names name k (i + 1)

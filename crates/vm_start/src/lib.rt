@@ -25,12 +25,10 @@ use vm_definitions::{Broken, Opening, Started};
 fn broken_row(t: &[u32], c: u32, l: &[u32], k: u32, d: u32) -> Broken
     ensures { result ≡ lowest (row_fault (lent_program t.now c l.now k d)) (numbers_below c) }
 {
-    let mut i: u32 = 0;
-    while i < c {
+    for i in 0..c {
         if prog_faults::row_fault(t, c, l, k, d, i) {
             return Broken::At(i);
         }
-        i += 1;
     }
     Broken::No
 }
@@ -39,30 +37,21 @@ fn broken_row(t: &[u32], c: u32, l: &[u32], k: u32, d: u32) -> Broken
 fn is_data(k: u32) -> bool
     ensures { result ≡ is_data k }
 {
-    if k == LabelKind::DATA {
-        return true;
-    }
-    k == LabelKind::EXPORTED_DATA
+    k == LabelKind::DATA || k == LabelKind::EXPORTED_DATA
 }
 
 // Whether a label kind is that of a function.
 fn is_function_label(k: u32) -> bool
     ensures { result ≡ is_function_label k }
 {
-    if k == LabelKind::FUNCTION {
-        return true;
-    }
-    k == LabelKind::EXPORTED_FUNCTION
+    k == LabelKind::FUNCTION || k == LabelKind::EXPORTED_FUNCTION
 }
 
 // Whether a row is no `function` row of c rows.
 fn is_no_function(t: &[u32], c: u32, n: u32) -> bool
     ensures { result ≡ no_function (row_at t.now) c n }
 {
-    if n < c {
-        return prog_tables::kind_at(t, n) != Kind::FUNCTION;
-    }
-    true
+    c <= n || prog_tables::kind_at(t, n) != Kind::FUNCTION
 }
 
 // Whether a label of kind k with number n is broken, its name aside.
@@ -103,12 +92,10 @@ fn label_fault(t: &[u32], c: u32, l: &[u32], k: u32, names: &[u8], d: u32, i: u3
 fn labels_fault(t: &[u32], c: u32, l: &[u32], k: u32, names: &[u8], d: u32) -> bool
     ensures { result ≡ some_below (λ i. label_fault (program_from Bits32 (tables_of t.now c l.now k names.now d)) (label_at l.now names.now i)) k }
 {
-    let mut i: u32 = 0;
-    while i < k {
+    for i in 0..k {
         if label_fault(t, c, l, k, names, d, i) {
             return true;
         }
-        i += 1;
     }
     false
 }
@@ -153,20 +140,13 @@ pub fn judge(t: &[u32], c: u32, l: &[u32], k: u32, names: &[u8], d: u32, n: usiz
     judge_rows(t, c, l, k, names, d, n)
 }
 
-// The lesser of two numbers.
-fn lesser(a: usize, b: usize) -> usize
-    ensures { result ≡ min a b }
-{
-    if a < b { a } else { b }
-}
-
 // Whether n bytes from a place on are a name; those past the end are none.
 fn is_named(names: &[u8], at: usize, n: usize, name: &[u8]) -> bool
     requires { at + n < 1099511627776 }
     ensures { result ≡ same_list (take n (drop at names.now)) name.now }
 {
-    let from = lesser(at, names.len());
-    let to = lesser(at + n, names.len());
+    let from = at.min(names.len());
+    let to = (at + n).min(names.len());
     base_prelude::same(&names[from..to], name)
 }
 
@@ -187,14 +167,12 @@ fn is_exported(l: &[u32], names: &[u8], name: &[u8], i: u32) -> bool
 fn find_export(l: &[u32], k: u32, names: &[u8], name: &[u8]) -> u32
     ensures { result ≡ export_of (labels_alone l.now k names.now) name.now }
 {
-    let mut i: u32 = 0;
-    while i < k {
+    for i in 0..k {
         if is_exported(l, names, name, i) {
             return i;
         }
-        i += 1;
     }
-    i
+    k
 }
 
 // Builds the first frame of the function at row g, writes the data and gives the record.
@@ -236,25 +214,25 @@ fn fit(
 {
     if m.len() < d as usize {
         return Opening {
-            machine: machine,
+            machine,
             answer: Started::Refused(22),
         };
     }
     if Machine::MEMORY_BYTES < m.len() {
         return Opening {
-            machine: machine,
+            machine,
             answer: Started::Refused(22),
         };
     }
     if st.len() < size as usize {
         return Opening {
-            machine: machine,
+            machine,
             answer: Started::Refused(23),
         };
     }
     if Machine::STACK_WORDS < st.len() {
         return Opening {
-            machine: machine,
+            machine,
             answer: Started::Refused(23),
         };
     }
@@ -284,7 +262,7 @@ fn enter(
     let p = prog_tables::parameters_at(t, g);
     if n != p as usize {
         return Opening {
-            machine: machine,
+            machine,
             answer: Started::Refused(21),
         };
     }
@@ -316,7 +294,7 @@ fn begin(
         return enter(t, g, d, bytes, args, machine, st, m);
     }
     Opening {
-        machine: machine,
+        machine,
         answer: Started::Refused(20),
     }
 }
@@ -363,11 +341,11 @@ pub fn start(
             memory,
         ),
         Broken::At(i) => Opening {
-            machine: machine,
+            machine,
             answer: Started::Unsound(Broken::At(i)),
         },
         Broken::Somewhere => Opening {
-            machine: machine,
+            machine,
             answer: Started::Unsound(Broken::Somewhere),
         },
     }

@@ -8,7 +8,7 @@ unfolding is_data
 returns-then-k-eq-DATA c =
     search (rules, tests)
 
-pub returns : goal.returns
+pub returns-else-k-eq-DATA : goal.returns-else-k-eq-DATA
 unfolding is_data
-returns c =
+returns-else-k-eq-DATA c =
     search (rules, tests)

@@ -8,7 +8,7 @@ unfolding is_function_label
 returns-then-k-eq-FUNCTION c =
     search (rules, tests)
 
-pub returns : goal.returns
+pub returns-else-k-eq-FUNCTION : goal.returns-else-k-eq-FUNCTION
 unfolding is_function_label
-returns c =
+returns-else-k-eq-FUNCTION c =
     search (rules, tests)

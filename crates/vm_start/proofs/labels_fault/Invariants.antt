@@ -1,4 +1,3 @@
-use Prim.Native.Nat.{◌-◌}
 use Rattle.base_limits.specs.declared.Width.TheVariants.{Bits32}
 use Rattle.prog_tables.specs.Program.{program_from}
 use Rattle.vm_definitions.specs.Lent.{tables_of}
@@ -10,7 +9,3 @@ use Rattle.vm_start.proofs.labels_fault.Given as goal
 abbrev pub invariant-loop-i : goal.invariant-loop-i
 invariant-loop-i l =
     Trying (λ j. label_fault (program_from Bits32 (tables_of l.t l.c l.l l.k l.names l.d)) (label_at l.l l.names j)) l.k l.i
-
-abbrev pub decreases-loop-i : goal.decreases-loop-i
-decreases-loop-i l =
-    l.k - l.i
