@@ -1,16 +1,17 @@
 -- The ways through the functions on nesting and scope.
 -- Assumes nothing.
-use mathlib.Core.Path.{◌≡◌, refl, sym, ◌∙◌, ap}
+use mathlib.Core.Path.{◌≡◌, refl, ap}
 use mathlib.Core.Bool.{Bool, true, false}
-use Prim.Native.Nat.{ℕ, zero, suc, ◌+◌, ◌-◌, ◌<◌, ◌≤◌}
+use Prim.Native.Nat.{ℕ, suc, ◌+◌, ◌-◌, ◌<◌, ◌≤◌}
 use native.Mathlib.Numerals.{add-one}
-use native.Mathlib.Nat.{not-suc-le-zero}
-use native.Mathlib.Decide.{ℕ_discrete}
 use native.Mathlib.Omega.{arith}
 use borrow.Author.Tests.{eq-eqb, ne_eqb, le-leb, lt-leb}
-use lib.Dec.{eqb, leb}
+use lib.Dec.{eqb}
 use Rattle.base_prelude.specs.Choice.{if_true, if_eq}
-use Rattle.prog_tables.specs.Tests.{first_from, count_below}
+use Rattle.std.specs.Option.{unwrap_or}
+use Rattle.std.specs.declared.option.Option.{Option}
+use Rattle.prog_tables.specs.Tests.{count_below}
+use Rattle.prog_tables.proofs.First.{FirstOf, first-is, first-within}
 use Rattle.prog_tables.specs.Statement.{Row, is_test}
 use Rattle.prog_tables.specs.Nesting.{is_arm, is_end_if, next_arm, end_if_of, past_arm, target_of, encloses}
 use Rattle.prog_tables.specs.Frames.{lets_before, first_let, let_seen, locals_at}
@@ -18,15 +19,19 @@ use Rattle.prog_tables.specs.Frames.{lets_before, first_let, let_seen, locals_at
 -- ---- one row
 
 module _ (f : ℕ → Row) (u i x : ℕ) (e : x ≡ (f i).up) where
-  pub arm_in : (k : ℕ) → x ≡ u → k ≡ (f i).kind → 20 ≤ k → leb k 22 ≡ is_arm f u i
+  pub arm_in : (k : ℕ) → x ≡ u → k ≡ (f i).kind → 20 ≤ k → k ≤ 22 → true ≡ is_arm f u i
   unfolding is_arm
-  arm_in k h d l = rw (← e, ← d, eq-eqb _ _ h, le-leb _ _ l)
+  arm_in k h d l m = rw (← e, ← d, eq-eqb _ _ h, le-leb _ _ l, le-leb _ _ m)
 
   pub arm_low : (k : ℕ) → x ≡ u → k ≡ (f i).kind → k < 20 → false ≡ is_arm f u i
   unfolding is_arm
   arm_low k h d l = rw (← e, ← d, eq-eqb _ _ h, lt-leb _ _ l)
 
-  pub arm-other : (x ≡ u → ⊥) → false ≡ is_arm f u i
+  pub arm_high : (k : ℕ) → x ≡ u → k ≡ (f i).kind → 20 ≤ k → 22 < k → false ≡ is_arm f u i
+  unfolding is_arm
+  arm_high k h d l m = rw (← e, ← d, eq-eqb _ _ h, le-leb _ _ l, lt-leb _ _ m)
+
+  pub arm-other : (x ≡ u → ⊥) → eqb x u ≡ is_arm f u i
   unfolding is_arm
   arm-other h = rw (← e, ne_eqb _ _ h)
 
@@ -34,57 +39,24 @@ module _ (f : ℕ → Row) (u i x : ℕ) (e : x ≡ (f i).up) where
   unfolding is_end_if
   end-in k h d = rw (← e, ← d, eq-eqb _ _ h)
 
-  pub end-other : (x ≡ u → ⊥) → false ≡ is_end_if f u i
+  pub end-other : (x ≡ u → ⊥) → eqb x u ≡ is_end_if f u i
   unfolding is_end_if
   end-other h = rw (← e, ne_eqb _ _ h)
 
-pub ruleset armed = (arm_in, arm_low, arm-other, end-in, end-other)
+pub ruleset armed = (arm_in, arm_low, arm_high, arm-other, end-in, end-other)
 
--- ---- the search loops: from s on, below c
+-- ---- the searches: from n + 1 on, below c
 
-pub record Finding (p : ℕ → Bool) (c s i : ℕ) : Type 0 where
-  pub below : i ≤ c
-  pub rest : first_from p (c - i) i ≡ first_from p (c - s) s
+module _ (f : ℕ → Row) (c n u : ℕ) (o : Option ℕ) (l : n < c) (e : u ≡ (f n).up) where
+  pub arm-first : FirstOf (is_arm f u) (n + 1) c o → unwrap_or o c ≡ next_arm f c n
+  unfolding next_arm
+  arm-first h = rw (← e, ← add-one n) (first-is (is_arm f u) (n + 1) c o (omega arith) h)
 
-pub finding-start : (p : ℕ → Bool) (c n : ℕ) → n < c → Finding p c (n + 1) (n + 1)
-finding-start p c n h = record { below = omega arith; rest = refl }
+  pub end-first : FirstOf (is_end_if f u) (n + 1) c o → unwrap_or o c ≡ end_if_of f c n
+  unfolding end_if_of
+  end-first h = rw (← e, ← add-one n) (first-is (is_end_if f u) (n + 1) c o (omega arith) h)
 
-module _ (p : ℕ → Bool) (c s i : ℕ) (h : Finding p c s i) where
-  stopped : c ≤ i → i ≡ first_from p (c - s) s
-  unfolding first_from
-  stopped l = let e : c - i ≡ 0 = omega arith in rw e at h.rest
-
-  module _ (b : Bool) (l : i < c) (d : b ≡ p i) where
-    pub finding-more : b ≡ false → Finding p c s (i + 1)
-    unfolding first_from
-    finding-more q =
-        let e : c - i ≡ suc (c - (i + 1)) = omega arith in
-        record { below = omega arith; rest = rw (add-one i) (rw (e, ← d, q, add-one i) at h.rest) }
-
-    found : b ≡ true → i ≡ first_from p (c - s) s
-    unfolding first_from
-    found q = let e : c - i ≡ suc (c - (i + 1)) = omega arith in rw (e, ← d, q) at h.rest
-
-module _ (f : ℕ → Row) (c n u i : ℕ) (e : u ≡ (f n).up) where
-  module _ (h : Finding (is_arm f u) c (n + 1) i) where
-    pub arm-found : (b : Bool) → i < c → b ≡ is_arm f u i → b ≡ true → i ≡ next_arm f c n
-    unfolding next_arm
-    arm-found b l d q = rw (← e, ← add-one n) (found (is_arm f u) c (n + 1) i h b l d q)
-
-    pub arm-none : c ≤ i → i ≡ next_arm f c n
-    unfolding next_arm
-    arm-none l = rw (← e, ← add-one n) (stopped (is_arm f u) c (n + 1) i h l)
-
-  module _ (h : Finding (is_end_if f u) c (n + 1) i) where
-    pub end-found : (b : Bool) → i < c → b ≡ is_end_if f u i → b ≡ true → i ≡ end_if_of f c n
-    unfolding end_if_of
-    end-found b l d q = rw (← e, ← add-one n) (found (is_end_if f u) c (n + 1) i h b l d q)
-
-    pub end_none : c ≤ i → i ≡ end_if_of f c n
-    unfolding end_if_of
-    end_none l = rw (← e, ← add-one n) (stopped (is_end_if f u) c (n + 1) i h l)
-
-pub ruleset finding = (finding-start, finding-more, arm-found, arm-none, end-found, end_none)
+pub ruleset finding = (arm-first, end-first, first-within)
 
 -- ---- targets
 
@@ -123,7 +95,7 @@ module _ (f : ℕ → Row) (fuel e s : ℕ) where
     unfolding encloses if_eq
     around-block k o b q g h d r = rw (left, ne_eqb _ _ q, ← g, eq-eqb _ _ h, ← d) r
 
-    pub around-out : (k : ℕ) → (s ≡ e → ⊥) → k ≡ (f s).kind → (k ≡ 3 → ⊥) → false ≡ encloses f fuel e s
+    pub around-out : (k : ℕ) → (s ≡ e → ⊥) → k ≡ (f s).kind → (k ≡ 3 → ⊥) → eqb k 3 ≡ encloses f fuel e s
     unfolding encloses if_eq
     around-out k q g h = rw (left, ne_eqb _ _ q, ← g, ne_eqb _ _ h)
 
@@ -158,7 +130,7 @@ module _ (f : ℕ → Row) (s i : ℕ) where
     unfolding let_seen
     seen-let e b h d q = rw (← g, eq-eqb _ _ h, ← d) q
 
-    pub seen_other : (k ≡ 5 → ⊥) → false ≡ let_seen f s i
+    pub seen_other : (k ≡ 5 → ⊥) → eqb k 5 ≡ let_seen f s i
     unfolding let_seen
     seen_other h = rw (← g, ne_eqb _ _ h)
 
@@ -176,17 +148,17 @@ seeing-start f s n = record { below = omega arith; few = omega arith; same = ref
 
 module _ (f : ℕ → Row) (s n seen i : ℕ) (h : Seeing f s n seen i) where
   module _ (b : Bool) (l : i < n) (e : b ≡ let_seen f s i) where
-    pub seeing-let : b ≡ true → Seeing f s n (seen + 1) (i + 1)
+    pub seeing-let : (m : ℕ) → b ≡ true → m ≡ seen + 1 → Seeing f s n m (i + 1)
     unfolding count_below
-    seeing-let p =
-        record { below = omega arith; few = omega (arith, h.few); same = rw (add-one seen, add-one i, ← e, p) (ap suc h.same) }
+    seeing-let m p q =
+        record { below = omega arith; few = omega (arith, h.few); same = rw (q, add-one seen, add-one i, ← e, p) (ap suc h.same) }
 
-    pub seeing-other : b ≡ false → Seeing f s n seen (i + 1)
+    pub seeing-other : (m : ℕ) → b ≡ false → m ≡ seen → Seeing f s n m (i + 1)
     unfolding count_below
-    seeing-other p = record { below = omega arith; few = omega (arith, h.few); same = rw (add-one i, ← e, p) h.same }
+    seeing-other m p q = record { below = omega arith; few = omega (arith, h.few); same = rw (q, add-one i, ← e, p) h.same }
 
-  pub seeing-done : (g p : ℕ) → n ≤ i → s ≡ (f n).scope → g ≡ (f n).func → p ≡ (f g).b → p + seen ≡ locals_at f n
+  pub seeing-done : (g p x y : ℕ) → n ≤ i → s ≡ (f n).scope → g ≡ (f n).func → p ≡ (f g).b → x ≡ p → y ≡ seen → x + y ≡ locals_at f n
   unfolding locals_at
-  seeing-done g p l q d r = let e : i ≡ n = omega (arith, h.below) in rw (← q, ← d, ← r) (ap (λ (k : ℕ). p + k) (rw e at h.same))
+  seeing-done g p x y l q d r k m = let e : i ≡ n = omega (arith, h.below) in rw (← q, ← d, ← r, k, m) (ap (λ (k : ℕ). p + k) (rw e at h.same))
 
 pub ruleset counted = (seeing-start, seeing-let, seeing-other, seeing-done)

@@ -1,6 +1,6 @@
 -- The ways through the functions on lets and on what a frame needs.
 -- Assumes nothing.
-use mathlib.Core.Path.{◌≡◌, refl, ap}
+use mathlib.Core.Path.{◌≡◌, refl, ◌∙◌, ap}
 use mathlib.Core.Bool.{Bool, true, false}
 use Prim.Native.Nat.{ℕ, suc, ◌+◌, ◌-◌, ◌*◌, ◌<◌, ◌≤◌, max}
 use native.Mathlib.Numerals.{add-one}
@@ -17,7 +17,7 @@ module _ (f : ℕ → Row) (k s i x : ℕ) (e : x ≡ (f i).kind) where
   unfolding is_in
   in_scope_lem y d h = rw (← e, ← d, eq-eqb _ _ h)
 
-  pub in-other : (x ≡ k → ⊥) → false ≡ is_in f k s i
+  pub in-other : (x ≡ k → ⊥) → eqb x k ≡ is_in f k s i
   unfolding is_in
   in-other h = rw (← e, ne_eqb _ _ h)
 
@@ -35,14 +35,14 @@ counting-start f s n = record { below = omega arith; few = omega arith; same = r
 
 module _ (f : ℕ → Row) (s n lets i : ℕ) (h : Counting f s n lets i) where
   module _ (b : Bool) (l : i < n) (e : b ≡ is_in f 5 s i) where
-    pub counting-let : b ≡ true → Counting f s n (lets + 1) (i + 1)
+    pub counting-let : (m : ℕ) → b ≡ true → m ≡ lets + 1 → Counting f s n m (i + 1)
     unfolding lets_before count_below
-    counting-let p =
-        record { below = omega arith; few = omega (arith, h.few); same = rw (add-one lets, add-one i, ← e, p) (ap suc h.same) }
+    counting-let m p q =
+        record { below = omega arith; few = omega (arith, h.few); same = rw (q, add-one lets, add-one i, ← e, p) (ap suc h.same) }
 
-    pub counting-other : b ≡ false → Counting f s n lets (i + 1)
+    pub counting-other : (m : ℕ) → b ≡ false → m ≡ lets → Counting f s n m (i + 1)
     unfolding lets_before count_below
-    counting-other p = record { below = omega arith; few = omega (arith, h.few); same = rw (add-one, ← e, p) h.same }
+    counting-other m p q = record { below = omega arith; few = omega (arith, h.few); same = rw (q, add-one, ← e, p) h.same }
 
   pub counting-done : n ≤ i → lets ≡ lets_before f s n
   counting-done p = let e : i ≡ n = omega (arith, h.below) in rw e at h.same
@@ -84,31 +84,31 @@ needing-start f c depth s lets b d p q r =
 
 module _ (f : ℕ → Row) (c depth s lets most i : ℕ) (h : Needing f c depth s lets most i) where
   module _ (b : Bool) (l : i < c) (e : b ≡ is_in f 3 s i) where
-    pub needing-block : (w g : ℕ) → b ≡ true → w ≡ need_of f c (depth - 1) i → w ≤ (depth - 1) * 2000 → g ≡ max most (w + 1)
-        → Needing f c depth s lets g (i + 1)
+    pub needing-block : (w g m : ℕ) → b ≡ true → w ≡ need_of f c (depth - 1) i → w ≤ (depth - 1) * 2000 → g ≡ max most (w + 1) → m ≡ g
+        → Needing f c depth s lets m (i + 1)
     unfolding greatest_below block_need if_true
-    needing-block w g p q v r =
+    needing-block w g m p q v r k =
         record {
           rows = h.rows;
           deep = h.deep;
           shallow = h.shallow;
           below = omega arith;
           lets-few = h.lets-few;
-          most-few = omega (arith, r, h.most-few, v);
+          most-few = omega (arith, r, h.most-few, v, k);
           lets-are = h.lets-are;
-          most-is = rw (add-one, ← e, p, ← q, ← h.most-is, ← add-one w) r;
+          most-is = rw (add-one, ← e, p, ← q, ← h.most-is, ← add-one w) (k ∙ r);
         }
 
-    pub needing-other : b ≡ false → Needing f c depth s lets most (i + 1)
+    pub needing-other : (m : ℕ) → b ≡ false → m ≡ most → Needing f c depth s lets m (i + 1)
     unfolding greatest_below block_need if_true
-    needing-other p =
+    needing-other m p k =
         record {
           rows = h.rows;
           deep = h.deep;
           shallow = h.shallow;
           below = omega arith;
           lets-few = h.lets-few;
-          most-few = h.most-few;
+          most-few = omega (arith, h.most-few);
           lets-are = h.lets-are;
           most-is = rw (add-one, ← e, p, ← h.most-is) (omega arith);
         }

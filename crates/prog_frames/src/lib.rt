@@ -14,11 +14,7 @@ use prog_tables::Table;
 pub fn is_in(t: &[u32], k: u32, s: u32, i: u32) -> bool
     ensures { result ≡ is_in (row_at t.now) k s i }
 {
-    let x = prog_tables::kind_at(t, i);
-    if x == k {
-        return prog_tables::scope_at(t, i) == s;
-    }
-    false
+    prog_tables::kind_at(t, i) == k && prog_tables::scope_at(t, i) == s
 }
 
 // The lets of a frame before a row.
@@ -26,23 +22,12 @@ pub fn lets_before(t: &[u32], s: u32, n: u32) -> u32
     ensures { (result ≡ lets_before (row_at t.now) s n) × (result ≤ n) }
 {
     let mut lets: u32 = 0;
-    let mut i: u32 = 0;
-    while i < n {
+    for i in 0..n {
         if is_in(t, Kind::LET, s, i) {
             lets += 1;
-            i += 1;
-        } else {
-            i += 1;
         }
     }
     lets
-}
-
-// The greater of two numbers.
-fn greater(a: u32, b: u32) -> u32
-    ensures { result ≡ max a b }
-{
-    if a < b { b } else { a }
 }
 
 // The words a frame needs, by recursion with the remaining depth of frames falling.
@@ -55,14 +40,10 @@ pub fn need(t: &[u32], c: u32, depth: u32, s: u32) -> u32
     }
     let lets = lets_before(t, s, c);
     let mut most: u32 = 0;
-    let mut i: u32 = 0;
-    while i < c {
+    for i in 0..c {
         if is_in(t, Kind::BLOCK, s, i) {
             let w = need(t, c, depth - 1, i);
-            most = greater(most, w + 1);
-            i += 1;
-        } else {
-            i += 1;
+            most = most.max(w + 1);
         }
     }
     lets + most
@@ -72,26 +53,14 @@ pub fn need(t: &[u32], c: u32, depth: u32, s: u32) -> u32
 fn is_arm(t: &[u32], u: u32, i: u32) -> bool
     ensures { result ≡ is_arm (row_at t.now) u i }
 {
-    let x = prog_tables::up_at(t, i);
-    if x == u {
-        let k = prog_tables::kind_at(t, i);
-        if Kind::ELSE <= k {
-            return k <= Kind::END_IF;
-        }
-        return false;
-    }
-    false
+    prog_tables::up_at(t, i) == u && matches!(prog_tables::kind_at(t, i), Kind::ELSE..=Kind::END_IF)
 }
 
 // Whether a row ends an if, with u around it.
 fn is_end_if(t: &[u32], u: u32, i: u32) -> bool
     ensures { result ≡ is_end_if (row_at t.now) u i }
 {
-    let x = prog_tables::up_at(t, i);
-    if x == u {
-        return prog_tables::kind_at(t, i) == Kind::END_IF;
-    }
-    false
+    prog_tables::up_at(t, i) == u && prog_tables::kind_at(t, i) == Kind::END_IF
 }
 
 // The next arm of the if that a row belongs to; c without any.
@@ -100,14 +69,7 @@ pub fn next_arm(t: &[u32], c: u32, n: u32) -> u32
     ensures { (result ≡ next_arm (row_at t.now) c n) × (result ≤ c) }
 {
     let u = prog_tables::up_at(t, n);
-    let mut i = n + 1;
-    while i < c {
-        if is_arm(t, u, i) {
-            return i;
-        }
-        i += 1;
-    }
-    i
+    (n + 1..c).find(|&i| is_arm(t, u, i)).unwrap_or(c)
 }
 
 // The `end if` of the if that a row belongs to; c without any.
@@ -116,14 +78,7 @@ pub fn end_if_of(t: &[u32], c: u32, n: u32) -> u32
     ensures { (result ≡ end_if_of (row_at t.now) c n) × (result ≤ c) }
 {
     let u = prog_tables::up_at(t, n);
-    let mut i = n + 1;
-    while i < c {
-        if is_end_if(t, u, i) {
-            return i;
-        }
-        i += 1;
-    }
-    i
+    (n + 1..c).find(|&i| is_end_if(t, u, i)).unwrap_or(c)
 }
 
 // Where a false test, an else or an else-if jump goes.
@@ -153,11 +108,8 @@ pub fn is_around(t: &[u32], fuel: u32, e: u32, s: u32) -> bool
     if s == e {
         return true;
     }
-    let k = prog_tables::kind_at(t, s);
-    if k == Kind::BLOCK {
-        return is_around(t, fuel - 1, e, prog_tables::scope_at(t, s));
-    }
-    false
+    prog_tables::kind_at(t, s) == Kind::BLOCK
+        && is_around(t, fuel - 1, e, prog_tables::scope_at(t, s))
 }
 
 // The word of a frame's first let, by recursion with the remaining frames falling.
@@ -173,10 +125,10 @@ pub fn first_let(t: &[u32], c: u32, fuel: u32, s: u32) -> u64
         let e = prog_tables::scope_at(t, s);
         let w = first_let(t, c, fuel - 1, e);
         let lets = lets_before(t, e, c);
-        return w + lets as u64 + 1;
+        return w + u64::from(lets) + 1;
     }
     let p = prog_tables::parameters_at(t, s);
-    3 + p as u64
+    3 + u64::from(p)
 }
 
 // The word in which a block saves the auto top.
@@ -187,7 +139,7 @@ pub fn block_word(t: &[u32], c: u32, s: u32) -> u64
     let e = prog_tables::scope_at(t, s);
     let w = first_let(t, c, Table::FRAME_DEPTH, e);
     let lets = lets_before(t, e, c);
-    w + lets as u64
+    w + u64::from(lets)
 }
 
 // The word of a let.
@@ -198,18 +150,15 @@ pub fn let_word(t: &[u32], c: u32, n: u32) -> u64
     let e = prog_tables::scope_at(t, n);
     let w = first_let(t, c, Table::FRAME_DEPTH, e);
     let lets = lets_before(t, e, n);
-    w + lets as u64
+    w + u64::from(lets)
 }
 
 // Whether the let at row i is in scope in frame s.
 fn is_seen(t: &[u32], s: u32, i: u32) -> bool
     ensures { result ≡ let_seen (row_at t.now) s i }
 {
-    let k = prog_tables::kind_at(t, i);
-    if k == Kind::LET {
-        return is_around(t, Table::FRAME_DEPTH, prog_tables::scope_at(t, i), s);
-    }
-    false
+    prog_tables::kind_at(t, i) == Kind::LET
+        && is_around(t, Table::FRAME_DEPTH, prog_tables::scope_at(t, i), s)
 }
 
 // The locals in scope at a row, parameters included.
@@ -219,14 +168,10 @@ pub fn locals_at(t: &[u32], n: u32) -> u64
     let s = prog_tables::scope_at(t, n);
     let p = prog_tables::parameters_at(t, prog_tables::func_at(t, n));
     let mut seen: u32 = 0;
-    let mut i: u32 = 0;
-    while i < n {
+    for i in 0..n {
         if is_seen(t, s, i) {
             seen += 1;
-            i += 1;
-        } else {
-            i += 1;
         }
     }
-    p as u64 + seen as u64
+    u64::from(p) + u64::from(seen)
 }

@@ -1,4 +1,5 @@
 pub mod Each
+pub mod First
 pub mod Ranges
 pub mod Cases
 pub mod Rows

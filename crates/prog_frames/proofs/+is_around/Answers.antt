@@ -9,10 +9,10 @@ pub returns-then-s-e : goal.returns-then-s-e
 returns-then-s-e t c =
     search around
 
-pub returns-then-k-eq-BLOCK : goal.returns-then-k-eq-BLOCK
-returns-then-k-eq-BLOCK t c =
+pub returns-then-kind_at-eq-BLOCK : goal.returns-then-kind_at-eq-BLOCK
+returns-then-kind_at-eq-BLOCK t c =
     search around
 
-pub returns : goal.returns
-returns t c =
+pub returns-else-kind_at-eq-BLOCK : goal.returns-else-kind_at-eq-BLOCK
+returns-else-kind_at-eq-BLOCK t c =
     search around
