@@ -1,97 +1,26 @@
 -- One law for each way through a function of this crate, and its loops.
 -- Assumes nothing.
-use mathlib.Core.Path.{◌≡◌, refl, sym, ◌∙◌, ap, subst}
+use mathlib.Core.Path.{◌≡◌, refl, sym, ◌∙◌, ap}
 use mathlib.Core.Bool.{Bool, true, false}
-use mathlib.Core.List.{List, [], ◌∷◌}
-use Prim.Native.Nat.{ℕ, suc, ◌+◌, ◌-◌, ◌*◌, ◌≤◌, ◌<◌}
+use mathlib.Core.List.{List}
+use Prim.Native.Nat.{ℕ, ◌+◌, ◌*◌, ◌≤◌, ◌<◌}
 use native.Mathlib.Numerals.{add-one}
 use native.Mathlib.Omega.{arith}
 use lib.Dec.{eqb}
-use lib.ListN.{length, get_or, take, drop, set, length-set}
+use lib.ListN.{length, get_or, take, set, length-set}
 use lib.Seq.{length-take-le}
-use borrow.Author.Tests.{lt-leb, le-leb, eqb-true}
-use Rattle.base_prelude.specs.Choice.{if_lt, if_eq}
-use Rattle.base_prelude.specs.Lists.{same_list, overlay}
+use borrow.Author.Tests.{ne_eqb, eqb-true}
+use Rattle.base_prelude.specs.Lists.{overlay}
 use Rattle.base_prelude.proofs.Choice.{either-eq, either_true, if_lt-yes, if_lt-no, if_true-yes, if_true-no, true-false, tests}
 use Rattle.lex_spelling.specs.Text.{spelled_at, name_at, measured}
 use Rattle.lex_spelling.specs.declared.Spelled.{Spelled}
 use Rattle.lex_spelling.proofs.Loops.{overlay-front}
 use Rattle.parse_lines.specs.Tokens.{token_word, kind_at, word_at}
 use Rattle.parse_lines.proofs.Scans.{token-within}
-use Rattle.prog_tables.specs.Tests.{all, first_from}
-use Rattle.prog_tables.specs.Hosts.{Hosts, entries_of, host_arguments, entry_left, entry_named, host_of, mark_of, host_mark}
+use Rattle.prog_tables.specs.Hosts.{Hosts, entries_of, host_of, mark_of, host_mark}
 use Rattle.res_hosts.specs.Marks.{host_list, is_import, mark_at, name_marked, hosted_tokens}
+use Rattle.prog_hosts.proofs.Cases.{entries-low}
 use Rattle.res_hosts.proofs.First.{found-named, named-few, long-mark}
-
--- ---- the entries
-
-pub entries-low : (words names : List ℕ) → entries_of (host_list words names) ≤ 268435456
-unfolding entries_of
-entries-low words names = omega arith
-
-module _ (words names : List ℕ) (i : ℕ) (name : List ℕ) (size : ℕ) (e : size ≡ get_or words (i * 2) 0) where
-  pub named-empty : size < 1 → false ≡ entry_named (host_list words names) i name
-  unfolding entry_named entry_left all
-  named-empty h = rw (← e, lt-leb 1 size h)
-
-  module _ (h : 1 ≤ size) where
-    pub named-long : 64 < size → false ≡ entry_named (host_list words names) i name
-    unfolding entry_named entry_left all
-    named-long g = rw (← e, le-leb 1 size h, lt-leb size 64 g)
-
-    module _ (g : size ≤ 64) where
-      pub named-cut : length names < i * 64 + size → false ≡ entry_named (host_list words names) i name
-      unfolding entry_named entry_left all
-      named-cut f = rw (← e, le-leb 1 size h, le-leb size 64 g, lt-leb (i * 64 + size) (length names) f)
-
-      module _ (f : i * 64 + size ≤ length names) (a : ℕ) (d : a ≡ get_or words (i * 2 + 1) 0) where
-        pub named-many : 8 < a → false ≡ entry_named (host_list words names) i name
-        unfolding entry_named entry_left all
-        named-many m = rw (← e, ← d, le-leb 1 size h, le-leb size 64 g, le-leb (i * 64 + size) (length names) f, lt-leb a 8 m)
-
-        pub named-compared : (b : Bool) → a ≤ 8 → b ≡ same_list (take (i * 64 + size - i * 64) (drop (i * 64) names)) name
-            → b ≡ entry_named (host_list words names) i name
-        unfolding entry_named entry_left all
-        named-compared b m q =
-            let z : i * 64 + size - i * 64 ≡ size = omega arith in
-            rw (← e, ← d, le-leb 1 size h, le-leb size 64 g, le-leb (i * 64 + size) (length names) f, le-leb a 8 m)
-            (q ∙ ap (λ (n : ℕ). same_list (take n (drop (i * 64) names)) name) z)
-
-pub ruleset naming = (named-empty, named-long, named-cut, named-many, named-compared)
-
--- ---- the loop of `find_host`
-
-pub record Finding (words names name : List ℕ) (n i : ℕ) : Type 0 where
-  pub count : n ≡ entries_of (host_list words names)
-  pub within : i ≤ n
-  pub rest : first_from (λ j. entry_named (host_list words names) j name) (n - i) i ≡ host_of (host_list words names) name
-
-pub finding-start : (words names name : List ℕ) (n : ℕ) → n ≡ entries_of (host_list words names) → Finding words names name n 0
-unfolding host_of
-finding-start words names name n e =
-    let z : n - 0 ≡ entries_of (host_list words names) = omega (arith, e) in
-    record { count = e; within = omega arith; rest = ap (λ (m : ℕ). first_from (λ j. entry_named (host_list words names) j name) m 0) z }
-
-module _ (words names name : List ℕ) (n i : ℕ) (h : Finding words names name n i) where
-  pub finding-low : i < n → i < 268435456
-  finding-low g = omega (arith, h.count, entries-low words names)
-
-  pub finding-done : n ≤ i → i ≡ host_of (host_list words names) name
-  unfolding first_from
-  finding-done g = let z : n - i ≡ 0 = omega arith in rw z at h.rest
-
-  module _ (b : Bool) (g : i < n) (e : b ≡ entry_named (host_list words names) i name) where
-    pub finding-more : b ≡ false → Finding words names name n (i + 1)
-    unfolding first_from
-    finding-more q =
-        let z : n - i ≡ suc (n - (i + 1)) = omega arith in
-        record { count = h.count; within = omega arith; rest = rw (add-one i) (rw (z, ← e, q, add-one i) at h.rest) }
-
-    pub finding-found : b ≡ true → i ≡ host_of (host_list words names) name
-    unfolding first_from
-    finding-found q = let z : n - i ≡ suc (n - (i + 1)) = omega arith in rw (z, ← e, q) at h.rest
-
-pub ruleset finding = (finding-start, finding-more, finding-found, finding-done)
 
 -- ---- the mark of a name
 
@@ -142,9 +71,9 @@ module _ (t : List ℕ) (i k : ℕ) (p : k ≡ token_word t i 0) where
   unfolding is_import
   import-yes w n e q f g = rw (← p, ← q, ← g) (search tests)
 
-  pub import-other : (w : ℕ) → k ≡ 3 → w ≡ token_word t i 5 → (w ≡ 2 → ⊥) → false ≡ is_import t i
+  pub import-other : (w : ℕ) → k ≡ 3 → w ≡ token_word t i 5 → (w ≡ 2 → ⊥) → eqb w 2 ≡ is_import t i
   unfolding is_import
-  import-other w e q f = rw (← p, ← q) (search tests)
+  import-other w e q f = rw (← p, ← q, ne_eqb _ _ f) (search tests)
 
   pub import-no : (k ≡ 3 → ⊥) → false ≡ is_import t i
   unfolding is_import

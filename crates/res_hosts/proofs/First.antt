@@ -1,17 +1,16 @@
 -- The first number that passes a test; of the host's list, the entry that it finds.
 -- Assumes nothing.
-use mathlib.Core.Path.{◌≡◌, refl, sym, ◌∙◌, ap, subst}
+use mathlib.Core.Path.{◌≡◌, refl, sym, ◌∙◌, ap}
 use mathlib.Core.Bool.{Bool, true, false}
 use mathlib.Core.List.{List, [], ◌∷◌}
 use Prim.Native.Nat.{ℕ, zero, suc, ◌+◌, ◌*◌, ◌≤◌, ◌<◌}
-use native.Mathlib.Nat.{add-suc}
 use native.Mathlib.Omega.{arith}
 use lib.Dec.{leb}
-use lib.ListN.{length, take, drop, length-take}
+use lib.ListN.{length, drop, length-take}
 use borrow.Author.Tests.{leb-true}
 use Rattle.base_prelude.specs.Choice.{pick}
 use Rattle.base_prelude.specs.Lists.{same_list}
-use Rattle.base_prelude.proofs.Choice.{true-false, if_lt-no}
+use Rattle.base_prelude.proofs.Choice.{if_lt-no}
 use Rattle.base_prelude.proofs.Lists.{same-lengths}
 use Rattle.prog_tables.specs.Tests.{first_from}
 use Rattle.prog_tables.specs.Hosts.{Hosts, entries_of, host_size, host_arguments, host_name, entry_left, entry_named, host_of, host_mark}

@@ -7,15 +7,11 @@ use mathlib.Core.Logic.{◌⊎◌, inl, inr}
 use Prim.Native.Nat.{ℕ, zero, suc, ◌+◌, ◌*◌, ◌≤◌, ◌<◌}
 use native.Mathlib.Nat.{not-suc-le-zero}
 use native.Mathlib.Decide.{ℕ_discrete}
-use native.Mathlib.Numerals.{add-one}
 use native.Mathlib.Omega.{arith}
-use lib.Dec.{eqb}
-use lib.ListN.{length, get_or, set}
+use lib.ListN.{length, get_or}
 use lib.Seq.{get_or-set_same, get_or-set_other}
-use Rattle.base_prelude.specs.Choice.{if_eq, if_true}
 use Rattle.base_prelude.proofs.Choice.{either_true, if_lt-yes, if_lt-no, either, if_true-yes, if_true-no}
-use Rattle.lex_spelling.specs.Text.{name_at}
-use Rattle.parse_lines.specs.Tokens.{token_word, kind_at, word_at, host_at, place_at}
+use Rattle.parse_lines.specs.Tokens.{token_word, host_at, place_at}
 use Rattle.prog_tables.specs.Hosts.{Hosts, entries_of, host_arguments, host_of, mark_of, mark_number, mark_arguments, host_mark}
 use Rattle.res_hosts.specs.Marks.{is_import, mark_at, name_marked, hosted_tokens}
 use Rattle.res_hosts.proofs.First.{found-named, named-few}

@@ -10,10 +10,8 @@ use Rattle.lang_kinds.specs.TokenRow as field
 use Rattle.lex_spelling.specs.Text.{name_at}
 use Rattle.prog_tables.specs.Hosts.{Hosts, host_mark}
 use Rattle.parse_lines.specs.Tokens.{token_word, kind_at, word_at}
-
 -- a list as it is lent
-abbrev pub host_list : List ℕ → List ℕ → Hosts
-host_list words names = record { words = words; names = names }
+pub use Rattle.prog_hosts.specs.Lent.{host_list}
 
 -- token i is the word `import`, and a symbol stands directly behind it
 unfoldable pub is_import : List ℕ → ℕ → Bool

@@ -1,75 +1,17 @@
 // The host's list: which entry an import's name means, and its mark in the token table.
 #![tactic(auto)]
 
-ghost use Rattle.std.specs.Prelude.{◌≡◌, ◌+◌, ◌*◌, ◌≤◌, ◌<◌, length, get_or, take};
+ghost use Rattle.std.specs.Prelude.{◌≡◌, ◌≤◌, ◌<◌, length, take};
 ghost use Rattle.base_limits.specs.Limits as limits;
 ghost use Rattle.lex_spelling.specs.Text.{name_at};
-ghost use Rattle.prog_tables.specs.Layout.{host_row, host_entries};
-ghost use Rattle.prog_tables.specs.Hosts.{entries_of, entry_named, host_of, mark_of, host_mark};
+ghost use Rattle.prog_tables.specs.Layout.{host_entries};
+ghost use Rattle.prog_tables.specs.Hosts.{mark_of, host_mark};
 ghost use Rattle.res_hosts.specs.Marks.{host_list, is_import, mark_at, name_marked, hosted_tokens};
 ghost use Rattle.res_hosts.specs.Lister.{lister_hosts};
 
 use base_limits::Machine;
 use lang_kinds::{Token, TokenRow};
 use lang_words::Word;
-use prog_tables::Table;
-
-// The entries that are looked at; half an entry is none.
-fn entries(hosts: &[u32], names: &[u8]) -> usize
-    ensures { result ≡ entries_of (host_list hosts.now names.now) }
-{
-    let n = hosts.len() / Table::HOST_ROW;
-    if n < Table::HOST_ENTRIES {
-        n
-    } else {
-        Table::HOST_ENTRIES
-    }
-}
-
-fn arguments_at(hosts: &[u32], i: usize) -> u32
-    requires { i < host_entries }
-    ensures { result ≡ get_or hosts.now (i * host_row + 1) 0 }
-{
-    prog_tables::word_at(hosts, i * Table::HOST_ROW + 1)
-}
-
-// Whether entry i is left and has that name.
-fn is_named(hosts: &[u32], names: &[u8], i: usize, name: &[u8]) -> bool
-    requires { i < host_entries }
-    ensures { result ≡ entry_named (host_list hosts.now names.now) i name.now }
-{
-    let size = prog_tables::word_at(hosts, i * Table::HOST_ROW) as usize;
-    if size < 1 {
-        return false;
-    }
-    if Machine::NAME_BYTES < size {
-        return false;
-    }
-    let from = i * Machine::NAME_BYTES;
-    let to = from + size;
-    if names.len() < to {
-        return false;
-    }
-    if Machine::PARAMETERS < arguments_at(hosts, i) {
-        return false;
-    }
-    base_prelude::same(&names[from..to], name)
-}
-
-// The number of a name, the count of entries where none has it.
-fn find_host(hosts: &[u32], names: &[u8], name: &[u8]) -> usize
-    ensures { result ≡ host_of (host_list hosts.now names.now) name.now }
-{
-    let n = entries(hosts, names);
-    let mut i: usize = 0;
-    while i < n {
-        if is_named(hosts, names, i, name) {
-            return i;
-        }
-        i += 1;
-    }
-    i
-}
 
 fn mark_of(number: usize, arguments: u32) -> u32
     requires { (number < host_entries) × (arguments ≤ limits.parameters) }
@@ -82,9 +24,9 @@ fn mark_of(number: usize, arguments: u32) -> u32
 fn mark_name(hosts: &[u32], names: &[u8], name: &[u8]) -> u32
     ensures { result ≡ host_mark (host_list hosts.now names.now) name.now }
 {
-    let i = find_host(hosts, names, name);
-    if i < entries(hosts, names) {
-        return mark_of(i, arguments_at(hosts, i));
+    let i = prog_hosts::find_host(hosts, names, name);
+    if i < prog_hosts::entries(hosts, names) {
+        return mark_of(i, prog_hosts::arguments_at(hosts, i));
     }
     0
 }
@@ -115,13 +57,10 @@ fn is_import(t: &[u32], i: u32) -> bool
     requires { i < limits.greatest_word }
     ensures { result ≡ is_import t.now i }
 {
-    if parse_lines::kind_at(t, i) == Token::SYMBOL {
-        if parse_lines::word_at(t, i) == Word::IMPORT {
-            return parse_lines::kind_at(t, i + 1) == Token::SYMBOL;
-        }
+    if parse_lines::kind_at(t, i) != Token::SYMBOL {
         return false;
     }
-    false
+    parse_lines::word_at(t, i) == Word::IMPORT && parse_lines::kind_at(t, i + 1) == Token::SYMBOL
 }
 
 // The mark of the name at token i.
@@ -146,10 +85,8 @@ fn mark_tokens(s: &[u8], n: u32, hosts: &[u32], names: &[u8], t: &mut [u32])
     requires { length t.old ≡ limits.token_words }
     ensures { t.new ≡ hosted_tokens (host_list hosts.now names.now) s.now n t.old }
 {
-    let mut i: u32 = 0;
-    while i < n {
+    for i in 0..n {
         mark_token(s, i, hosts, names, t);
-        i += 1;
     }
 }
 
@@ -178,14 +115,7 @@ pub fn lister_names() -> [u8; 128]
     ensures { result ≡ lister_hosts.names }
 {
     let mut names = [0u8; 128];
-    names[0] = b'b';
-    names[1] = b'a';
-    names[2] = b't';
-    names[3] = b'h';
-    names[64] = b'o';
-    names[65] = b'r';
-    names[66] = b'd';
-    names[67] = b'e';
-    names[68] = b'r';
+    names[..4].copy_from_slice(b"bath");
+    names[64..69].copy_from_slice(b"order");
     names
 }
