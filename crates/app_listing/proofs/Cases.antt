@@ -1,9 +1,8 @@
 -- One law for each way through a function of this crate.
 -- Assumes nothing.
-use mathlib.Core.Path.{◌≡◌, refl, sym, ◌∙◌, ap, ap₂}
+use mathlib.Core.Path.{◌≡◌, ◌∙◌, ap, ap₂}
 use mathlib.Core.List.{List}
 use Prim.Native.Nat.{ℕ, ◌%◌}
-use lib.ListN.{length}
 use Rattle.base_limits.specs.declared.Width.TheVariants.{Bits32}
 use Rattle.res_hosts.specs.Marks.{host_list}
 use Rattle.res_hosts.specs.Lister.{lister_hosts}

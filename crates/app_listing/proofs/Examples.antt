@@ -1,11 +1,11 @@
 -- The worked pages, computed from the bytes of their sources.
 -- Assumes nothing.
 use mathlib.Core.Path.{◌≡◌, refl}
-use mathlib.Core.List.{List, []}
+use mathlib.Core.List.{[]}
 use Rattle.base_limits.specs.declared.Width.TheVariants.{Bits32}
 use Rattle.prog_tables.specs.Hosts.{Hosts}
 use Rattle.check_source.specs.Check.{lent, refuse, check_of}
-use Rattle.check_source.specs.declared.Checked.TheVariants.{Accepted, Refused}
+use Rattle.check_source.specs.declared.Checked.TheVariants.{Accepted}
 use Rattle.app_listing.specs.Cases.{case1, case1-page, empty-page, one_byte}
 use Rattle.app_listing.specs.Listing.{list_of}
 use Rattle.app_listing.proofs.Opened.{opened}

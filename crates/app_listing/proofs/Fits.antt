@@ -1,22 +1,20 @@
 -- Every page fits: the lister's buffer is never too short.
 -- Assumes nothing.
-use mathlib.Core.Path.{◌≡◌, refl, sym, ◌∙◌, ap}
-use mathlib.Core.Bool.{Bool, true, false}
+use mathlib.Core.Path.{◌≡◌, refl, ◌∙◌, ap}
 use mathlib.Core.List.{List, [], ◌∷◌}
 use Prim.Native.Nat.{ℕ, suc, ◌*◌, ◌%◌, ◌≤◌}
 use native.Mathlib.Omega.{arith}
 use lib.ListN.{length}
-use Rattle.base_prelude.specs.Choice.{if_lt, if_true}
 use Rattle.base_prelude.specs.Lists.{overlay}
-use Rattle.base_prelude.proofs.Choice.{true-false, if_lt-no, either_true}
+use Rattle.base_prelude.proofs.Choice.{if_lt-no, either_true}
 use Rattle.base_limits.specs.declared.Width.TheVariants.{Bits32}
 use Rattle.res_hosts.specs.Lister.{lister_hosts}
 use Rattle.check_judge.specs.Judge.{Known, Judged, refusal, fine, judge_of}
 use Rattle.check_source.specs.Check.{Filled, refuse, accept, has_room, answer_to, check_of}
 use Rattle.check_source.proofs.Cases.{room-labels}
-use Rattle.app_page.specs.Page.{accepted_page, refused_page, Shown, shown, shown_on}
-use Rattle.app_page.specs.declared.Page.{Page}
-use Rattle.app_page.specs.declared.Page.TheVariants.{Written, Short}
+use Rattle.app_page.specs.Page.{accepted_page, Shown, shown, shown_on}
+use Rattle.std.specs.Prelude.{Option, Some}
+use Rattle.std.specs.Option.{unwrap_or}
 use Rattle.app_page.proofs.Fits.{accepted-within, refused-within}
 use Rattle.app_listing.specs.Listing.{full_tables, page_by, page_of, list_of, page_room}
 
@@ -53,38 +51,23 @@ overlay-length (x ∷ xs) [] = refl
 overlay-length [] (y ∷ ys) = ap suc (overlay-length [] ys)
 overlay-length (x ∷ xs) (y ∷ ys) = ap suc (overlay-length xs ys)
 
-abbrev size_of : Page → ℕ
-size_of (Written n) = n
-size_of Short = 0
-
-abbrev is_written : Page → Bool
-is_written (Written n) = true
-is_written Short = false
-
 -- ---- so the buffer of `list_whole` is never too short
 
-module _ (s out out' : List ℕ) (r : Page) (long : length out ≡ page_room) (e : shown r out' ≡ shown_on (list_of s) out) where
-  whole : shown r out' ≡ shown (Written (length (list_of s))) (overlay (list_of s) out)
+module _ (s out out' : List ℕ) (r : Option ℕ) (long : length out ≡ page_room) (e : shown r out' ≡ shown_on (list_of s) out) where
+  whole : shown r out' ≡ shown (Some (length (list_of s))) (overlay (list_of s) out)
   unfolding shown_on
   whole = e ∙ if_lt-no _ _ (omega (arith, long, page-fits s))
 
   pub whole-page : out' ≡ overlay (list_of s) out
   whole-page = ap (λ (x : Shown). x.out) whole
 
-  pub whole-size : (n : ℕ) → r ≡ Written n → n ≡ length (list_of s)
-  whole-size n q = sym (ap size_of q) ∙ ap (λ (x : Shown). size_of x.answer) whole
-
-  -- it is not too short
-  pub no_short : r ≡ Short → 0 ≡ length (list_of s)
-  no_short q = absurd (true-false (sym (ap is_written (ap (λ (x : Shown). x.answer) whole)) ∙ ap is_written q))
+  pub whole-size : (n : ℕ) → n ≡ unwrap_or r 0 → n ≡ length (list_of s)
+  whole-size n q = q ∙ ap (λ (x : Shown). unwrap_or x.answer 0) whole
 
   over-long : length out' ≡ length out
   over-long = ap length whole-page ∙ overlay-length (list_of s) out
 
-  pub whole-small : (n : ℕ) → r ≡ Written n → n ≤ length out'
+  pub whole-small : (n : ℕ) → n ≡ unwrap_or r 0 → n ≤ length out'
   whole-small n q = omega (arith, whole-size n q, page-fits s, over-long, long)
 
-pub none-small : (n : ℕ) → 0 ≤ n
-none-small n = omega arith
-
-pub ruleset whole-ways = (whole-page, whole-size, whole-small, no_short, none-small)
+pub ruleset whole-ways = (whole-page, whole-size, whole-small)

@@ -6,12 +6,18 @@ ghost use Rattle.app_page.specs.Page.{shown, shown_on};
 ghost use Rattle.app_listing.specs.Listing.{page_by, list_of};
 ghost use Rattle.base_prelude.specs.Lists.{overlay};
 
-use app_page::Page;
 use base_limits::{Machine, Width};
 use check_source::Checked;
 use prog_tables::Table;
 
-fn page_of(x: Checked, s: &[u8], table: &[u32], names: &[u8], rows: &[u32], out: &mut [u8]) -> Page
+fn page_of(
+    x: Checked,
+    s: &[u8],
+    table: &[u32],
+    names: &[u8],
+    rows: &[u32],
+    out: &mut [u8],
+) -> Option<usize>
     ensures { shown result out.new ≡ shown_on (page_by s.now x table.now names.now rows.now) out.old }
 {
     match x {
@@ -27,8 +33,9 @@ fn page_of(x: Checked, s: &[u8], table: &[u32], names: &[u8], rows: &[u32], out:
     }
 }
 
-// Checks a source against the lister's list and writes its page over the front of a buffer; a buffer that is too short stays as it is.
-pub fn list(s: &[u8], out: &mut [u8]) -> Page
+// Checks a source against the lister's list and writes its page over the front of a buffer; a buffer that is too short stays as it is, and the
+// answer is None.
+pub fn list(s: &[u8], out: &mut [u8]) -> Option<usize>
     ensures { shown result out.new ≡ shown_on (list_of s.now) out.old }
 {
     let mut tokens = [0u32; Machine::TOKEN_WORDS];
@@ -65,8 +72,5 @@ pub fn list_whole(s: &[u8], out: &mut [u8; Room::PAGE]) -> usize
     ensures value { (result ≡ length (list_of s.now)) × (out.new ≡ overlay (list_of s.now) out.old) }
     ensures upper_bound { result ≤ length out.new }
 {
-    match list(s, out) {
-        Page::Written(size) => size,
-        Page::Short => 0,
-    }
+    list(s, out).unwrap_or(0)
 }

@@ -7,18 +7,16 @@ use Prim.Native.Nat.{ℕ, zero, suc, ◌+◌, ◌*◌, ◌-◌, ◌/◌, ◌%◌
 use native.Mathlib.Numerals.{add-one}
 use native.Mathlib.Omega.{arith}
 use lib.ListN.{length, take, drop, set, get_or, length-drop, length-set, drop_of_length-le}
-use lib.Seq.{set_out, drop-cons, take-nil, take_all, take-length}
-use Rattle.base_prelude.specs.Choice.{if_lt}
+use lib.Seq.{set_out, take-nil, take_all, take-length}
 use Rattle.base_prelude.specs.Lists.{overlay}
 use Rattle.base_prelude.proofs.Choice.{tests, if_lt-yes, if_lt-no}
 use Rattle.lex_spelling.specs.Classes.{is_name_byte}
 use Rattle.prog_tables.specs.Statement.{row_at}
-use Rattle.prog_tables.specs.Label.{Label, label_at}
+use Rattle.prog_tables.specs.Label.{label_at}
 use Rattle.app_page.specs.Bytes.{digits_within, decimal, field, hex_digit, name_byte, name_bytes_of, newlines, accepted-word, label-word, data-word, function-word, place-word, import-word, yes-word, no_word, refused-word, line_word, byte_word, line-end}
 use Rattle.app_page.specs.Sheet.{Sheet, sheet, put}
-use Rattle.app_page.specs.Page.{head_line, kind_word, exported_word, sizes, label_sizes, label_tail, label_head, label_line, label_lines, accepted_page, line_of, refused_page, Shown, shown, shown_on}
-use Rattle.app_page.specs.declared.Page.{Page}
-use Rattle.app_page.specs.declared.Page.TheVariants.{Written, Short}
+use Rattle.app_page.specs.Page.{head_line, kind_word, exported_word, sizes, label_sizes, label_tail, label_head, label_line, label_lines, accepted_page, line_of, refused_page, shown, shown_on}
+use Rattle.std.specs.Prelude.{Some, None}
 
 -- one text behind another
 pub put-append : (xs ys : List ℕ) (s : Sheet) → put (xs ++ ys) s ≡ put ys (put xs s)
@@ -275,15 +273,15 @@ module _ (page out : List ℕ) (n : ℕ) (a b : List ℕ) (e : sheet n a ≡ put
   size_is : n ≡ length page
   size_is = let q : n ≡ (put page (sheet 0 b)).at = ap (λ (s : Sheet). s.at) e in omega (arith, q, put-at page (sheet 0 b))
 
-  pub page-short : length out < n → shown Short out ≡ shown_on page out
+  pub page-short : length out < n → shown None out ≡ shown_on page out
   unfolding shown_on
   page-short h = sym (if_lt-yes _ _ (omega (arith, size_is)))
 
-  pub page-written : (m : ℕ) (c : List ℕ) → n ≤ length out → sheet m c ≡ put page (sheet 0 out) → shown (Written m) c ≡ shown_on page out
+  pub page-written : (m : ℕ) (c : List ℕ) → n ≤ length out → sheet m c ≡ put page (sheet 0 out) → shown (Some m) c ≡ shown_on page out
   unfolding shown_on
   page-written m c h f =
       let q : m ≡ (put page (sheet 0 out)).at = ap (λ (s : Sheet). s.at) f in
       let k : m ≡ length page = omega (arith, q, put-at page (sheet 0 out)) in
-      ap₂ (λ (x : ℕ) (y : List ℕ). shown (Written x) y) k (ap (λ (s : Sheet). s.out) f ∙ put-over page out) ∙ sym (if_lt-no _ _ (omega (arith, size_is)))
+      ap₂ (λ (x : ℕ) (y : List ℕ). shown (Some x) y) k (ap (λ (s : Sheet). s.out) f ∙ put-over page out) ∙ sym (if_lt-no _ _ (omega (arith, size_is)))
 
 pub ruleset pages = (page-short, page-written)

@@ -1,15 +1,13 @@
 -- How long a page can be.
 -- Assumes nothing.
-use mathlib.Core.Path.{◌≡◌, sym, ap, subst}
 use mathlib.Core.List.{List, [], ◌∷◌, ◌++◌}
 use Prim.Native.Nat.{ℕ, zero, suc, ◌+◌, ◌*◌, ◌/◌, ◌%◌, ◌≤◌, min}
 use native.Mathlib.Omega.{arith}
 use lib.ListN.{length, take, length-append, length-take}
-use Rattle.base_prelude.specs.Choice.{if_lt, if_eq, if_true}
 use Rattle.base_prelude.proofs.Choice.{either, either-eq, either_true}
 use Rattle.prog_tables.specs.Statement.{row_at}
 use Rattle.prog_tables.specs.Label.{Label, label_at}
-use Rattle.app_page.specs.Bytes.{digits_within, decimal, field, hex_digit, name_byte, name_bytes_of, accepted-word, label-word, data-word, function-word, place-word, import-word, yes-word, no_word, refused-word, line_word, byte_word, line-end}
+use Rattle.app_page.specs.Bytes.{digits_within, decimal, field, name_byte, name_bytes_of, accepted-word, label-word, refused-word, line_word, byte_word, line-end}
 use Rattle.app_page.specs.Page.{head_line, kind_word, exported_word, sizes, label_sizes, label_tail, label_head, label_line, label_lines, accepted_page, line_of, refused_page}
 
 -- of at most n bytes

@@ -1,14 +1,18 @@
 -- The loops: what is left gives the whole answer.
 -- Assumes nothing.
-use mathlib.Core.Path.{◌≡◌, refl, sym, ◌∙◌, ap, ap₂, subst}
+use mathlib.Core.Path.{◌≡◌, refl, sym, ◌∙◌, ap}
 use mathlib.Core.List.{List, [], ◌∷◌, ◌++◌}
-use Prim.Native.Nat.{ℕ, zero, suc, ◌+◌, ◌*◌, ◌-◌, ◌≤◌, ◌<◌}
+use Prim.Native.Nat.{ℕ, suc, ◌+◌, ◌*◌, ◌-◌, ◌≤◌, ◌<◌}
 use native.Mathlib.Numerals.{add-one}
 use native.Mathlib.Omega.{arith}
 use lib.ListN.{length, drop, get_or, drop_of_length-le}
 use lib.Seq.{drop-cons}
-use Rattle.base_prelude.specs.Choice.{if_eq}
-use Rattle.base_prelude.proofs.Choice.{if_eq-yes, if_eq-no}
+use lib.Dec.{eqb}
+use mathlib.Core.Bool.{Bool, true, false, cond}
+use Rattle.std.specs.List.{count_by}
+use Rattle.std.proofs.lemmas.List.Sums.{count_by-le-length}
+use Rattle.std.proofs.lemmas.List.Recursion.{is_count_by}
+use Rattle.base_prelude.specs.Choice.{pick, if_eq}
 use Rattle.prog_tables.specs.Label.{label_at}
 use Rattle.app_page.specs.Bytes.{name_byte, name_bytes_of, newlines}
 use Rattle.app_page.specs.Sheet.{Sheet, sheet, put}
@@ -18,7 +22,7 @@ use Rattle.app_page.proofs.Cases.{put-append, put-long}
 next-drop : (s : List ℕ) (i : ℕ) → i < length s → drop i s ≡ get_or s i 0 ∷ drop (i + 1) s
 next-drop s i h = drop-cons s i 0 h ∙ ap (λ (n : ℕ). get_or s i 0 ∷ drop n s) (sym (add-one i))
 
--- `put_text`
+-- `put_bytes`
 pub record Texting (s : List ℕ) (at : ℕ) (out₀ out : List ℕ) (to i : ℕ) : Type 0 where
   pub within : i ≤ length s
   pub few : to ≤ at + i
@@ -42,9 +46,6 @@ module _ (s : List ℕ) (at : ℕ) (out₀ out : List ℕ) (to i : ℕ) where
   pub texting-done : Texting s at out₀ out to i → length s ≤ i → sheet to out ≡ put s (sheet at out₀)
   unfolding put
   texting-done h l = ap (λ (x : List ℕ). put x (sheet to out)) (sym (drop_of_length-le s l)) ∙ h.rest
-
-  pub texting-near : Texting s at out₀ out to i → length s ≤ 64 → to ≤ at + 64
-  texting-near h l = omega (arith, h.few, h.within)
 
 pub ruleset texting = (texting-start, texting-more, texting-done)
 
@@ -134,39 +135,16 @@ module _ (count : ℕ) (table names rows : List ℕ) where
 pub ruleset listing = (listing_start, listing-more, listing-done)
 
 -- `newlines_in`
-pub record Counting (s : List ℕ) (lines i : ℕ) : Type 0 where
-  pub within : i ≤ length s
-  pub few : lines ≤ i
-  pub rest : lines + newlines (drop i s) ≡ newlines s
+newlines_of : (b : Bool) (n : ℕ) → pick b (suc n) n ≡ cond b (1 + n) n
+newlines_of true n = omega arith
+newlines_of false n = refl
 
-pub counting-start : (s : List ℕ) → Counting s 0 0
-counting-start s = record { within = omega arith; few = omega arith; rest = omega arith }
+newlines-by : (s : List ℕ) → newlines s ≡ count_by (λ x. eqb x 10) s
+unfolding newlines if_eq
+newlines-by s = is_count_by newlines (λ x. eqb x 10) refl (λ x xs. newlines_of (eqb x 10) (newlines xs)) s
 
-module _ (s : List ℕ) (i : ℕ) (l : i < length s) where
-  here-yes : get_or s i 0 ≡ 10 → newlines (drop i s) ≡ suc (newlines (drop (i + 1) s))
-  unfolding newlines
-  here-yes e = ap newlines (next-drop s i l) ∙ if_eq-yes _ _ e
+pub newlines-counted : (n : ℕ) (s : List ℕ) → n ≡ count_by (λ x. eqb x 10) s → n ≡ newlines s
+newlines-counted n s e = e ∙ sym (newlines-by s)
 
-  here-no : (get_or s i 0 ≡ 10 → ⊥) → newlines (drop i s) ≡ newlines (drop (i + 1) s)
-  unfolding newlines
-  here-no e = ap newlines (next-drop s i l) ∙ if_eq-no _ _ e
-
-none_left : newlines [] ≡ 0
-unfolding newlines
-none_left = refl
-
-module _ (s : List ℕ) (lines i : ℕ) where
-  pub counting-yes : Counting s lines i → i < length s → get_or s i 0 ≡ 10 → Counting s (lines + 1) (i + 1)
-  counting-yes h l e =
-      record { within = omega arith; few = omega (arith, h.few); rest = omega (arith, h.rest, here-yes s i l e) }
-
-  pub counting-no : Counting s lines i → i < length s → (get_or s i 0 ≡ 10 → ⊥) → Counting s lines (i + 1)
-  counting-no h l e = record { within = omega arith; few = omega (arith, h.few); rest = omega (arith, h.rest, here-no s i l e) }
-
-  pub counting-done : Counting s lines i → length s ≤ i → lines ≡ newlines s
-  counting-done h l = let z : newlines (drop i s) ≡ 0 = ap newlines (drop_of_length-le s l) ∙ none_left in omega (arith, h.rest)
-
-  pub counting-near : Counting s lines i → length s ≤ 4294967296 → lines ≤ 4294967296
-  counting-near h l = omega (arith, h.few, h.within)
-
-pub ruleset counting = (counting-start, counting-yes, counting-no, counting-done)
+pub newlines-few : (n : ℕ) (s : List ℕ) → n ≡ count_by (λ x. eqb x 10) s → length s ≤ 4294967296 → n ≤ 4294967296
+newlines-few n s e l = omega (arith, count_by-le-length (λ x. eqb x 10) s)

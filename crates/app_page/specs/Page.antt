@@ -1,14 +1,12 @@
 -- The lister's page (01, 'The lister's page').
 -- Assumes nothing.
-use Rattle.std.specs.Prelude.{ℕ, zero, suc, ◌+◌, List, [], ◌++◌, length, take}
+use Rattle.std.specs.Prelude.{ℕ, zero, suc, ◌+◌, List, [], ◌++◌, length, take, Option, Some, None}
 use Rattle.base_prelude.specs.Choice.{if_lt, if_eq}
 use Rattle.base_prelude.specs.Lists.{overlay}
 use Rattle.prog_tables.specs.Layout.{exported_data, function_label, exported_function, place_label, import_label}
 use Rattle.prog_tables.specs.Statement.{row_at}
 use Rattle.prog_tables.specs.Label.{Label, label_at}
 use Rattle.app_page.specs.Bytes.{decimal, field, name_bytes_of, newlines, accepted-word, label-word, data-word, function-word, place-word, import-word, yes-word, no_word, refused-word, line_word, byte_word, line-end}
-use Rattle.app_page.specs.declared.Page.{Page}
-use Rattle.app_page.specs.declared.Page.TheVariants.{Written, Short}
 
 -- "Accepted: `accepted`, statements, labels, data bytes"
 unfoldable pub head_line : ℕ → ℕ → ℕ → List ℕ
@@ -67,14 +65,14 @@ unfoldable pub refused_page : List ℕ → ℕ → ℕ → List ℕ
 refused_page source number place =
     (refused-word ++ field number ++ line_word) ++ (field (line_of source place) ++ byte_word ++ field place ++ line-end)
 
--- an answer, and the buffer
+-- an answer, the page's length or None, and the buffer
 pub record Shown : Type 0 where
-  pub answer : Page
+  pub answer : Option ℕ
   pub out : List ℕ
 
-abbrev pub shown : Page → List ℕ → Shown
+abbrev pub shown : Option ℕ → List ℕ → Shown
 shown a out = record { answer = a; out = out }
 
 -- a page in a buffer: its length, and the page over the buffer's front; nothing where the buffer is shorter
 unfoldable pub shown_on : List ℕ → List ℕ → Shown
-shown_on page out = if_lt (length out) (length page) (shown Short out) (shown (Written (length page)) (overlay page out))
+shown_on page out = if_lt (length out) (length page) (shown None out) (shown (Some (length page)) (overlay page out))

@@ -11,13 +11,6 @@ ghost use Rattle.app_page.specs.Page.{head_line, kind_word, exported_word, sizes
 use base_prelude::wide;
 use prog_tables::{LabelKind, LabelRow, Table};
 
-// The bytes of a page, or that the buffer is shorter than it.
-#[derive(Drop)]
-pub enum Page {
-    Written(usize),
-    Short,
-}
-
 // A byte at a place, and the place behind it; past the buffer's end it is counted only.
 pub fn put_byte(out: &mut [u8], at: usize, c: u8) -> usize
     requires { at < 1152921504606846976 }
@@ -31,16 +24,15 @@ pub fn put_byte(out: &mut [u8], at: usize, c: u8) -> usize
     at + 1
 }
 
-fn put_text(out: &mut [u8], at: usize, s: &[u8]) -> usize
-    requires { (at < 1125899906842624) × (length s.now ≤ 64) }
+// The bytes of a text.
+pub fn put_bytes(out: &mut [u8], at: usize, s: &[u8]) -> usize
+    requires { (at < 1125899906842624) × (length s.now ≤ 4294967296) }
     ensures out_after { sheet result out.new ≡ put s.now (sheet at out.old) }
-    ensures upper_bound { result ≤ at + 64 }
+    ensures upper_bound { result ≤ at + length s.now }
 {
     let mut to = at;
-    let mut i: usize = 0;
-    while i < s.len() {
-        to = put_byte(out, to, s[i]);
-        i += 1;
+    for c in s {
+        to = put_byte(out, to, *c);
     }
     to
 }
@@ -124,10 +116,8 @@ fn put_name(out: &mut [u8], at: usize, name: &[u8]) -> usize
     ensures upper_bound { result ≤ at + 256 }
 {
     let mut to = at;
-    let mut i: usize = 0;
-    while i < name.len() {
-        to = put_name_byte(out, to, name[i]);
-        i += 1;
+    for c in name {
+        to = put_name_byte(out, to, *c);
     }
     to
 }
@@ -160,15 +150,15 @@ fn put_kind(out: &mut [u8], at: usize, kind: u32) -> usize
     ensures upper_bound { result ≤ at + 64 }
 {
     if kind < LabelKind::FUNCTION {
-        return put_text(out, at, b" data ");
+        return put_bytes(out, at, b" data ");
     }
     if kind < LabelKind::PLACE {
-        return put_text(out, at, b" function ");
+        return put_bytes(out, at, b" function ");
     }
     if kind == LabelKind::IMPORT {
-        return put_text(out, at, b" import ");
+        return put_bytes(out, at, b" import ");
     }
-    put_text(out, at, b" place ")
+    put_bytes(out, at, b" place ")
 }
 
 fn put_exported(out: &mut [u8], at: usize, kind: u32) -> usize
@@ -177,12 +167,12 @@ fn put_exported(out: &mut [u8], at: usize, kind: u32) -> usize
     ensures upper_bound { result ≤ at + 64 }
 {
     if kind == LabelKind::EXPORTED_DATA {
-        return put_text(out, at, b" yes");
+        return put_bytes(out, at, b" yes");
     }
     if kind == LabelKind::EXPORTED_FUNCTION {
-        return put_text(out, at, b" yes");
+        return put_bytes(out, at, b" yes");
     }
-    put_text(out, at, b" no")
+    put_bytes(out, at, b" no")
 }
 
 // Parameters and frame size.
@@ -243,7 +233,7 @@ fn put_label_head(out: &mut [u8], at: usize, name: &[u8]) -> usize
     ensures out_after { sheet result out.new ≡ put (label-word ++ name_bytes_of name.now) (sheet at out.old) }
     ensures upper_bound { result ≤ at + 512 }
 {
-    let to = put_text(out, at, b"label ");
+    let to = put_bytes(out, at, b"label ");
     put_name(out, to, name)
 }
 
@@ -274,10 +264,8 @@ fn put_labels(
     ensures { sheet result out.new ≡ put (label_lines count table.now names.now rows.now 0) (sheet at out.old) }
 {
     let mut to = at;
-    let mut i: u32 = 0;
-    while i < count {
+    for i in 0..count {
         to = put_label(out, to, table, names, rows, i);
-        i += 1;
     }
     to
 }
@@ -286,7 +274,7 @@ fn put_head(out: &mut [u8], statements: u32, labels: u32, size: u32) -> usize
     ensures out_after { sheet result out.new ≡ put (head_line statements labels size) (sheet 0 out.old) }
     ensures upper_bound { result ≤ 1024 }
 {
-    let behind_word = put_text(out, 0, b"accepted");
+    let behind_word = put_bytes(out, 0, b"accepted");
     let behind_statements = put_field(out, behind_word, statements as u64);
     let behind_labels = put_field(out, behind_statements, labels as u64);
     let to = put_field(out, behind_labels, size as u64);
@@ -308,7 +296,7 @@ fn put_accepted(
     put_labels(out, to, table, names, rows, labels)
 }
 
-// The page of an accepted source: the counts, and a line for each label of the tables.
+// The page of an accepted source: the counts, and a line for each label of the tables. Its length, or None where the buffer is shorter.
 pub fn accepted_page(
     statements: u32,
     labels: u32,
@@ -317,15 +305,15 @@ pub fn accepted_page(
     names: &[u8],
     rows: &[u32],
     out: &mut [u8],
-) -> Page
+) -> Option<usize>
     ensures { shown result out.new ≡ shown_on (accepted_page statements labels size table.now names.now rows.now) out.old }
 {
     let mut none = [0u8; 1];
     let size_of_page = put_accepted(&mut none, statements, labels, size, table, names, rows);
     if out.len() < size_of_page {
-        return Page::Short;
+        return None;
     }
-    Page::Written(put_accepted(out, statements, labels, size, table, names, rows))
+    Some(put_accepted(out, statements, labels, size, table, names, rows))
 }
 
 // How often byte 10 stands in a text.
@@ -333,17 +321,7 @@ fn newlines_in(s: &[u8]) -> u64
     requires { length s.now ≤ word_values }
     ensures { (result ≡ newlines s.now) × (result ≤ word_values) }
 {
-    let mut lines: u64 = 0;
-    let mut i: usize = 0;
-    while i < s.len() {
-        if s[i] == 10 {
-            lines += 1;
-            i += 1;
-        } else {
-            i += 1;
-        }
-    }
-    lines
+    s.iter().filter(|c| **c == 10).count() as u64
 }
 
 // The line of a place, from 1.
@@ -357,9 +335,9 @@ fn put_refusal(out: &mut [u8], number: u32) -> usize
     ensures out_after { sheet result out.new ≡ put (refused-word ++ field number ++ line_word) (sheet 0 out.old) }
     ensures upper_bound { result ≤ 256 }
 {
-    let behind_word = put_text(out, 0, b"refused");
+    let behind_word = put_bytes(out, 0, b"refused");
     let behind_number = put_field(out, behind_word, number as u64);
-    put_text(out, behind_number, b" line")
+    put_bytes(out, behind_number, b" line")
 }
 
 fn put_place(out: &mut [u8], at: usize, line: u64, place: u32) -> usize
@@ -367,7 +345,7 @@ fn put_place(out: &mut [u8], at: usize, line: u64, place: u32) -> usize
     ensures { sheet result out.new ≡ put (field line ++ byte_word ++ field place ++ line-end) (sheet at out.old) }
 {
     let behind_line = put_field(out, at, line);
-    let behind_word = put_text(out, behind_line, b" byte");
+    let behind_word = put_bytes(out, behind_line, b" byte");
     let to = put_field(out, behind_word, place as u64);
     put_byte(out, to, 10)
 }
@@ -379,14 +357,14 @@ fn put_refused(out: &mut [u8], source: &[u8], number: u32, place: u32) -> usize
     put_place(out, to, line_of(source, place), place)
 }
 
-// The page of a refused source: the refusal's number, line and byte.
-pub fn refused_page(source: &[u8], number: u32, place: u32, out: &mut [u8]) -> Page
+// The page of a refused source: the refusal's number, line and byte. Its length, or None where the buffer is shorter.
+pub fn refused_page(source: &[u8], number: u32, place: u32, out: &mut [u8]) -> Option<usize>
     ensures { shown result out.new ≡ shown_on (refused_page source.now number place) out.old }
 {
     let mut none = [0u8; 1];
     let size_of_page = put_refused(&mut none, source, number, place);
     if out.len() < size_of_page {
-        return Page::Short;
+        return None;
     }
-    Page::Written(put_refused(out, source, number, place))
+    Some(put_refused(out, source, number, place))
 }

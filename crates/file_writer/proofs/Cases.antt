@@ -1,9 +1,9 @@
 -- Bytes one behind the other, and a field whose head is written behind its bytes.
 -- Assumes nothing.
-use mathlib.Core.Path.{◌≡◌, refl, sym, ◌∙◌, ap, ap₂, subst}
+use mathlib.Core.Path.{◌≡◌, refl, sym, ◌∙◌, ap, ap₂}
 use mathlib.Core.Bool.{Bool, true, false}
 use mathlib.Core.List.{List, [], ◌∷◌, ◌++◌}
-use Prim.Native.Nat.{ℕ, zero, suc, ◌+◌, ◌*◌, ◌-◌, ◌/◌, ◌%◌, ◌≤◌, ◌<◌}
+use Prim.Native.Nat.{ℕ, suc, ◌+◌, ◌*◌, ◌-◌, ◌/◌, ◌%◌, ◌≤◌, ◌<◌}
 use native.Mathlib.Omega.{arith}
 use lib.ListN.{length, take, drop, set, get_or}
 use lib.Seq.{set_comm}
@@ -48,6 +48,9 @@ part-put s x from n s₀ s₁ e f = f ∙ ap (λ (y : List ℕ). put y s₀) e
 
 pub part-few : (s x : List ℕ) (from n : ℕ) → x ≡ take n (drop from s) → n < 4294967296 → length x ≤ 4294967296
 part-few s x from n e h = omega (arith, part-short s x from n e)
+
+pub part-near : (s x : List ℕ) (from n at to : ℕ) → x ≡ take n (drop from s) → n < 4294967296 → to ≤ at + length x → to ≤ at + 4294967296
+part-near s x from n at to e h l = omega (arith, part-short s x from n e)
 
 -- ---- a field: its bytes first, then its head before them
 

@@ -14,7 +14,8 @@ use Rattle.file_codec.specs.Fields.{field_of}
 use Rattle.file_codec.specs.Rows.{uses, packed_below, packed}
 use Rattle.file_codec.specs.Labels.{label_bytes}
 use Rattle.file_codec.specs.File.{counts_bytes, row_fields, label_fields, file_of}
-use Rattle.file_writer.specs.declared.Written.TheVariants as answer
+use Rattle.std.specs.Prelude.{Ok, Err}
+use Rattle.file_writer.specs.declared.WriteError.TheVariants as error
 use Rattle.file_writer.specs.Write.{past_limits, write_broken, wrote, fitted, unless_broken, write_of}
 
 unfoldable told : ℕ
@@ -23,17 +24,17 @@ told = 0
 
 -- no rows, no data: the counts and the empty data; the buffer's rest stays
 pub nothing : write_of (tables_of [] 0 [] 0 [] 0) [] (zeros 18 ++ (7 ∷ 8 ∷ []))
-    ≡ wrote (answer.Done 18) ((1 ∷ 12 ∷ 0 ∷ []) ++ zeros 12 ++ (2 ∷ 0 ∷ 0 ∷ 7 ∷ 8 ∷ []))
+    ≡ wrote (Ok 18) ((1 ∷ 12 ∷ 0 ∷ []) ++ zeros 12 ++ (2 ∷ 0 ∷ 0 ∷ 7 ∷ 8 ∷ []))
 unfolding told
 nothing = refl
 
 -- a shorter buffer stays as it is
-pub short : write_of (tables_of [] 0 [] 0 [] 0) [] (5 ∷ []) ≡ wrote (answer.Short 18) (5 ∷ [])
+pub short : write_of (tables_of [] 0 [] 0 [] 0) [] (5 ∷ []) ≡ wrote (Err (error.Short 18)) (5 ∷ [])
 unfolding told
 short = refl
 
 -- a count past its table: 35 and not 16
-pub broken : write_of (tables_of [] 1 [] 0 [] 0) [] (5 ∷ []) ≡ wrote (answer.Broken Somewhere) (5 ∷ [])
+pub broken : write_of (tables_of [] 1 [] 0 [] 0) [] (5 ∷ []) ≡ wrote (Err (error.Broken Somewhere)) (5 ∷ [])
 unfolding told
 broken = refl
 
@@ -55,12 +56,12 @@ unfolding told
 small = refl
 
 -- it is written to a buffer of as many bytes
-pub whole : write_of one (9 ∷ 10 ∷ 11 ∷ []) (zeros 78) ≡ wrote (answer.Done 78) (file_of one (9 ∷ 10 ∷ 11 ∷ []))
+pub whole : write_of one (9 ∷ 10 ∷ 11 ∷ []) (zeros 78) ≡ wrote (Ok 78) (file_of one (9 ∷ 10 ∷ 11 ∷ []))
 unfolding told
 whole = refl
 
 -- a third row, of a kind that is not listed: 35, placed there
-pub unlisted : write_of (tables_of (rows ++ (99 ∷ []) ++ zeros 26) 3 [] 0 [] 0) [] [] ≡ wrote (answer.Broken (At 2)) []
+pub unlisted : write_of (tables_of (rows ++ (99 ∷ []) ++ zeros 26) 3 [] 0 [] 0) [] [] ≡ wrote (Err (error.Broken (At 2))) []
 unfolding told
 unlisted = refl
 

@@ -2,14 +2,14 @@
 -- Assumes nothing.
 use mathlib.Core.Path.{◌≡◌, refl, sym, ◌∙◌, ap}
 use mathlib.Core.List.{List, [], ◌++◌}
-use Prim.Native.Nat.{ℕ, zero, suc, ◌+◌, ◌*◌, ◌-◌, ◌≤◌, ◌<◌}
+use Prim.Native.Nat.{ℕ, suc, ◌+◌, ◌*◌, ◌-◌, ◌≤◌, ◌<◌}
 use native.Mathlib.Numerals.{add-one}
 use native.Mathlib.Omega.{arith}
 use lib.ListN.{length, get_or}
 use Rattle.base_prelude.specs.Choice.{if_true}
 use Rattle.base_word.specs.Bytes.{word_bytes}
 use Rattle.prog_tables.specs.Label.{label_at}
-use Rattle.app_page.specs.Sheet.{Sheet, sheet, put}
+use Rattle.app_page.specs.Sheet.{sheet, put}
 use Rattle.app_page.proofs.Cases.{put-append, put_two, put-long, put-none}
 use Rattle.file_codec.specs.Fields.{field_of}
 use Rattle.file_codec.specs.Rows.{uses, packed, packed_below, word_of}

@@ -2,14 +2,14 @@
 -- Assumes nothing.
 use mathlib.Core.Path.{◌≡◌, refl, sym, ◌∙◌, ap, ap₂}
 use mathlib.Core.Bool.{Bool, true, false}
-use mathlib.Core.List.{List, [], ◌∷◌}
+use mathlib.Core.List.{List}
 use Prim.Native.Nat.{ℕ, ◌≤◌, ◌<◌}
 use native.Mathlib.Omega.{arith}
 use lib.Dec.{ltb}
 use lib.ListN.{length}
 use borrow.Author.Tests.{lt-ltb, le-ltb, ltb-false}
-use Rattle.base_prelude.specs.Choice.{if_lt, if_true}
-use Rattle.base_prelude.proofs.Choice.{if_lt-yes, if_lt-no, true-false}
+use Rattle.base_prelude.specs.Choice.{if_true}
+use Rattle.base_prelude.proofs.Choice.{if_lt-yes, if_lt-no}
 use Rattle.base_limits.specs.declared.Width.TheVariants.{Bits32}
 use Rattle.prog_tables.specs.Tests.{one_of, some}
 use Rattle.prog_tables.specs.Label.{Tables}
@@ -22,9 +22,9 @@ use Rattle.vm_definitions.specs.declared.Broken.TheVariants.{No, At, Somewhere}
 use Rattle.app_page.specs.Sheet.{Sheet, sheet, put}
 use Rattle.app_page.proofs.Cases.{put-at, put-over}
 use Rattle.file_codec.specs.File.{file_of}
-use Rattle.file_writer.specs.declared.Written.{Written}
-use Rattle.file_writer.specs.declared.Written.TheVariants as answer
-use Rattle.file_writer.specs.Write.{past_limits, over_limits, write_broken, Wrote, wrote, fitted, unless_broken, write_of}
+use Rattle.std.specs.Prelude.{Ok, Err}
+use Rattle.file_writer.specs.declared.WriteError.TheVariants as error
+use Rattle.file_writer.specs.Write.{past_limits, write_broken, Wrote, wrote, fitted, unless_broken, write_of}
 
 -- ---- 16, or the file
 
@@ -32,16 +32,16 @@ module _ (x out : List ℕ) (n : ℕ) (a b : List ℕ) (e : sheet n a ≡ put x 
   size_is : n ≡ length x
   size_is = let q : n ≡ (put x (sheet 0 b)).at = ap (λ (s : Sheet). s.at) e in omega (arith, q, put-at x (sheet 0 b))
 
-  pub fit-short : length out < n → wrote (answer.Short n) out ≡ fitted x out
+  pub fit-short : length out < n → wrote (Err (error.Short n)) out ≡ fitted x out
   unfolding fitted
-  fit-short h = ap (λ (i : ℕ). wrote (answer.Short i) out) size_is ∙ sym (if_lt-yes _ _ (omega (arith, size_is)))
+  fit-short h = ap (λ (i : ℕ). wrote (Err (error.Short i)) out) size_is ∙ sym (if_lt-yes _ _ (omega (arith, size_is)))
 
-  pub fit-done : (m : ℕ) (c : List ℕ) → n ≤ length out → sheet m c ≡ put x (sheet 0 out) → wrote (answer.Done m) c ≡ fitted x out
+  pub fit-done : (m : ℕ) (c : List ℕ) → n ≤ length out → sheet m c ≡ put x (sheet 0 out) → wrote (Ok m) c ≡ fitted x out
   unfolding fitted
   fit-done m c h f =
       let q : m ≡ (put x (sheet 0 out)).at = ap (λ (s : Sheet). s.at) f in
       let k : m ≡ length x = omega (arith, q, put-at x (sheet 0 out)) in
-      ap₂ (λ (i : ℕ) (y : List ℕ). wrote (answer.Done i) y) k (ap (λ (s : Sheet). s.out) f ∙ put-over x out)
+      ap₂ (λ (i : ℕ) (y : List ℕ). wrote (Ok i) y) k (ap (λ (s : Sheet). s.out) f ∙ put-over x out)
       ∙ sym (if_lt-no _ _ (omega (arith, size_is)))
 
 pub ruleset fit-ways = (fit-short, fit-done)
@@ -77,13 +77,14 @@ none-past Somewhere v g = absurd (let z : ◌≡◌ {A = ℕ} 0 1 = cc in omega 
 
 module _ (t : List ℕ) (c : ℕ) (l : List ℕ) (k : ℕ) (names : List ℕ) (d n : ℕ) where
   module _ (b : Broken) (e : b ≡ start_broken (program_from Bits32 (tables_of t c l k names d)) n) where
-    pub judge-at : (i : ℕ) → b ≡ At i → At i ≡ write_broken (tables_of t c l k names d) n
+    pub judge-broken : (b ≡ No → ⊥) → b ≡ write_broken (tables_of t c l k names d) n
     unfolding write_broken or_else
-    judge-at i h = rw (← e, h)
-
-    pub judge-somewhere : b ≡ Somewhere → Somewhere ≡ write_broken (tables_of t c l k names d) n
-    unfolding write_broken or_else
-    judge-somewhere h = rw (← e, h)
+    judge-broken h = rw (← e) (first b (if_true (past_limits c k d) Somewhere No) h)
+      where
+        first : (x y : Broken) → (x ≡ No → ⊥) → x ≡ or_else x y
+        first No y h = absurd (h refl)
+        first (At i) y h = refl
+        first Somewhere y h = refl
 
     module _ (v : Bool) (h : b ≡ No) (q : v ≡ past_limits c k d) where
       pub judge-past : v ≡ true → Somewhere ≡ write_broken (tables_of t c l k names d) n
@@ -98,21 +99,22 @@ module _ (t : List ℕ) (c : ℕ) (l : List ℕ) (k : ℕ) (names : List ℕ) (d
   unfolding write_broken
   sound-labels b e h = few-labels c k d (none-past (start_broken (program_from Bits32 (tables_of t c l k names d)) n) (past_limits c k d) (sym e ∙ h))
 
-pub ruleset judge-ways = (judge-at, judge-somewhere, judge-past, judge-good)
+pub ruleset judge-ways = (judge-broken, judge-past, judge-good)
 
 -- ---- a write
 
 module _ (t : Tables) (d out : List ℕ) (b : Broken) (e : b ≡ write_broken t (length d)) where
-  pub write-at : (i : ℕ) → b ≡ At i → wrote (answer.Broken (At i)) out ≡ write_of t d out
+  pub write-broken : (b ≡ No → ⊥) → wrote (Err (error.Broken b)) out ≡ write_of t d out
   unfolding write_of unless_broken
-  write-at i h = rw (← e, h)
-
-  pub write-somewhere : b ≡ Somewhere → wrote (answer.Broken Somewhere) out ≡ write_of t d out
-  unfolding write_of unless_broken
-  write-somewhere h = rw (← e, h)
+  write-broken h = rw (← e) (unless b h)
+    where
+      unless : (x : Broken) → (x ≡ No → ⊥) → wrote (Err (error.Broken x)) out ≡ unless_broken x out (fitted (file_of t d) out)
+      unless No h = absurd (h refl)
+      unless (At i) h = refl
+      unless Somewhere h = refl
 
   pub write-fits : (w : Wrote) → b ≡ No → w ≡ fitted (file_of t d) out → w ≡ write_of t d out
   unfolding write_of unless_broken
   write-fits w h f = rw (← e, h) f
 
-pub ruleset write-ways = (write-at, write-somewhere, write-fits)
+pub ruleset write-ways = (write-broken, write-fits)

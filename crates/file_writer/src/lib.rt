@@ -17,15 +17,14 @@ ghost use Rattle.file_codec.specs.Labels.{label_bytes};
 ghost use Rattle.file_codec.specs.File.{counts_bytes, row_fields, label_fields, file_of};
 ghost use Rattle.file_writer.specs.Write.{past_limits, write_broken, wrote, fitted, write_of};
 
-use app_page::{part, put_byte};
+use app_page::{part, put_byte, put_bytes};
 use base_limits::Machine;
 use prog_tables::{LabelKind, LabelRow, StatementRow, Table, word_at};
 use vm_definitions::Broken;
 
-// The bytes written; the bytes needed, of a buffer that is shorter; or refusal 35.
+// Why nothing is written: the buffer is shorter than the bytes needed (16), or refusal 35.
 #[derive(Drop)]
-pub enum Written {
-    Done(usize),
+pub enum WriteError {
     Short(usize),
     Broken(Broken),
 }
@@ -56,21 +55,6 @@ fn put_word(out: &mut [u8], at: usize, v: u32) -> usize
     let third = put_byte(out, second, (v / 256 % 256) as u8);
     let fourth = put_byte(out, third, (v / 256 / 256 % 256) as u8);
     put_byte(out, fourth, (v / 256 / 256 / 256 % 256) as u8)
-}
-
-// The bytes of a slice.
-fn put_bytes(out: &mut [u8], at: usize, s: &[u8]) -> usize
-    requires { (at < 1125899906842624) × (length s.now ≤ 4294967296) }
-    ensures out_after { sheet result out.new ≡ put s.now (sheet at out.old) }
-    ensures upper_bound { result ≤ at + 4294967296 }
-{
-    let mut to = at;
-    let mut i: usize = 0;
-    while i < s.len() {
-        to = put_byte(out, to, s[i]);
-        i += 1;
-    }
-    to
 }
 
 // The bytes of a slice from a place on, so many at most.
@@ -148,10 +132,8 @@ fn put_row(out: &mut [u8], at: usize, t: &[u32], n: u32) -> usize
     let e = word_at(t, row + StatementRow::EXPR);
     let m = word_at(t, row + StatementRow::COUNT);
     let mut to = at;
-    let mut j: usize = 0;
-    while j < Table::STATEMENT_ROW {
+    for j in 0..Table::STATEMENT_ROW {
         to = put_used(out, to, k, e, m, t, n, j);
-        j += 1;
     }
     to
 }
@@ -175,10 +157,8 @@ fn put_rows(out: &mut [u8], at: usize, t: &[u32], c: u32) -> usize
     ensures upper_bound { result ≤ at + 476741369856 }
 {
     let mut to = at;
-    let mut i: u32 = 0;
-    while i < c {
+    for i in 0..c {
         to = put_row_field(out, to, t, i);
-        i += 1;
     }
     to
 }
@@ -228,10 +208,8 @@ fn put_labels(out: &mut [u8], at: usize, l: &[u32], names: &[u8], k: u32) -> usi
     ensures { sheet result out.new ≡ put (label_fields l.now names.now k 0) (sheet at out.old) }
 {
     let mut to = at;
-    let mut i: u32 = 0;
-    while i < k {
+    for i in 0..k {
         to = put_label_field(out, to, l, names, i);
-        i += 1;
     }
     to
 }
@@ -266,7 +244,7 @@ fn fit(
     data_length: u32,
     bytes: &[u8],
     out: &mut [u8],
-) -> Written
+) -> Result<usize, WriteError>
     requires { label_count ≤ limits.labels }
     ensures { wrote result out.new ≡ fitted (file_of (tables_of statements.now count labels.now label_count names.now data_length) bytes.now) out.old }
 {
@@ -282,9 +260,9 @@ fn fit(
         &mut none,
     );
     if out.len() < length {
-        return Written::Short(length);
+        return Err(WriteError::Short(length));
     }
-    Written::Done(put_file(
+    Ok(put_file(
         statements,
         count,
         labels,
@@ -321,12 +299,11 @@ fn judge(t: &[u32], c: u32, l: &[u32], k: u32, names: &[u8], d: u32, n: usize) -
             }
             Broken::No
         }
-        Broken::At(i) => Broken::At(i),
-        Broken::Somewhere => Broken::Somewhere,
+        _ => b,
     }
 }
 
-// Writes the file of tables with their data to a buffer.
+// Writes the file of tables with their data to a buffer, and gives its bytes.
 pub fn write(
     statements: &[u32],
     count: u32,
@@ -336,7 +313,7 @@ pub fn write(
     data_length: u32,
     bytes: &[u8],
     out: &mut [u8],
-) -> Written
+) -> Result<usize, WriteError>
     ensures { wrote result out.new ≡ write_of (tables_of statements.now count labels.now label_count names.now data_length) bytes.now out.old }
 {
     let b = judge(
@@ -359,7 +336,6 @@ pub fn write(
             bytes,
             out,
         ),
-        Broken::At(i) => Written::Broken(Broken::At(i)),
-        Broken::Somewhere => Written::Broken(Broken::Somewhere),
+        _ => Err(WriteError::Broken(b)),
     }
 }

@@ -3,7 +3,6 @@
 
 ghost use Rattle.std.specs.Prelude.{◌≤◌, ◌<◌, length};
 
-use app_page::Page;
 use base_prelude::byte_at;
 use test_lines::{
     Case, add_byte, add_line, add_source, add_text, field, field_start, front, has_numbers,
@@ -264,14 +263,6 @@ fn read_line(l: &[u8], q: State, text: &mut Text, want: &mut Text) -> State {
     bad_line(q)
 }
 
-// The bytes of a page in a buffer.
-fn page_size(p: Page) -> usize {
-    match p {
-        Page::Written(n) => n,
-        Page::Short => 0,
-    }
-}
-
 fn compare(s: &[u8], q: State, want: &[u8], got: &[u8]) -> State {
     if base_prelude::same(want, got) {
         return q;
@@ -296,7 +287,7 @@ fn close_case(s: &[u8], q: State, text: &Text, want: &Text) -> State {
     }
     let source = front(text, q.size);
     let mut out = [0u8; PAGE];
-    let n = page_size(app_listing::list(source, &mut out));
+    let n = app_listing::list(source, &mut out).unwrap_or(0);
     compare(s, q, front(want, q.page), front(&out, n))
 }
 

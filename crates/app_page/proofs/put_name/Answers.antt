@@ -2,12 +2,12 @@ use borrow.Author.Rules.{rules}
 use Rattle.app_page.proofs.Loops.{naming, naming-near}
 use Rattle.app_page.proofs.put_name.Goals as goal
 
-pub loop-i-init : goal.loop-i-init
-loop-i-init c =
+pub loop-c-init : goal.loop-c-init
+loop-c-init c =
     search naming
 
-pub loop-i-preserved : goal.loop-i-preserved
-loop-i-preserved c =
+pub loop-c-preserved : goal.loop-c-preserved
+loop-c-preserved c =
     search naming
 
 pub returns : goal.returns

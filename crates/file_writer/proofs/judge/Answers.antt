@@ -9,10 +9,6 @@ pub returns-else-past_limits : goal.returns-else-past_limits
 returns-else-past_limits c =
     search judge-ways
 
-pub returns-in-At : goal.returns-in-At
-returns-in-At c =
-    search judge-ways
-
-pub returns-in-Somewhere : goal.returns-in-Somewhere
-returns-in-Somewhere c =
+pub returns-in_default : goal.returns-in_default
+returns-in_default c =
     search judge-ways

@@ -1,4 +1,4 @@
-use Rattle.file_writer.proofs.Cases.{part-put, part-few}
+use Rattle.file_writer.proofs.Cases.{part-put, part-few, part-near}
 use borrow.Author.Rules.{rules}
 use Rattle.file_writer.proofs.put_part.Goals as goal
 
@@ -8,4 +8,4 @@ put_bytes-requires c =
 
 pub returns : goal.returns
 returns c =
-    record { out_after = search part-put; upper_bound = search rules }
+    record { out_after = search part-put; upper_bound = search (part-near, rules) }

@@ -10,10 +10,6 @@ pub returns-in-No : goal.returns-in-No
 returns-in-No c =
     search write-ways
 
-pub returns-in-At : goal.returns-in-At
-returns-in-At c =
-    search write-ways
-
-pub returns-in-Somewhere : goal.returns-in-Somewhere
-returns-in-Somewhere c =
+pub returns-in_default : goal.returns-in_default
+returns-in_default c =
     search write-ways

@@ -1,13 +1,13 @@
 use borrow.Author.Rules.{rules}
 use Rattle.app_page.proofs.Loops.{texting}
-use Rattle.file_writer.proofs.put_bytes.Goals as goal
+use Rattle.app_page.proofs.put_bytes.Goals as goal
 
-pub loop-i-init : goal.loop-i-init
-loop-i-init c =
+pub loop-c-init : goal.loop-c-init
+loop-c-init c =
     search texting
 
-pub loop-i-preserved : goal.loop-i-preserved
-loop-i-preserved c =
+pub loop-c-preserved : goal.loop-c-preserved
+loop-c-preserved c =
     search texting
 
 pub returns : goal.returns
