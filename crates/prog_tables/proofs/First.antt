@@ -2,7 +2,7 @@
 -- Assumes nothing.
 use mathlib.Core.Path.{◌≡◌, refl, sym, ◌∙◌, ap}
 use mathlib.Core.Bool.{Bool, true, false}
-use Prim.Native.Nat.{ℕ, zero, suc, ◌+◌, ◌-◌, ◌≤◌, ◌<◌}
+use Prim.Native.Nat.{ℕ, zero, suc, ◌+◌, ◌-◌, ◌≤◌, ◌<◌, max}
 use native.Mathlib.Decide.{ℕ_discrete}
 use native.Mathlib.Omega.{arith}
 use Rattle.std.specs.Option.{MatchOption, unwrap_or}
@@ -46,3 +46,10 @@ first-is p a b (Some i) l h = first-hit p (b - a) a i h.0 (omega (arith, h.1)) h
 pub first-within : (p : ℕ → Bool) (a b : ℕ) (r : Option ℕ) → FirstOf p a b r → unwrap_or r b ≤ b
 first-within p a b None h = omega arith
 first-within p a b (Some i) h = omega (arith, h.1)
+
+-- the same where the range may be empty with its end below its start
+pub first-else : (p : ℕ → Bool) (a b e : ℕ) (r : Option ℕ) → e ≡ max b a → FirstOf p a b r → unwrap_or r e ≡ first_from p (b - a) a
+first-else p a b e None q h =
+    let z : e ≡ a + (b - a) = omega arith in
+    z ∙ first-none p (b - a) a (λ k g f. h k g (omega arith))
+first-else p a b e (Some i) q h = first-hit p (b - a) a i h.0 (omega (arith, h.1)) h.2 h.3

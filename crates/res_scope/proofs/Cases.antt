@@ -1,18 +1,18 @@
 -- One law for each way through a function of this crate.
 -- Assumes nothing.
-use mathlib.Core.Path.{◌≡◌, refl, sym, ◌∙◌, ap}
+use mathlib.Core.Path.{◌≡◌, sym, ◌∙◌, ap}
 use mathlib.Core.Bool.{Bool, true, false}
 use mathlib.Core.List.{List}
 use Prim.Native.Nat.{ℕ, zero, suc, ◌+◌, ◌*◌, ◌-◌, ◌<◌, ◌≤◌, min, ◌%◌}
 use native.Mathlib.Omega.{arith}
-use lib.Dec.{eqb, ltb}
+use lib.Dec.{eqb, ltb, leb}
 use lib.ListN.{get_or}
-use borrow.Author.Tests.{eq-eqb, ne_eqb, lt-ltb, le-ltb}
-use Rattle.base_prelude.specs.Choice.{pick, if_lt, if_eq, if_true}
-use Rattle.base_prelude.proofs.Choice.{tests, if_lt-yes, if_lt-no, if_eq-yes, if_eq-no}
+use borrow.Author.Tests.{eq-eqb, ne_eqb, lt-leb}
+use Rattle.base_prelude.specs.Choice.{pick, if_eq, if_true}
+use Rattle.base_prelude.proofs.Choice.{if_lt-yes, if_lt-no, if_eq-yes, if_eq-no}
 use Rattle.parse_lines.specs.Tokens.{token_word}
 use Rattle.prog_tables.specs.Tests.{first_from}
-use Rattle.prog_tables.specs.Statement.{Row, row_at}
+use Rattle.prog_tables.specs.Statement.{row_at}
 use Rattle.prog_tables.specs.Nesting.{encloses}
 use Rattle.prog_tables.specs.Frames.{is_in}
 use Rattle.parse_shapes.specs.Shapes.{is_name, is_operator}
@@ -20,7 +20,7 @@ use Rattle.res_scope.specs.Lines.{first_token, end_token, label_token, label_sta
 use Rattle.res_scope.specs.Names.{has_name, same_number, let_named, let_here, let_of, parameter_of, label_of, last_from, label_named, parameter_named, label_meaning, outer_meaning, meaning_of}
 use Rattle.res_scope.specs.Parts.{parts, symbol_parts, expression_parts, return_parts, lists_operands, plain_parts, parts_of}
 use Rattle.res_scope.specs.declared.Meaning.{Meaning}
-use Rattle.res_scope.specs.declared.Meaning.TheVariants.{Let, Parameter, Label, Unknown}
+use Rattle.res_scope.specs.declared.Meaning.TheVariants.{Let, Parameter}
 use Rattle.res_scope.specs.declared.Parts.{Parts}
 
 pub first-low : (k : List ℕ) (n r : ℕ) → r ≡ first_token k n → r ≤ 4097
@@ -42,9 +42,9 @@ pub arguments-are : (y : List ℕ) (j v r : ℕ) → v ≡ get_or y (j * 4 + 2) 
 unfolding label_arguments
 arguments-are y j v r e q = ap (λ (x : ℕ). x % 16) (q ∙ ap (λ (x : ℕ). x - 1) e)
 
-pub named-low : (t : List ℕ) (i k : ℕ) → k ≡ token_word t i 0 → k < 2 → false ≡ has_name t i
+pub named-low : (t : List ℕ) (i k : ℕ) → k ≡ token_word t i 0 → k < 2 → leb 2 k ≡ has_name t i
 unfolding has_name
-named-low t i k e h = rw (← e) (sym (if_lt-yes _ _ h))
+named-low t i k e h = rw (← e, lt-leb 2 k h) (sym (if_lt-yes _ _ h))
 
 pub named-high : (t : List ℕ) (i k : ℕ) → k ≡ token_word t i 0 → 2 ≤ k → ltb k 7 ≡ has_name t i
 unfolding has_name
@@ -58,7 +58,7 @@ module _ (t : List ℕ) (i j : ℕ) (b : Bool) (d : b ≡ has_name t i) where
   same_not h = rw (← d, h)
 
   module _ (h : b ≡ true) (c : Bool) (e : c ≡ has_name t j) where
-    pub same-other : c ≡ false → false ≡ same_number t i j
+    pub same-other : c ≡ false → c ≡ same_number t i j
     unfolding same_number if_true
     same-other q = rw (← d, h, ← e, q)
 
@@ -75,7 +75,7 @@ module _ (same : ℕ → ℕ → Bool) (k : List ℕ) (s i m : ℕ) where
     let-not h = rw (← e, ne_eqb _ _ h)
 
     module _ (h : x ≡ 5) (q : ℕ) (b : Bool) (f : q ≡ first_token k m) (d : b ≡ same (q + 1) i) where
-      pub let-other : b ≡ false → false ≡ let_named same k s i m
+      pub let-other : b ≡ false → b ≡ let_named same k s i m
       unfolding let_named if_eq if_true
       let-other g = rw (← e, eq-eqb _ _ h, ← f, ← d, g)
 
@@ -84,7 +84,7 @@ module _ (same : ℕ → ℕ → Bool) (k : List ℕ) (s i m : ℕ) where
       let-seen o v g u w = rw (← e, eq-eqb _ _ h, ← f, ← d, g, ← u) w
 
   module _ (b : Bool) (d : b ≡ is_in (row_at k) 5 s m) where
-    pub here-not : b ≡ false → false ≡ let_here same k s i m
+    pub here-not : b ≡ false → b ≡ let_here same k s i m
     unfolding let_here if_true
     here-not h = rw (← d, h)
 

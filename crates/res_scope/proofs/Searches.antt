@@ -1,38 +1,11 @@
--- The search loops: the first number that passes, upward, and the last, downward.
+-- The search loop: the last number that passes.
 -- Assumes nothing.
-use mathlib.Core.Path.{◌≡◌, refl, sym, ◌∙◌, ap}
+use mathlib.Core.Path.{◌≡◌, refl, ◌∙◌}
 use mathlib.Core.Bool.{Bool, true, false}
-use Prim.Native.Nat.{ℕ, zero, suc, ◌+◌, ◌-◌, ◌<◌, ◌≤◌}
+use Prim.Native.Nat.{ℕ, suc, ◌+◌, ◌-◌, ◌<◌, ◌≤◌}
 use native.Mathlib.Numerals.{add-one}
 use native.Mathlib.Omega.{arith}
-use Rattle.prog_tables.specs.Tests.{first_from}
 use Rattle.res_scope.specs.Names.{last_from}
-
--- what is left gives the whole answer: upward from s, below c
-pub record Upward (p : ℕ → Bool) (c s i : ℕ) : Type 0 where
-  pub from : s ≤ i
-  pub rest : first_from p (c - i) i ≡ first_from p (c - s) s
-
-pub upward-start : (p : ℕ → Bool) (c s : ℕ) → Upward p c s s
-upward-start p c s = record { from = omega arith; rest = refl }
-
-module _ (p : ℕ → Bool) (c s i : ℕ) (h : Upward p c s i) where
-  pub upward-none : c ≤ i → i ≡ first_from p (c - s) s
-  unfolding first_from
-  upward-none l = let e : c - i ≡ 0 = omega arith in rw e at h.rest
-
-  module _ (b : Bool) (l : i < c) (d : b ≡ p i) where
-    pub upward-more : b ≡ false → Upward p c s (i + 1)
-    unfolding first_from
-    upward-more q =
-        let e : c - i ≡ suc (c - (i + 1)) = omega arith in
-        record { from = omega (arith, h.from); rest = rw (add-one i) (rw (e, ← d, q, add-one i) at h.rest) }
-
-    pub upward-found : b ≡ true → i ≡ first_from p (c - s) s
-    unfolding first_from
-    upward-found q = let e : c - i ≡ suc (c - (i + 1)) = omega arith in rw (e, ← d, q) at h.rest
-
-pub ruleset upward = (upward-start, upward-none, upward-more, upward-found)
 
 -- downward from n to s
 pub record Downward (p : ℕ → Bool) (n s i : ℕ) : Type 0 where

@@ -1,14 +1,14 @@
 -- What a name means: "The innermost local wins, then the label." Whether two tokens have one name is a parameter, `same`: by their decoded
 -- bytes (crate check_source) or by the numbers that the lexer gave them.
 -- Assumes nothing.
-use Rattle.std.specs.Prelude.{ℕ, zero, suc, ◌+◌, ◌-◌, Bool, true, false, List, eqb, ltb}
+use Rattle.std.specs.Prelude.{ℕ, zero, suc, ◌+◌, ◌-◌, Bool, false, List, eqb, ltb}
 use Rattle.base_prelude.specs.Choice.{pick, if_lt, if_eq, if_true}
 use Rattle.lang_kinds.specs.Kinds as kind
 use Rattle.lang_kinds.specs.Tokens as token
 use Rattle.lang_kinds.specs.TokenRow as field
 use Rattle.parse_lines.specs.Tokens.{token_word, kind_at}
-use Rattle.prog_tables.specs.Tests.{both, first_from}
-use Rattle.prog_tables.specs.Statement.{Row, row_at}
+use Rattle.prog_tables.specs.Tests.{first_from}
+use Rattle.prog_tables.specs.Statement.{row_at}
 use Rattle.prog_tables.specs.Nesting.{encloses}
 use Rattle.prog_tables.specs.Frames.{frame_depth, is_in}
 use Rattle.res_scope.specs.Lines.{first_token, end_token, label_token}

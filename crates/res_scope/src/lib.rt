@@ -38,24 +38,18 @@ const FRAME_DEPTH: u32 = Machine::BLOCK_DEPTH + 1;
 // Behind the last token and the line's end.
 const PAST_TOKENS: u32 = Machine::TOKENS as u32 + 1;
 
-fn clamp(i: u32) -> u32
-    ensures { result ≡ min i (limits.tokens + 1) }
-{
-    if i < PAST_TOKENS { i } else { PAST_TOKENS }
-}
-
 // The magic word's token of a statement.
 pub fn first_token(k: &[u32], n: u32) -> u32
     ensures { result ≡ first_token k.now n }
 {
-    clamp(prog_tables::token_at(k, n))
+    prog_tables::token_at(k, n).min(PAST_TOKENS)
 }
 
 // The token behind a statement's line.
 pub fn end_token(k: &[u32], n: u32) -> u32
     ensures { result ≡ end_token k.now n }
 {
-    clamp(prog_tables::next_at(k, n))
+    prog_tables::next_at(k, n).min(PAST_TOKENS)
 }
 
 // The token of a label.
@@ -72,20 +66,11 @@ pub fn label_kind(y: &[u32], j: u32) -> u32
     prog_tables::word_at(y, j as usize * Table::LABEL_ROW + OutlineLabel::KIND)
 }
 
-fn less_one(n: u32) -> u32
-    ensures { result ≡ n - 1 }
-{
-    if n < 1 {
-        return 0;
-    }
-    n - 1
-}
-
 // The statement that a label names.
 pub fn label_statement(y: &[u32], j: u32) -> u32
     ensures { result ≡ label_statement y.now j }
 {
-    less_one(prog_tables::word_at(y, j as usize * Table::LABEL_ROW + OutlineLabel::NAMES))
+    prog_tables::word_at(y, j as usize * Table::LABEL_ROW + OutlineLabel::NAMES).saturating_sub(1)
 }
 
 // The argument count of an imported name.
@@ -93,55 +78,42 @@ pub fn label_arguments(y: &[u32], j: u32) -> u32
     ensures { result ≡ label_arguments y.now j }
 {
     let mark = prog_tables::word_at(y, j as usize * Table::LABEL_ROW + OutlineLabel::NAMES);
-    less_one(mark) % 16
+    mark.saturating_sub(1) % 16
 }
 
 fn has_name(t: &[u32], i: u32) -> bool
     ensures { result ≡ has_name t.now i }
 {
     let kind = parse_lines::kind_at(t, i);
-    if kind < Token::LABEL {
-        return false;
-    }
-    kind < Token::INTEGER
+    Token::LABEL <= kind && kind < Token::INTEGER
 }
 
 // Whether two tokens have one name.
 pub fn same_name(t: &[u32], i: u32, j: u32) -> bool
     ensures { result ≡ same_number t.now i j }
 {
-    if has_name(t, i) {
-        if has_name(t, j) {
-            return parse_lines::token_word(t, i, TokenRow::NAME)
-                == parse_lines::token_word(t, j, TokenRow::NAME);
-        }
+    if !has_name(t, i) {
         return false;
     }
-    false
+    has_name(t, j)
+        && parse_lines::token_word(t, i, TokenRow::NAME)
+            == parse_lines::token_word(t, j, TokenRow::NAME)
 }
 
 fn let_named(t: &[u32], k: &[u32], s: u32, i: u32, m: u32) -> bool
     ensures { result ≡ let_named (same_number t.now) k.now s i m }
 {
-    let kind = prog_tables::kind_at(k, m);
-    if kind == Kind::LET {
-        let token = first_token(k, m);
-        if same_name(t, token + 1, i) {
-            return prog_frames::is_around(k, FRAME_DEPTH, prog_tables::scope_at(k, m), s);
-        }
+    if prog_tables::kind_at(k, m) != Kind::LET {
         return false;
     }
-    false
+    same_name(t, first_token(k, m) + 1, i)
+        && prog_frames::is_around(k, FRAME_DEPTH, prog_tables::scope_at(k, m), s)
 }
 
 fn let_here(t: &[u32], k: &[u32], s: u32, i: u32, m: u32) -> bool
     ensures { result ≡ let_here (same_number t.now) k.now s i m }
 {
-    if prog_frames::is_in(k, Kind::LET, s, m) {
-        let token = first_token(k, m);
-        return same_name(t, token + 1, i);
-    }
-    false
+    prog_frames::is_in(k, Kind::LET, s, m) && same_name(t, first_token(k, m) + 1, i)
 }
 
 // The let that a token means at a row, plus one; 0 for none.
@@ -150,9 +122,7 @@ fn find_let(t: &[u32], k: &[u32], n: u32, i: u32) -> u32
 {
     let s = prog_tables::scope_at(k, n);
     let f = prog_tables::func_at(k, n);
-    let mut m = n;
-    while f < m {
-        m -= 1;
+    for m in (f..n).rev() {
         if let_named(t, k, s, i, m) {
             return m + 1;
         }
@@ -164,43 +134,29 @@ fn find_let(t: &[u32], k: &[u32], n: u32, i: u32) -> u32
 pub fn find_let_here(t: &[u32], k: &[u32], s: u32, n: u32, i: u32) -> u32
     ensures { result ≡ first_from (let_here (same_number t.now) k.now s i) (n - s) s }
 {
-    let mut m = s;
-    while m < n {
-        if let_here(t, k, s, i, m) {
-            return m;
-        }
-        m += 1;
-    }
-    m
+    (s..n)
+        .find(|&m| let_here(t, k, s, i, m))
+        .unwrap_or(n.max(s))
 }
 
 // The parameter of a function with the name of a token, as its token; at or behind the line's end for none.
 pub fn find_parameter(t: &[u32], k: &[u32], f: u32, i: u32) -> u32
     ensures { result ≡ parameter_of (same_number t.now) k.now f i }
 {
+    let first = first_token(k, f) + 1;
     let end = end_token(k, f);
-    let mut q = first_token(k, f) + 1;
-    while q < end {
-        if same_name(t, q, i) {
-            return q;
-        }
-        q += 1;
-    }
-    q
+    (first..end)
+        .find(|&q| same_name(t, q, i))
+        .unwrap_or(end.max(first))
 }
 
 // The first of l labels with the name of a token; l for none.
 pub fn find_label(t: &[u32], y: &[u32], l: u32, i: u32) -> u32
     ensures { result ≡ label_of (same_number t.now) y.now l i }
 {
-    let mut j: u32 = 0;
-    while j < l {
-        if same_name(t, label_token(y, j), i) {
-            return j;
-        }
-        j += 1;
-    }
-    j
+    (0..l)
+        .find(|&j| same_name(t, label_token(y, j), i))
+        .unwrap_or(l)
 }
 
 fn label_meaning(l: u32, j: u32) -> Meaning

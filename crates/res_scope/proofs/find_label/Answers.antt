@@ -1,20 +1,12 @@
-use borrow.Author.Rules.{rules}
-use Rattle.res_scope.proofs.Searches.{upward}
-use Rattle.res_scope.proofs.Cases.{label-of, label_same}
+use Rattle.std.proofs.Common.{rules}
+use Rattle.std.proofs.lemmas.Iterator.{first_from_Range}
+use Rattle.prog_tables.proofs.First.{FirstOf, first-else}
+use Rattle.res_scope.specs.Names.{same_number, label_named}
+use Rattle.res_scope.proofs.Cases.{label-of}
 use Rattle.res_scope.proofs.find_label.Goals as goal
-
-pub loop-j-init : goal.loop-j-init
-loop-j-init c =
-    search (upward, rules)
-
-pub returns-then-same_name : goal.returns-then-same_name
-returns-then-same_name c =
-    search (label-of, upward, label_same)
-
-pub loop-j-preserved : goal.loop-j-preserved
-loop-j-preserved c =
-    search (upward, label_same)
 
 pub returns : goal.returns
 returns c =
-    search (label-of, upward, label_same)
+    let first : FirstOf (label_named (same_number c.args.t.now) c.args.y.now c.args.i) 0 c.args.l c.find.result =
+    first_from_Range _ _ _ c.find.result _ _ c.find.ensures.ran (λ x q k. search rules) (λ x q k. search rules) in
+    search (first-else, rules, label-of)

@@ -1,4 +1,3 @@
-use Prim.Native.Nat.{◌-◌}
 use Rattle.res_scope.specs.Names.{same_number, let_named}
 use Rattle.res_scope.proofs.Searches.{Downward}
 use Rattle.res_scope.proofs.find_let.Given as goal
@@ -6,7 +5,3 @@ use Rattle.res_scope.proofs.find_let.Given as goal
 abbrev pub invariant-loop-m : goal.invariant-loop-m
 invariant-loop-m l =
     Downward (let_named (same_number l.t) l.k l.s l.i) l.n l.f l.m
-
-abbrev pub decreases-loop-m : goal.decreases-loop-m
-decreases-loop-m l =
-    l.m - l.f

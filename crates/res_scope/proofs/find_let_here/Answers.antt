@@ -1,19 +1,11 @@
-use borrow.Author.Rules.{rules}
-use Rattle.res_scope.proofs.Searches.{upward}
+use Rattle.std.proofs.Common.{rules}
+use Rattle.std.proofs.lemmas.Iterator.{first_from_Range}
+use Rattle.prog_tables.proofs.First.{FirstOf, first-else}
+use Rattle.res_scope.specs.Names.{same_number, let_here}
 use Rattle.res_scope.proofs.find_let_here.Goals as goal
-
-pub loop-m-init : goal.loop-m-init
-loop-m-init c =
-    search (upward, rules)
-
-pub returns-then-let_here : goal.returns-then-let_here
-returns-then-let_here c =
-    search upward
-
-pub loop-m-preserved : goal.loop-m-preserved
-loop-m-preserved c =
-    search upward
 
 pub returns : goal.returns
 returns c =
-    search upward
+    let first : FirstOf (let_here (same_number c.args.t.now) c.args.k.now c.args.s c.args.i) c.args.s c.args.n c.find.result =
+    first_from_Range _ _ _ c.find.result _ _ c.find.ensures.ran (λ x q k. search rules) (λ x q k. search rules) in
+    search (first-else, rules)
