@@ -20,7 +20,7 @@ fn size_of(k: &[u32], c: u32, n: u32) -> u64
 {
     let p = prog_tables::parameters_at(k, n);
     let need = prog_frames::need(k, c, FRAME_DEPTH, n);
-    3 + p as u64 + need as u64
+    3 + u64::from(p) + u64::from(need)
 }
 
 fn value_of(k: &[u32], c: u32, n: u32) -> u64
@@ -28,22 +28,14 @@ fn value_of(k: &[u32], c: u32, n: u32) -> u64
     ensures { result ≡ frame_value (row_at k.now) c n }
 {
     let kind = prog_tables::kind_at(k, n);
-    if kind == Kind::FUNCTION {
-        return size_of(k, c, n);
+    match kind {
+        Kind::FUNCTION => size_of(k, c, n),
+        Kind::BLOCK => prog_frames::block_word(k, c, n),
+        Kind::END_BLOCK => prog_frames::block_word(k, c, prog_tables::scope_at(k, n)),
+        Kind::LET => prog_frames::let_word(k, c, n),
+        _ if prog_faults::has_target(kind) => u64::from(prog_frames::target_of(k, c, n)),
+        _ => 0,
     }
-    if kind == Kind::BLOCK {
-        return prog_frames::block_word(k, c, n);
-    }
-    if kind == Kind::END_BLOCK {
-        return prog_frames::block_word(k, c, prog_tables::scope_at(k, n));
-    }
-    if kind == Kind::LET {
-        return prog_frames::let_word(k, c, n);
-    }
-    if prog_faults::has_target(kind) {
-        return prog_frames::target_of(k, c, n) as u64;
-    }
-    0
 }
 
 fn word_of(k: &[u32], c: u32, n: u32) -> u32
@@ -57,10 +49,8 @@ fn put_words(k: &[u32], c: u32, out: &mut [u32])
     requires { (c ≤ limits.statements) × (length out.old ≡ limits.statements) }
     ensures { out.new ≡ words_in out.old (row_at k.now) c c }
 {
-    let mut n: u32 = 0;
-    while n < c {
+    for n in 0..c {
         out[n as usize] = word_of(k, c, n);
-        n += 1;
     }
 }
 

@@ -1,58 +1,14 @@
 -- One law for each way through a function of this crate, and its loops: what is written so far.
 -- Assumes nothing.
 use mathlib.Core.Path.{◌≡◌, refl, sym, ◌∙◌, ap}
-use mathlib.Core.List.{List, ◌++◌}
+use mathlib.Core.List.{List}
 use Prim.Native.Nat.{ℕ, zero, suc, ◌+◌, ◌*◌, ◌<◌, ◌≤◌}
-use native.Mathlib.Nat.{zero-add}
 use native.Mathlib.Numerals.{add-one}
 use native.Mathlib.Omega.{arith}
-use lib.ListN.{length, get_or, take, drop, set, length-set}
-use lib.Seq.{paste, paste-suc}
+use lib.ListN.{length, set, length-set}
 use Rattle.base_prelude.proofs.Choice.{either, if_lt-yes, if_lt-no}
 use Rattle.res_scope.specs.Lines.{first_token}
-use Rattle.res_tokens.specs.TokenTable.{copied, statement_marked, statements_marked, unmarked}
-
--- ---- the loop of `copy_words`
-
-copied-paste : (t : List ℕ) (m : ℕ) (out : List ℕ) → paste out 0 t m ≡ copied t m out
-unfolding copied
-copied-paste t m out = ap (λ (i : ℕ). take m t ++ drop i out) (zero-add m)
-
-copied_more : (t : List ℕ) (i : ℕ) (out : List ℕ) → i < length t → i < length out → set (copied t i out) i (get_or t i 0) ≡ copied t (suc i) out
-copied_more t i out h g =
-    let f : 0 + i < length out = omega arith in
-    ap (λ (x : List ℕ). set x i (get_or t i 0)) (sym (copied-paste t i out)) ∙ ap (λ (j : ℕ). set (paste out 0 t i) j (get_or t i 0)) (sym (zero-add i))
-    ∙ paste-suc out 0 t i 0 f h ∙ copied-paste t (suc i) out
-
-pub record Copying (t : List ℕ) (m : ℕ) (out₀ out : List ℕ) (i : ℕ) : Type 0 where
-  pub long : length out ≡ length out₀
-  pub below : i ≤ m
-  pub so_far : out ≡ copied t i out₀
-
-module _ (t : List ℕ) (m : ℕ) (out₀ : List ℕ) where
-  pub copying-start : Copying t m out₀ out₀ 0
-  unfolding copied
-  copying-start = record { long = refl; below = omega arith; so_far = refl }
-
-  module _ (out : List ℕ) (i : ℕ) (h : Copying t m out₀ out i) where
-    pub copying-room : i < m → m ≤ length out₀ → i < length out
-    copying-room g f = omega (arith, h.long)
-
-    pub copying-more : (x : ℕ) → i < m → m ≤ length t → m ≤ length out₀ → x ≡ get_or t i 0 → Copying t m out₀ (set out i x) (i + 1)
-    copying-more x g f e d =
-        record {
-          long = length-set out i x ∙ h.long;
-          below = omega arith;
-          so_far = rw (add-one i, d, h.so_far) (copied_more t i out₀ (omega arith) (omega arith));
-        }
-
-    pub copying-same : length out ≡ length out₀
-    copying-same = h.long
-
-    pub copying-done : m ≤ i → out ≡ copied t m out₀
-    copying-done g = let e : i ≡ m = omega (arith, h.below) in h.so_far ∙ ap (λ (j : ℕ). copied t j out₀) e
-
-pub ruleset copying = (copying-start, copying-more, copying-done)
+use Rattle.res_tokens.specs.TokenTable.{statement_marked, statements_marked, unmarked}
 
 -- ---- the loop of `clear_marks`
 

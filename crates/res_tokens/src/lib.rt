@@ -13,11 +13,7 @@ fn copy_words(t: &[u32], m: usize, out: &mut [u32])
     requires { (m ≤ length t.now) × (m ≤ length out.old) }
     ensures { out.new ≡ copied t.now m out.old }
 {
-    let mut i: usize = 0;
-    while i < m {
-        out[i] = t[i];
-        i += 1;
-    }
+    out[..m].copy_from_slice(&t[..m]);
 }
 
 fn mark_statement(k: &[u32], n: u32, r: u32, out: &mut [u32])
@@ -34,10 +30,8 @@ fn mark_statements(k: &[u32], c: u32, n: u32, out: &mut [u32])
     requires { n * token_row ≤ length out.old }
     ensures { out.new ≡ statements_marked c k.now n out.old }
 {
-    let mut r: u32 = 0;
-    while r < c {
+    for r in 0..c {
         mark_statement(k, n, r, out);
-        r += 1;
     }
 }
 
@@ -45,10 +39,8 @@ fn clear_marks(n: u32, out: &mut [u32])
     requires { n * token_row ≤ length out.old }
     ensures { out.new ≡ unmarked n out.old }
 {
-    let mut i: u32 = 0;
-    while i < n {
+    for i in 0..n {
         out[i as usize * Machine::TOKEN_ROW + TokenRow::STATEMENT] = 0;
-        i += 1;
     }
 }
 

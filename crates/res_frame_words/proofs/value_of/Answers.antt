@@ -1,26 +1,27 @@
+use borrow.Author.Rules.{rules}
 use Rattle.res_frame_words.proofs.Cases.{values}
 use Rattle.res_frame_words.proofs.value_of.Goals as goal
 
-pub returns-then-kind-eq-FUNCTION : goal.returns-then-kind-eq-FUNCTION
-returns-then-kind-eq-FUNCTION c =
-    search values
+pub returns-in-1 : goal.returns-in-1
+returns-in-1 c =
+    search (values, rules)
 
-pub returns-then-kind-eq-BLOCK : goal.returns-then-kind-eq-BLOCK
-returns-then-kind-eq-BLOCK c =
-    search values
+pub returns-in-3 : goal.returns-in-3
+returns-in-3 c =
+    search (values, rules)
 
-pub returns-then-kind-eq-END_BLOCK : goal.returns-then-kind-eq-END_BLOCK
-returns-then-kind-eq-END_BLOCK c =
-    search values
+pub returns-in-4 : goal.returns-in-4
+returns-in-4 c =
+    search (values, rules)
 
-pub returns-then-kind-eq-LET : goal.returns-then-kind-eq-LET
-returns-then-kind-eq-LET c =
-    search values
+pub returns-in-5 : goal.returns-in-5
+returns-in-5 c =
+    search (values, rules)
 
-pub returns-then-has_target : goal.returns-then-has_target
-returns-then-has_target c =
-    search values
+pub returns-in_default : goal.returns-in_default
+returns-in_default c =
+    search (values, rules)
 
-pub returns : goal.returns
-returns c =
-    search values
+pub returns-in_default-2 : goal.returns-in_default-2
+returns-in_default-2 c =
+    search (values, rules)
