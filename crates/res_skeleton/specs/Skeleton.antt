@@ -1,7 +1,7 @@
 -- The skeleton: the rows of the outline as rows of the statement table, with what nesting alone gives, and the two tokens of each line in
 -- words 9 and 10, for later passes.
 -- Assumes nothing.
-use Rattle.std.specs.Prelude.{ℕ, zero, suc, ◌+◌, ◌-◌, ◌*◌, List, [], ◌∷◌, ◌++◌, get_or, take, drop}
+use Rattle.std.specs.Prelude.{ℕ, zero, suc, ◌+◌, ◌-◌, ◌*◌, List, [], ◌∷◌, ◌++◌, take, drop}
 use Rattle.base_prelude.specs.Choice.{if_eq}
 use Rattle.base_prelude.specs.Lists.{zeros}
 use Rattle.lang_kinds.specs.Kinds as kind

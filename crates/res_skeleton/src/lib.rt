@@ -23,15 +23,6 @@ pub struct SkeletonRow {
     pub next: u32,
 }
 
-fn less_one(n: u32) -> u32
-    ensures { result ≡ n - 1 }
-{
-    if n < 1 {
-        return 0;
-    }
-    n - 1
-}
-
 fn parameters_of(kind: u32, operands: u32) -> u32
     ensures { result ≡ parameters_of kind operands }
 {
@@ -46,9 +37,9 @@ fn bare_row(x: &[u32], n: u32) -> SkeletonRow
 {
     let kind = parse_lines::token_word(x, n, OutlineRow::KIND);
     SkeletonRow {
-        kind: kind,
-        func: less_one(parse_lines::token_word(x, n, OutlineRow::FUNC)),
-        scope: less_one(parse_lines::token_word(x, n, OutlineRow::SCOPE)),
+        kind,
+        func: parse_lines::token_word(x, n, OutlineRow::FUNC).saturating_sub(1),
+        scope: parse_lines::token_word(x, n, OutlineRow::SCOPE).saturating_sub(1),
         up: parse_lines::token_word(x, n, OutlineRow::UP),
         b: parameters_of(kind, parse_lines::token_word(x, n, OutlineRow::OPERANDS)),
         token: parse_lines::token_word(x, n, OutlineRow::TOKEN),
@@ -86,10 +77,8 @@ fn put_rows(x: &[u32], c: u32, k: &mut [u32])
     requires { (c ≤ limits.statements) × (length k.old ≡ statement_words) }
     ensures { k.new ≡ rows_in k.old x.now c }
 {
-    let mut n: u32 = 0;
-    while n < c {
+    for n in 0..c {
         put_statement(x, n, k);
-        n += 1;
     }
 }
 
