@@ -1,27 +1,23 @@
 -- What is read at a place ends behind it and within the text; a decoded value is a byte.
 -- Assumes nothing.
-use mathlib.Core.Path.{◌≡◌, refl, sym, ◌∙◌, ap, subst}
-use mathlib.Core.Bool.{Bool, true, false}
-use mathlib.Core.List.{List, [], ◌∷◌}
-use Prim.Native.Nat.{ℕ, zero, suc, ◌+◌, ◌-◌, ◌*◌, ◌≤◌, ◌<◌}
+use mathlib.Core.Path.{◌≡◌, refl, sym, subst}
+use mathlib.Core.Bool.{Bool, false}
+use mathlib.Core.List.{List}
+use Prim.Native.Nat.{ℕ, ◌+◌, ◌≤◌, ◌<◌}
 use native.Mathlib.Decide.{dec_lt}
 use native.Mathlib.Omega.{arith}
 use lib.ListN.{length}
-use Rattle.base_prelude.specs.Choice.{if_lt, if_eq, if_true}
 use Rattle.base_prelude.specs.Bytes.{byte_at}
-use Rattle.base_prelude.proofs.Choice.{either, either-eq, either_true, true-false}
+use Rattle.base_prelude.proofs.Choice.{either, either-eq, either_true}
 use Rattle.base_prelude.proofs.Bytes.{byte-within}
 use Rattle.lex_spelling.specs.Classes.{is_name_byte}
 use Rattle.lex_spelling.specs.Continuation.{joined}
 use Rattle.lex_spelling.specs.Escape.{hex_of, plain_of, bad_place, plain_at, hex_at, hex_from, escape_at}
-use Rattle.lex_spelling.specs.Text.{in_string, in_symbol, escaped, raw_at, character_from, character_at}
-use Rattle.lex_spelling.specs.Pair.{pair_one, pair_end, pair_of, pair_at}
-use Rattle.lex_spelling.specs.declared.Escaped.{Escaped}
-use Rattle.lex_spelling.specs.declared.Escaped.TheVariants.{Byte, Bad}
-use Rattle.lex_spelling.specs.declared.Character.{Character}
-use Rattle.lex_spelling.specs.declared.Character.TheVariants.{One, Broken, Stop}
-use Rattle.lex_spelling.specs.declared.Paired.{Paired}
-use Rattle.lex_spelling.specs.declared.Paired.TheVariants.{On, Differ, Ended}
+use Rattle.lex_spelling.specs.Text.{Character, in_string, in_symbol, escaped, raw_at, character_from, character_at}
+use Rattle.lex_spelling.specs.Pair.{Paired, pair_one, pair_end, pair_of, pair_at}
+use Rattle.std.proofs.Common.{Result, Ok, Err, Continue, Break}
+use Rattle.lex_spelling.specs.declared.Decoded.{Decoded}
+use Rattle.lex_spelling.specs.declared.Ending.TheVariants.{Stopped, Broken}
 use Rattle.lex_spelling.proofs.Ends.{name-byte, joined-from, joined_in}
 use Rattle.lex_spelling.proofs.Cases.{character-past}
 
@@ -46,12 +42,12 @@ plain_byte c =
     either-eq (λ (v : ℕ). v < 256 → c < 256) c 116 _ _ (λ h _. omega arith) (λ _.
     either-eq (λ (v : ℕ). v < 256 → c < 256) c 32 _ _ (λ h _. omega arith) (λ _ h. let z : ⊥ = omega arith in absurd z))))))
 
-abbrev pub EscapeIn : List ℕ → ℕ → Escaped → Type 0
-EscapeIn s at (Byte value next) = (at < next) × (next ≤ length s) × (value < 256)
-EscapeIn s at (Bad place) = (at ≤ place) × (place ≤ length s)
+abbrev pub EscapeIn : List ℕ → ℕ → Result Decoded ℕ → Type 0
+EscapeIn s at (Ok x) = (at < x.next) × (x.next ≤ length s) × (x.value < 256)
+EscapeIn s at (Err place) = (at ≤ place) × (place ≤ length s)
 
 -- the n bytes before the place of a bad escape stand in the text
-pub bad-in : (s : List ℕ) (at n : ℕ) → at + n < length s → EscapeIn s at (Bad (bad_place at n))
+pub bad-in : (s : List ℕ) (at n : ℕ) → at + n < length s → EscapeIn s at (Err (bad_place at n))
 unfolding bad_place
 bad-in s at n w = (omega arith, omega arith)
 
@@ -71,14 +67,14 @@ escape-in s at w =
     (λ _. bad-in s at 0 (omega arith)))
 
 abbrev pub CharacterIn : List ℕ → ℕ → Character → Type 0
-CharacterIn s at (One value next) = (at < next) × (next ≤ length s) × (value < 256)
-CharacterIn s at (Broken place) = (at ≤ place) × (place ≤ length s)
-CharacterIn s at (Stop place) = (at ≤ place) × (place ≤ length s)
+CharacterIn s at (Ok x) = (at < x.next) × (x.next ≤ length s) × (x.value < 256)
+CharacterIn s at (Err (Broken place)) = (at ≤ place) × (place ≤ length s)
+CharacterIn s at (Err (Stopped place)) = (at ≤ place) × (place ≤ length s)
 
-escaped-in : (s : List ℕ) (at : ℕ) (e : Escaped) → EscapeIn s at e → CharacterIn s at (escaped e)
+escaped-in : (s : List ℕ) (at : ℕ) (e : Result Decoded ℕ) → EscapeIn s at e → CharacterIn s at (escaped e)
 unfolding escaped
-escaped-in s at (Byte value next) h = h
-escaped-in s at (Bad place) h = h
+escaped-in s at (Ok x) h = h
+escaped-in s at (Err place) h = h
 
 raw-in : (q : Bool) (s : List ℕ) (at : ℕ) → at ≤ length s → CharacterIn s at (raw_at q (byte_at s at) at)
 unfolding raw_at in_string in_symbol
@@ -102,9 +98,9 @@ from_in q s at l =
     (λ _. raw-in q s at l)
 
 later : (s : List ℕ) (at i : ℕ) (x : Character) → at ≤ i → CharacterIn s i x → CharacterIn s at x
-later s at i (One value next) h c = (omega arith, c.1, c.2)
-later s at i (Broken place) h c = (omega arith, c.1)
-later s at i (Stop place) h c = (omega arith, c.1)
+later s at i (Ok x) h c = (omega arith, c.1, c.2)
+later s at i (Err (Broken place)) h c = (omega arith, c.1)
+later s at i (Err (Stopped place)) h c = (omega arith, c.1)
 
 pub character-in : (q : Bool) (s : List ℕ) (at : ℕ) → at ≤ length s → CharacterIn s at (character_at q s at)
 unfolding character_at
@@ -113,14 +109,12 @@ character-in q s at l =
 
 -- a decoded byte that was read at any place stands within the text
 abbrev pub OneIn : List ℕ → ℕ → Character → Type 0
-OneIn s at (One value next) = (at < next) × (next ≤ length s) × (value < 256)
-OneIn s at (Broken place) = Unit {0}
-OneIn s at (Stop place) = Unit {0}
+OneIn s at (Ok x) = (at < x.next) × (x.next ≤ length s) × (x.value < 256)
+OneIn s at (Err e) = Unit {0}
 
 only_one : (s : List ℕ) (at : ℕ) (x : Character) → CharacterIn s at x → OneIn s at x
-only_one s at (One value next) h = h
-only_one s at (Broken place) h = tt
-only_one s at (Stop place) h = tt
+only_one s at (Ok x) h = h
+only_one s at (Err e) h = tt
 
 pub one_in : (q : Bool) (s : List ℕ) (at : ℕ) (x : Character) → x ≡ character_at q s at → OneIn s at x
 one_in q s at x e =
@@ -131,21 +125,15 @@ one_in q s at x e =
     ])
 
 abbrev pub PairIn : List ℕ → ℕ → ℕ → Paired → Type 0
-PairIn s i j (On one two) = ((i < one) × (one ≤ length s)) × ((j < two) × (two ≤ length s))
-PairIn s i j Differ = Unit {0}
-PairIn s i j Ended = Unit {0}
+PairIn s i j (Continue p) = ((i < p.0) × (p.0 ≤ length s)) × ((j < p.1) × (p.1 ≤ length s))
+PairIn s i j (Break b) = Unit {0}
 
 pair-in : (s : List ℕ) (i j : ℕ) (x y : Character) → OneIn s i x → OneIn s j y → PairIn s i j (pair_of x y)
 unfolding pair_of pair_one pair_end
-pair-in s i j (One v n) (One w m) h g = either-eq (PairIn s i j) v w _ _ (λ _. ((h.0, h.1), (g.0, g.1))) (λ _. tt)
-pair-in s i j (One v n) (Broken p) h g = tt
-pair-in s i j (One v n) (Stop p) h g = tt
-pair-in s i j (Broken p) (One w m) h g = tt
-pair-in s i j (Broken p) (Broken q) h g = tt
-pair-in s i j (Broken p) (Stop q) h g = tt
-pair-in s i j (Stop p) (One w m) h g = tt
-pair-in s i j (Stop p) (Broken q) h g = tt
-pair-in s i j (Stop p) (Stop q) h g = tt
+pair-in s i j (Ok x) (Ok y) h g = either-eq (PairIn s i j) x.value y.value _ _ (λ _. ((h.0, h.1), (g.0, g.1))) (λ _. tt)
+pair-in s i j (Ok x) (Err e) h g = tt
+pair-in s i j (Err e) (Ok y) h g = tt
+pair-in s i j (Err e) (Err f) h g = tt
 
 pub paired-in : (s : List ℕ) (i j : ℕ) (z : Paired) → z ≡ pair_at s i j → PairIn s i j z
 unfolding pair_at

@@ -19,8 +19,8 @@ use Rattle.base_prelude.proofs.Bytes.{byte-within}
 use Rattle.base_prelude.proofs.Table.{under, agree, low, among-by}
 use Rattle.lex_spelling.specs.Escape.{hex_of, plain_of, bad_place, plain_at, hex_at, hex_from, escape_at}
 use Rattle.lex_spelling.specs.Breaks.{Pattern, hex_digits, short_bytes, patterns, begins, goes_on, some_pattern, escape_begins, escape_goes_on, bytes_from, Breaks}
-use Rattle.lex_spelling.specs.declared.Escaped.{Escaped}
-use Rattle.lex_spelling.specs.declared.Escaped.TheVariants.{Byte, Bad}
+use Rattle.std.proofs.Common.{Result, Ok, Err}
+use Rattle.lex_spelling.specs.declared.Decoded.{Decoded}
 use Rattle.lex_spelling.proofs.Ahead.{hex-byte, plain_byte, bad-in}
 
 -- ---- the lists of bytes say what the tests of specs/Escape say
@@ -176,9 +176,9 @@ module _ (s : List ℕ) (at : ℕ) where
 
   -- ---- bad exactly where it breaks
 
-  abbrev pub EscapeSound : Escaped → Type 0
-  EscapeSound (Byte value next) = (p : ℕ) → Breaks s at p → ⊥
-  EscapeSound (Bad place) = Breaks s at place
+  abbrev pub EscapeSound : Result Decoded ℕ → Type 0
+  EscapeSound (Ok x) = (p : ℕ) → Breaks s at p → ⊥
+  EscapeSound (Err place) = Breaks s at place
 
   module _ (e : byte_at s at ≡ 92) where
     here : at < length s

@@ -11,24 +11,25 @@ use Rattle.lex_spelling.specs.Classes.{is_name_byte}
 use Rattle.lex_spelling.specs.Continuation.{joined}
 use Rattle.lex_spelling.specs.Escape.{escape_at}
 use Rattle.lex_spelling.specs.Breaks.{EscapeBreaks}
-use Rattle.lex_spelling.specs.Text.{in_string, in_symbol, escaped, raw_at, character_from, character_at, Text, spell_more, spelled_within, spelled_at}
-use Rattle.lex_spelling.specs.declared.Escaped.{Escaped}
-use Rattle.lex_spelling.specs.declared.Escaped.TheVariants.{Byte, Bad}
-use Rattle.lex_spelling.specs.declared.Character.{Character}
-use Rattle.lex_spelling.specs.declared.Character.TheVariants.{One, Broken, Stop}
+use Rattle.lex_spelling.specs.Text.{Character, in_string, in_symbol, escaped, raw_at, character_from, character_at, Text, spell_more, spelled_within, spelled_at}
+use Rattle.std.proofs.Common.{Result, Ok, Err}
+use Rattle.lex_spelling.specs.declared.Decoded.{Decoded}
 use Rattle.lex_spelling.specs.declared.Ending.{Ending}
-use Rattle.lex_spelling.specs.declared.Ending.TheVariants as ending
+use Rattle.lex_spelling.specs.declared.Ending.TheVariants.{Stopped, Broken}
 use Rattle.lex_spelling.proofs.Breaks.{EscapeSound, escape-sound}
 
-abbrev CharacterBreaks : List ℕ → Character → Type 0
-CharacterBreaks s (One value next) = Unit {0}
-CharacterBreaks s (Broken place) = EscapeBreaks s place
-CharacterBreaks s (Stop place) = Unit {0}
+abbrev pub EndingBreaks : List ℕ → Ending → Type 0
+EndingBreaks s (Stopped place) = Unit {0}
+EndingBreaks s (Broken place) = EscapeBreaks s place
 
-escaped-breaks : (s : List ℕ) (at : ℕ) (x : Escaped) → byte_at s at ≡ 92 → EscapeSound s at x → CharacterBreaks s (escaped x)
+abbrev CharacterBreaks : List ℕ → Character → Type 0
+CharacterBreaks s (Ok x) = Unit {0}
+CharacterBreaks s (Err e) = EndingBreaks s e
+
+escaped-breaks : (s : List ℕ) (at : ℕ) (x : Result Decoded ℕ) → byte_at s at ≡ 92 → EscapeSound s at x → CharacterBreaks s (escaped x)
 unfolding escaped
-escaped-breaks s at (Byte value next) e h = tt
-escaped-breaks s at (Bad place) e h = (at, e, h)
+escaped-breaks s at (Ok x) e h = tt
+escaped-breaks s at (Err place) e h = (at, e, h)
 
 raw-breaks : (q : Bool) (s : List ℕ) (c at : ℕ) → CharacterBreaks s (raw_at q c at)
 unfolding raw_at in_string in_symbol
@@ -46,15 +47,10 @@ from-breaks q s at =
     (λ e. escaped-breaks s at (escape_at s at) e (escape-sound s at e))
     (λ _. raw-breaks q s (byte_at s at) at)
 
-abbrev pub EndingBreaks : List ℕ → Ending → Type 0
-EndingBreaks s (ending.Stopped place) = Unit {0}
-EndingBreaks s (ending.Broken place) = EscapeBreaks s place
-
 more-breaks : (s : List ℕ) (x : Character) (rest : ℕ → Text) → CharacterBreaks s x → ((n : ℕ) → EndingBreaks s (rest n).ending) → EndingBreaks s (spell_more x rest).ending
 unfolding spell_more
-more-breaks s (One value next) rest h f = f next
-more-breaks s (Broken place) rest h f = h
-more-breaks s (Stop place) rest h f = tt
+more-breaks s (Ok x) rest h f = f x.next
+more-breaks s (Err e) rest h f = h
 
 within-breaks : (k : ℕ) (q : Bool) (s : List ℕ) (at : ℕ) → EndingBreaks s (spelled_within k q s at).ending
 unfolding spelled_within character_at

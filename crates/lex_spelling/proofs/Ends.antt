@@ -1,15 +1,16 @@
 -- Classes of bytes, and the loops over blanks and continuations.
 -- Assumes nothing.
-use mathlib.Core.Path.{◌≡◌, refl, sym, ◌∙◌, ap, subst}
+use mathlib.Core.Path.{◌≡◌, refl, sym, ◌∙◌, ap}
 use mathlib.Core.Bool.{Bool, true, false}
-use mathlib.Core.List.{List, [], ◌∷◌}
-use Prim.Native.Nat.{ℕ, zero, suc, ◌+◌, ◌-◌, ◌≤◌, ◌<◌}
+use mathlib.Core.List.{List}
+use Prim.Native.Nat.{ℕ, suc, ◌+◌, ◌-◌, ◌≤◌, ◌<◌, max}
+use native.Mathlib.Decide.{dec_le}
 use native.Mathlib.Omega.{arith}
 use lib.ListN.{length, get_or-eq_default}
-use Rattle.base_prelude.specs.Choice.{if_lt, if_eq, if_true}
+use Rattle.base_prelude.specs.Choice.{if_eq}
 use Rattle.base_prelude.specs.Bytes.{byte_at}
-use Rattle.base_prelude.specs.Walk.{Step, go, stop, walk}
-use Rattle.base_prelude.proofs.Choice.{if_true-yes, if_true-no, if_eq-no, if_eq-yes, either, either-eq, either_true, true-false}
+use Rattle.base_prelude.specs.Walk.{go, stop}
+use Rattle.base_prelude.proofs.Choice.{if_true-yes, if_true-no, if_eq-no, either, either-eq, either_true, true-false}
 use Rattle.base_prelude.proofs.Bytes.{byte-within}
 use Rattle.base_prelude.proofs.Walk.{Runs, runs-start, runs-go, runs-stop, Kept, walk_kept, Ends, walk_ends, walk-stop}
 use Rattle.lex_spelling.specs.Classes.{is_blank, is_digit, is_letter, is_name_byte}
@@ -187,7 +188,19 @@ module _ (s : List ℕ) (at i : ℕ) where
   pub blanks-past : Blanks s at i → length s ≤ i → i ≡ blanks_end s at
   blanks-past h l = runs-stop _ _ _ _ _ _ h.runs (blank-stop s i (ap is_blank (byte_past s i l) ∙ no-blank))
 
-pub ruleset blanking = (blanks-start, blanks-more, blanks-stop, blanks-past)
+  -- a place past the end stays
+  pub blanks-all : (m : ℕ) → Blanks s at i → m ≡ max at (length s) → at ≤ i → (at ≤ length s → i ≤ length s) → length s ≤ i → m ≡ blanks_end s at
+  blanks-all m h e l g k =
+      elim (dec_le at (length s)) [
+        | yes w ↦ let f : i ≤ length s = g w in let z : m ≡ i = omega arith in z ∙ blanks-past h k
+        | no w ↦ let z : m ≡ at = omega arith in
+            z ∙ runs-stop _ _ _ _ _ _ start.runs (blank-stop s at (ap is_blank (byte_past s at (omega arith)) ∙ no-blank))
+      ]
+    where
+      start : Blanks s at at
+      start = blanks-start
+
+pub ruleset blanking = (blanks-start, blanks-more, blanks-stop, blanks-all)
 
 -- the loop of `join`
 pub record Joins (s : List ℕ) (at i : ℕ) : Type 0 where

@@ -1,10 +1,9 @@
 -- The loops of `spell`, `same_name` and `copy_text`: what is left gives the whole answer.
 -- Assumes nothing.
-use mathlib.Core.Path.{◌≡◌, refl, sym, ◌∙◌, ap, ap₂, subst}
+use mathlib.Core.Path.{◌≡◌, refl, sym, ◌∙◌, ap, subst}
 use mathlib.Core.Bool.{Bool, true, false}
 use mathlib.Core.List.{List, [], ◌∷◌, ◌++◌, append-nil}
-use Prim.Native.Nat.{ℕ, zero, suc, ◌+◌, ◌-◌, ◌*◌, ◌≤◌, ◌<◌}
-use native.Mathlib.Nat.{zero-add, add-suc, suc-add, not-suc-le-zero}
+use Prim.Native.Nat.{ℕ, zero, suc, ◌+◌, ◌-◌, ◌≤◌, ◌<◌}
 use native.Mathlib.Numerals.{add-one}
 use native.Mathlib.Omega.{arith}
 use lib.Dec.{eqb}
@@ -12,15 +11,11 @@ use lib.ListN.{length, get_or, take, drop, set, length-set, drop_of_length-le, t
 use lib.Seq.{take-length, take_all, take-suc-set, drop-set-lt, append_snoc, drop-cons, take-take, take-append_seam}
 use Rattle.base_prelude.specs.Choice.{pick, if_eq}
 use Rattle.base_prelude.specs.Lists.{same_list, overlay}
-use Rattle.lex_spelling.specs.Text.{character_at, Text, spell_more, spelled_within, spelled_at, name_at, mix, hash_from, measured_from, measured}
-use Rattle.lex_spelling.specs.Pair.{pair_one, pair_end, pair_of, pair_at}
-use Rattle.lex_spelling.specs.declared.Character.{Character}
-use Rattle.lex_spelling.specs.declared.Character.TheVariants.{One, Broken, Stop}
+use Rattle.lex_spelling.specs.Text.{Character, character_at, Text, spell_more, spelled_within, spelled_at, name_at, mix, hash_from, measured_from, measured}
+use Rattle.lex_spelling.specs.Pair.{Paired, pair_one, pair_end, pair_of, pair_at}
+use Rattle.std.proofs.Common.{Ok, Err, Continue, Break}
+use Rattle.lex_spelling.specs.declared.Decoded.{Decoded}
 use Rattle.lex_spelling.specs.declared.Ending.{Ending}
-use Rattle.lex_spelling.specs.declared.Ending.TheVariants as ending
-use Rattle.lex_spelling.specs.declared.Spelled.{Spelled}
-use Rattle.lex_spelling.specs.declared.Paired.{Paired}
-use Rattle.lex_spelling.specs.declared.Paired.TheVariants.{On, Differ, Ended}
 use Rattle.lex_spelling.proofs.Ahead.{OneIn, one_in, PairIn, paired-in}
 
 -- the text from a place on, by the character there
@@ -29,20 +24,15 @@ text-by : (k : ℕ) (q : Bool) (s : List ℕ) (at : ℕ) (x : Character) → x �
 unfolding spelled_within
 text-by k q s at x e = ap (λ (y : Character). spell_more y (λ next. spelled_within k q s next)) (sym e)
 
-text-one : (k : ℕ) (q : Bool) (s : List ℕ) (at v n : ℕ) (x : Character) → x ≡ character_at q s at → x ≡ One v n
-    → spelled_within (suc k) q s at ≡ record { bytes = v ∷ (spelled_within k q s n).bytes; ending = (spelled_within k q s n).ending }
+text-one : (k : ℕ) (q : Bool) (s : List ℕ) (at : ℕ) (y : Decoded) (x : Character) → x ≡ character_at q s at → x ≡ Ok y
+    → spelled_within (suc k) q s at ≡ record { bytes = y.value ∷ (spelled_within k q s y.next).bytes; ending = (spelled_within k q s y.next).ending }
 unfolding spell_more
-text-one k q s at v n x e f = text-by k q s at x e ∙ ap (λ (y : Character). spell_more y (λ next. spelled_within k q s next)) f
+text-one k q s at y x e f = text-by k q s at x e ∙ ap (λ (z : Character). spell_more z (λ next. spelled_within k q s next)) f
 
-text-broken : (k : ℕ) (q : Bool) (s : List ℕ) (at p : ℕ) (x : Character) → x ≡ character_at q s at → x ≡ Broken p
-    → spelled_within (suc k) q s at ≡ record { bytes = []; ending = ending.Broken p }
+text-end : (k : ℕ) (q : Bool) (s : List ℕ) (at : ℕ) (b : Ending) (x : Character) → x ≡ character_at q s at → x ≡ Err b
+    → spelled_within (suc k) q s at ≡ record { bytes = []; ending = b }
 unfolding spell_more
-text-broken k q s at p x e f = text-by k q s at x e ∙ ap (λ (y : Character). spell_more y (λ next. spelled_within k q s next)) f
-
-text-stop : (k : ℕ) (q : Bool) (s : List ℕ) (at p : ℕ) (x : Character) → x ≡ character_at q s at → x ≡ Stop p
-    → spelled_within (suc k) q s at ≡ record { bytes = []; ending = ending.Stopped p }
-unfolding spell_more
-text-stop k q s at p x e f = text-by k q s at x e ∙ ap (λ (y : Character). spell_more y (λ next. spelled_within k q s next)) f
+text-end k q s at b x e f = text-by k q s at x e ∙ ap (λ (z : Character). spell_more z (λ next. spelled_within k q s next)) f
 
 -- one byte more, counted and mixed
 measure-more : (size hash v : ℕ) (t : Text) → measured_from size hash (record { bytes = v ∷ t.bytes; ending = t.ending }) ≡ measured_from (size + 1) (mix hash v) t
@@ -74,63 +64,52 @@ unfolding spelled_at
 spelling-start q s at =
     record { few = omega arith; fits = omega arith; count = length s; enough = omega arith; rest = measure-start (spelled_within (suc (length s)) q s at) }
 
-more-spelt : (q : Bool) (s : List ℕ) (at i size hash v n h' : ℕ) (x : Character) (c : ℕ) → length s - i ≤ c
-    → measured_from size hash (spelled_within (suc c) q s i) ≡ measured (spelled_at q s at) → size ≤ i → OneIn s i (One v n)
-    → x ≡ character_at q s i → x ≡ One v n → h' ≡ mix hash v → Spelling q s at n (size + 1) h'
-more-spelt q s at i size hash v n h' x zero g r f a p e m = let z : ⊥ = omega (arith, a.0, a.1) in absurd z
-more-spelt q s at i size hash v n h' x (suc c) g r f a p e m =
+more-spelt : (q : Bool) (s : List ℕ) (at i size hash : ℕ) (y : Decoded) (h' : ℕ) (x : Character) (c : ℕ) → length s - i ≤ c
+    → measured_from size hash (spelled_within (suc c) q s i) ≡ measured (spelled_at q s at) → size ≤ i → OneIn s i (Ok y)
+    → x ≡ character_at q s i → x ≡ Ok y → h' ≡ mix hash y.value → Spelling q s at y.next (size + 1) h'
+more-spelt q s at i size hash y h' x zero g r f a p e m = let z : ⊥ = omega (arith, a.0, a.1) in absurd z
+more-spelt q s at i size hash y h' x (suc c) g r f a p e m =
     record {
       few = omega (arith, a.0);
       fits = omega (arith, a.0, a.1);
       count = c;
       enough = omega (arith, a.0);
-      rest = ap (λ (y : ℕ). measured_from (size + 1) y (spelled_within (suc c) q s n)) m ∙ sym (measure-more size hash v (spelled_within (suc c) q s n)) ∙ ap (measured_from size hash) (sym (text-one (suc c) q s i v n x p e)) ∙ r;
+      rest = ap (λ (n : ℕ). measured_from (size + 1) n (spelled_within (suc c) q s y.next)) m ∙ sym (measure-more size hash y.value (spelled_within (suc c) q s y.next)) ∙ ap (measured_from size hash) (sym (text-one (suc c) q s i y x p e)) ∙ r;
     }
 
 module _ (q : Bool) (s : List ℕ) (at i size hash : ℕ) (x : Character) where
-  one-here : (v n : ℕ) → Spelling q s at i size hash → x ≡ character_at q s i → x ≡ One v n → OneIn s i (One v n)
-  one-here v n h p e = subst (OneIn s i) e (one_in q s i x p)
+  one-here : (y : Decoded) → Spelling q s at i size hash → x ≡ character_at q s i → x ≡ Ok y → OneIn s i (Ok y)
+  one-here y h p e = subst (OneIn s i) e (one_in q s i x p)
 
-  pub spelling-more : (v n h' : ℕ) → Spelling q s at i size hash → x ≡ character_at q s i → x ≡ One v n → h' ≡ mix hash v → Spelling q s at n (size + 1) h'
-  spelling-more v n h' h p e m =
-      more-spelt q s at i size hash v n h' x h.count h.enough h.rest h.few (one-here v n h p e) p e m
+  pub spelling-more : (y : Decoded) (h' : ℕ) → Spelling q s at i size hash → x ≡ character_at q s i → x ≡ Ok y → h' ≡ mix hash y.value → Spelling q s at y.next (size + 1) h'
+  spelling-more y h' h p e m =
+      more-spelt q s at i size hash y h' x h.count h.enough h.rest h.few (one-here y h p e) p e m
 
-  pub spelling-less : (v n : ℕ) → Spelling q s at i size hash → x ≡ character_at q s i → x ≡ One v n → length s - n < length s - i
-  spelling-less v n h p e = let a : OneIn s i (One v n) = one-here v n h p e in omega (arith, a.0, a.1)
+  pub spelling-less : (y : Decoded) → Spelling q s at i size hash → x ≡ character_at q s i → x ≡ Ok y → length s - y.next < length s - i
+  spelling-less y h p e = let a : OneIn s i (Ok y) = one-here y h p e in omega (arith, a.0, a.1)
 
-  pub spelling-broken : (b : ℕ) → Spelling q s at i size hash → x ≡ character_at q s i → x ≡ Broken b
-      → record { size = size; hash = hash; ending = ending.Broken b } ≡ measured (spelled_at q s at)
-  spelling-broken b h p e =
-      sym (measure-end size hash (ending.Broken b)) ∙ ap (measured_from size hash) (sym (text-broken h.count q s i b x p e)) ∙ h.rest
+  pub spelling-end : (b : Ending) → Spelling q s at i size hash → x ≡ character_at q s i → x ≡ Err b
+      → record { size = size; hash = hash; ending = b } ≡ measured (spelled_at q s at)
+  spelling-end b h p e =
+      sym (measure-end size hash b) ∙ ap (measured_from size hash) (sym (text-end h.count q s i b x p e)) ∙ h.rest
 
-  pub spelling-stop : (b : ℕ) → Spelling q s at i size hash → x ≡ character_at q s i → x ≡ Stop b
-      → record { size = size; hash = hash; ending = ending.Stopped b } ≡ measured (spelled_at q s at)
-  spelling-stop b h p e =
-      sym (measure-end size hash (ending.Stopped b)) ∙ ap (measured_from size hash) (sym (text-stop h.count q s i b x p e)) ∙ h.rest
-
-pub ruleset spelling = (spelling-start, spelling-more, spelling-broken, spelling-stop)
+pub ruleset spelling = (spelling-start, spelling-more, spelling-end)
 
 -- what is left to compare, by the two characters
 abbrev pair_rest : Paired → (ℕ → Text) → (ℕ → Text) → Bool
-pair_rest (On one two) f g = same_list (f one).bytes (g two).bytes
-pair_rest Differ f g = false
-pair_rest Ended f g = true
+pair_rest (Continue p) f g = same_list (f p.0).bytes (g p.1).bytes
+pair_rest (Break b) f g = b
 
-alike : (t : Bool) (a b : ℕ) (f g : ℕ → Text) → pick t (same_list (f a).bytes (g b).bytes) false ≡ pair_rest (pick t (On a b) Differ) f g
+alike : (t : Bool) (a b : ℕ) (f g : ℕ → Text) → pick t (same_list (f a).bytes (g b).bytes) false ≡ pair_rest (pick t (Continue (a, b)) (Break false)) f g
 alike true a b f g = refl
 alike false a b f g = refl
 
 pair-rest : (x y : Character) (f g : ℕ → Text) → same_list (spell_more x f).bytes (spell_more y g).bytes ≡ pair_rest (pair_of x y) f g
 unfolding same_list spell_more pair_of pair_one pair_end if_eq
-pair-rest (One v a) (One w b) f g = alike (eqb v w) a b f g
-pair-rest (One v a) (Broken p) f g = refl
-pair-rest (One v a) (Stop p) f g = refl
-pair-rest (Broken p) (One w b) f g = refl
-pair-rest (Broken p) (Broken q) f g = refl
-pair-rest (Broken p) (Stop q) f g = refl
-pair-rest (Stop p) (One w b) f g = refl
-pair-rest (Stop p) (Broken q) f g = refl
-pair-rest (Stop p) (Stop q) f g = refl
+pair-rest (Ok x) (Ok y) f g = alike (eqb x.value y.value) x.next y.next f g
+pair-rest (Ok x) (Err e) f g = refl
+pair-rest (Err e) (Ok y) f g = refl
+pair-rest (Err e) (Err d) f g = refl
 
 pub record Comparing (s : List ℕ) (p q i j : ℕ) : Type 0 where
   pub one : ℕ
@@ -154,25 +133,20 @@ rest-is s i j z c d e =
     ∙ ap (λ (y : Paired). pair_rest y (λ n. spelled_within c false s n) (λ n. spelled_within d false s n)) (sym e)
 
 module _ (s : List ℕ) (p q i j : ℕ) (z : Paired) where
-  pub comparing-differ : Comparing s p q i j → z ≡ pair_at s i j → z ≡ Differ → false ≡ same_list (name_at s p) (name_at s q)
-  comparing-differ h e f =
+  pub comparing-end : (b : Bool) → Comparing s p q i j → z ≡ pair_at s i j → z ≡ Break b → b ≡ same_list (name_at s p) (name_at s q)
+  comparing-end b h e f =
       ap (λ (y : Paired). pair_rest y (λ n. spelled_within h.one false s n) (λ n. spelled_within h.two false s n)) (sym f)
       ∙ sym (rest-is s i j z h.one h.two e) ∙ h.rest
 
-  pub comparing-ended : Comparing s p q i j → z ≡ pair_at s i j → z ≡ Ended → true ≡ same_list (name_at s p) (name_at s q)
-  comparing-ended h e f =
-      ap (λ (y : Paired). pair_rest y (λ n. spelled_within h.one false s n) (λ n. spelled_within h.two false s n)) (sym f)
-      ∙ sym (rest-is s i j z h.one h.two e) ∙ h.rest
-
-  on_in : (a b : ℕ) → Comparing s p q i j → z ≡ pair_at s i j → z ≡ On a b → PairIn s i j (On a b)
+  on_in : (a b : ℕ) → Comparing s p q i j → z ≡ pair_at s i j → z ≡ Continue (a, b) → PairIn s i j (Continue (a, b))
   on_in a b h e f = subst (PairIn s i j) f (paired-in s i j z e)
 
-  pub comparing-less : (a b : ℕ) → Comparing s p q i j → z ≡ pair_at s i j → z ≡ On a b → length s - a < length s - i
-  comparing-less a b h e f = let w : PairIn s i j (On a b) = on_in a b h e f in omega (arith, w.0.0, w.0.1)
+  pub comparing-less : (a b : ℕ) → Comparing s p q i j → z ≡ pair_at s i j → z ≡ Continue (a, b) → length s - a < length s - i
+  comparing-less a b h e f = let w : PairIn s i j (Continue (a, b)) = on_in a b h e f in omega (arith, w.0.0, w.0.1)
 
-  on-more : (a b c d : ℕ) → length s - i ≤ c → length s - j ≤ d → PairIn s i j (On a b)
+  on-more : (a b c d : ℕ) → length s - i ≤ c → length s - j ≤ d → PairIn s i j (Continue (a, b))
       → same_list (spelled_within (suc c) false s i).bytes (spelled_within (suc d) false s j).bytes ≡ same_list (name_at s p) (name_at s q)
-      → z ≡ pair_at s i j → z ≡ On a b → Comparing s p q a b
+      → z ≡ pair_at s i j → z ≡ Continue (a, b) → Comparing s p q a b
   on-more a b zero d g k w r e f = let x : ⊥ = omega (arith, w.0.0, w.0.1) in absurd x
   on-more a b (suc c) zero g k w r e f = let x : ⊥ = omega (arith, w.1.0, w.1.1) in absurd x
   on-more a b (suc c) (suc d) g k w r e f =
@@ -184,10 +158,10 @@ module _ (s : List ℕ) (p q i j : ℕ) (z : Paired) where
         rest = ap (λ (y : Paired). pair_rest y (λ n. spelled_within (suc c) false s n) (λ n. spelled_within (suc d) false s n)) (sym f) ∙ sym (rest-is s i j z (suc c) (suc d) e) ∙ r;
       }
 
-  pub comparing-more : (a b : ℕ) → Comparing s p q i j → z ≡ pair_at s i j → z ≡ On a b → Comparing s p q a b
+  pub comparing-more : (a b : ℕ) → Comparing s p q i j → z ≡ pair_at s i j → z ≡ Continue (a, b) → Comparing s p q a b
   comparing-more a b h e f = on-more a b h.one h.two h.enough h.room (on_in a b h e f) h.rest e f
 
-pub ruleset comparing = (comparing-start, comparing-more, comparing-differ, comparing-ended)
+pub ruleset comparing = (comparing-start, comparing-more, comparing-end)
 
 -- the rest of a text written behind what is in the buffer already
 abbrev pub overlay_from : ℕ → List ℕ → List ℕ → List ℕ
@@ -231,44 +205,40 @@ unfolding spelled_at
 copying-start q s at out =
     record { long = refl; count = length s; enough = omega arith; rest = overlay-start (spelled_within (suc (length s)) q s at).bytes out }
 
-copied : (q : Bool) (s : List ℕ) (at : ℕ) (out₀ out : List ℕ) (i k v n : ℕ) (x : Character) (c : ℕ) → length s - i ≤ c
-    → overlay_from k (spelled_within (suc c) q s i).bytes out ≡ overlay (spelled_at q s at).bytes out₀ → length out ≡ length out₀ → OneIn s i (One v n)
-    → k < length out → x ≡ character_at q s i → x ≡ One v n → Copying q s at out₀ (set out k v) n (k + 1)
-copied q s at out₀ out i k v n x zero g r l a w p e = let z : ⊥ = omega (arith, a.0, a.1) in absurd z
-copied q s at out₀ out i k v n x (suc c) g r l a w p e =
+copied : (q : Bool) (s : List ℕ) (at : ℕ) (out₀ out : List ℕ) (i k : ℕ) (y : Decoded) (x : Character) (c : ℕ) → length s - i ≤ c
+    → overlay_from k (spelled_within (suc c) q s i).bytes out ≡ overlay (spelled_at q s at).bytes out₀ → length out ≡ length out₀ → OneIn s i (Ok y)
+    → k < length out → x ≡ character_at q s i → x ≡ Ok y → Copying q s at out₀ (set out k y.value) y.next (k + 1)
+copied q s at out₀ out i k y x zero g r l a w p e = let z : ⊥ = omega (arith, a.0, a.1) in absurd z
+copied q s at out₀ out i k y x (suc c) g r l a w p e =
     record {
-      long = length-set out k v ∙ l;
+      long = length-set out k y.value ∙ l;
       count = c;
       enough = omega (arith, a.0);
-      rest = overlay-more k v (spelled_within (suc c) q s n).bytes out w ∙ ap (λ (t : Text). overlay_from k t.bytes out) (sym (text-one (suc c) q s i v n x p e)) ∙ r;
+      rest = overlay-more k y.value (spelled_within (suc c) q s y.next).bytes out w ∙ ap (λ (t : Text). overlay_from k t.bytes out) (sym (text-one (suc c) q s i y x p e)) ∙ r;
     }
 
 module _ (q : Bool) (s : List ℕ) (at : ℕ) (out₀ out : List ℕ) (i k : ℕ) (x : Character) where
-  pub copying-in : (v n : ℕ) → Copying q s at out₀ out i k → x ≡ character_at q s i → x ≡ One v n → OneIn s i (One v n)
-  copying-in v n h p e = subst (OneIn s i) e (one_in q s i x p)
+  pub copying-in : (y : Decoded) → Copying q s at out₀ out i k → x ≡ character_at q s i → x ≡ Ok y → OneIn s i (Ok y)
+  copying-in y h p e = subst (OneIn s i) e (one_in q s i x p)
 
-  pub copying-byte : (v n : ℕ) → Copying q s at out₀ out i k → x ≡ character_at q s i → x ≡ One v n → v < 256
-  copying-byte v n h p e = (copying-in v n h p e).2
+  pub copying-byte : (y : Decoded) → Copying q s at out₀ out i k → x ≡ character_at q s i → x ≡ Ok y → y.value < 256
+  copying-byte y h p e = (copying-in y h p e).2
 
-  pub copying-more : (v n b : ℕ) → Copying q s at out₀ out i k → k < length out → x ≡ character_at q s i → x ≡ One v n → b ≡ v
-      → Copying q s at out₀ (set out k b) n (k + 1)
-  copying-more v n b h w p e f =
-      subst (λ (y : ℕ). Copying q s at out₀ (set out k y) n (k + 1)) (sym f)
-      (copied q s at out₀ out i k v n x h.count h.enough h.rest h.long (copying-in v n h p e) w p e)
+  pub copying-more : (y : Decoded) (b : ℕ) → Copying q s at out₀ out i k → k < length out₀ → x ≡ character_at q s i → x ≡ Ok y → b ≡ y.value
+      → Copying q s at out₀ (set out k b) y.next (k + 1)
+  copying-more y b h w p e f =
+      subst (λ (v : ℕ). Copying q s at out₀ (set out k v) y.next (k + 1)) (sym f)
+      (copied q s at out₀ out i k y x h.count h.enough h.rest h.long (copying-in y h p e) (omega (arith, h.long)) p e)
 
-  pub copying-broken : (b : ℕ) → Copying q s at out₀ out i k → x ≡ character_at q s i → x ≡ Broken b → out ≡ overlay (spelled_at q s at).bytes out₀
-  copying-broken b h p e =
-      sym (overlay-end k out) ∙ ap (λ (t : Text). overlay_from k t.bytes out) (sym (text-broken h.count q s i b x p e)) ∙ h.rest
+  pub copying-end : (b : Ending) → Copying q s at out₀ out i k → x ≡ character_at q s i → x ≡ Err b → out ≡ overlay (spelled_at q s at).bytes out₀
+  copying-end b h p e =
+      sym (overlay-end k out) ∙ ap (λ (t : Text). overlay_from k t.bytes out) (sym (text-end h.count q s i b x p e)) ∙ h.rest
 
-  pub copying-stop : (b : ℕ) → Copying q s at out₀ out i k → x ≡ character_at q s i → x ≡ Stop b → out ≡ overlay (spelled_at q s at).bytes out₀
-  copying-stop b h p e =
-      sym (overlay-end k out) ∙ ap (λ (t : Text). overlay_from k t.bytes out) (sym (text-stop h.count q s i b x p e)) ∙ h.rest
-
-pub copying-full : (q : Bool) (s : List ℕ) (at : ℕ) (out₀ out : List ℕ) (i k : ℕ) → Copying q s at out₀ out i k → length out ≤ k → out ≡ overlay (spelled_at q s at).bytes out₀
+pub copying-full : (q : Bool) (s : List ℕ) (at : ℕ) (out₀ out : List ℕ) (i k : ℕ) → Copying q s at out₀ out i k → length out₀ ≤ k → out ≡ overlay (spelled_at q s at).bytes out₀
 copying-full q s at out₀ out i k h l =
-    sym (overlay-past k (spelled_within (suc h.count) q s i).bytes out l) ∙ h.rest
+    sym (overlay-past k (spelled_within (suc h.count) q s i).bytes out (omega (arith, h.long))) ∙ h.rest
 
-pub ruleset copying = (copying-start, copying-more, copying-broken, copying-stop, copying-full)
+pub ruleset copying = (copying-start, copying-more, copying-end, copying-full)
 
 -- a text that fits stands at the front of the buffer
 pub overlay-front : (xs out : List ℕ) → length xs ≤ length out → take (length xs) (overlay xs out) ≡ xs

@@ -1,30 +1,32 @@
 -- The decoded bytes of a symbol or a string.
 -- Assumes nothing.
-use Rattle.std.specs.Prelude.{ℕ, zero, suc, ◌+◌, ◌*◌, ◌%◌, Bool, true, false, List, [], ◌∷◌, length}
+use Rattle.std.specs.Prelude.{ℕ, zero, suc, ◌+◌, ◌*◌, ◌%◌, Bool, true, false, List, [], ◌∷◌, length, Result, Ok, Err}
 use Rattle.base_limits.specs.Limits.{word_values}
 use Rattle.base_prelude.specs.Choice.{if_lt, if_eq, if_true}
 use Rattle.base_prelude.specs.Bytes.{byte_at}
 use Rattle.lex_spelling.specs.Classes.{is_name_byte}
 use Rattle.lex_spelling.specs.Continuation.{joined}
-use Rattle.lex_spelling.specs.Escape.{escape_at}
-use Rattle.lex_spelling.specs.declared.Escaped.{Escaped}
-use Rattle.lex_spelling.specs.declared.Escaped.TheVariants.{Byte, Bad}
-use Rattle.lex_spelling.specs.declared.Character.{Character}
-use Rattle.lex_spelling.specs.declared.Character.TheVariants.{One, Broken, Stop}
+use Rattle.lex_spelling.specs.Escape.{decoded, escape_at}
+use Rattle.lex_spelling.specs.declared.Decoded.{Decoded}
 use Rattle.lex_spelling.specs.declared.Ending.{Ending}
-use Rattle.lex_spelling.specs.declared.Ending.TheVariants as ending
+use Rattle.lex_spelling.specs.declared.Ending.TheVariants.{Stopped, Broken}
 use Rattle.lex_spelling.specs.declared.Spelled.{Spelled}
+
+-- a character of a text, or where and how the text ends
+abbrev pub Character : Type 0
+Character = Result Decoded Ending
 
 -- "A string may hold any raw byte but 10, `"` and a lone backslash."
 unfoldable pub in_string : ℕ → ℕ → Character
-in_string c at = if_eq c 34 (Stop at) (if_eq c 10 (Stop at) (if_lt c 256 (One c (at + 1)) (Stop at)))
+in_string c at =
+    if_eq c 34 (Err (Stopped at)) (if_eq c 10 (Err (Stopped at)) (if_lt c 256 (Ok (decoded c (at + 1))) (Err (Stopped at))))
 
 unfoldable pub in_symbol : ℕ → ℕ → Character
-in_symbol c at = if_true (is_name_byte c) (One c (at + 1)) (Stop at)
+in_symbol c at = if_true (is_name_byte c) (Ok (decoded c (at + 1))) (Err (Stopped at))
 
-unfoldable pub escaped : Escaped → Character
-escaped (Byte value next) = One value next
-escaped (Bad place) = Broken place
+unfoldable pub escaped : Result Decoded ℕ → Character
+escaped (Ok x) = Ok x
+escaped (Err place) = Err (Broken place)
 
 -- a raw byte of a string (quoted) or of a symbol
 unfoldable pub raw_at : Bool → ℕ → ℕ → Character
@@ -44,16 +46,15 @@ pub record Text : Type 0 where
 
 -- the place at which a text ends
 abbrev pub end_of : Ending → ℕ
-end_of (ending.Stopped place) = place
-end_of (ending.Broken place) = place
+end_of (Stopped place) = place
+end_of (Broken place) = place
 
 unfoldable pub spell_more : Character → (ℕ → Text) → Text
-spell_more (One value next) rest = record { bytes = value ∷ (rest next).bytes; ending = (rest next).ending }
-spell_more (Broken place) rest = record { bytes = []; ending = ending.Broken place }
-spell_more (Stop place) rest = record { bytes = []; ending = ending.Stopped place }
+spell_more (Ok x) rest = record { bytes = x.value ∷ (rest x.next).bytes; ending = (rest x.next).ending }
+spell_more (Err e) rest = record { bytes = []; ending = e }
 
 unfoldable pub spelled_within : ℕ → Bool → List ℕ → ℕ → Text
-spelled_within zero quoted s at = record { bytes = []; ending = ending.Stopped at }
+spelled_within zero quoted s at = record { bytes = []; ending = Stopped at }
 spelled_within (suc k) quoted s at = spell_more (character_at quoted s at) (λ next. spelled_within k quoted s next)
 
 -- the text from a place on

@@ -5,12 +5,12 @@ pub loop-i-init : goal.loop-i-init
 loop-i-init c =
     search blanking
 
-pub loop-i-preserved : goal.loop-i-preserved
-loop-i-preserved c =
+pub returns-then-not-is_blank : goal.returns-then-not-is_blank
+returns-then-not-is_blank c =
     search blanking
 
-pub returns-else-is_blank : goal.returns-else-is_blank
-returns-else-is_blank c =
+pub loop-i-preserved : goal.loop-i-preserved
+loop-i-preserved c =
     search blanking
 
 pub returns : goal.returns

@@ -5,22 +5,18 @@ pub loop-k-init : goal.loop-k-init
 loop-k-init c =
     search copying
 
-pub narrow-requires : goal.narrow-requires
-narrow-requires c =
-    search copying-byte
+pub returns-in_default : goal.returns-in_default
+returns-in_default c =
+    search copying
 
 pub loop-k-preserved : goal.loop-k-preserved
 loop-k-preserved c =
     search copying
 
-pub returns-in-Broken : goal.returns-in-Broken
-returns-in-Broken c =
-    search copying
-
-pub returns-in-Stop : goal.returns-in-Stop
-returns-in-Stop c =
-    search copying
-
 pub returns : goal.returns
 returns c =
     search copying
+
+pub narrow-requires : goal.narrow-requires
+narrow-requires c =
+    search copying-byte

@@ -1,12 +1,6 @@
-use Prim.Native.Nat.{◌-◌}
-use lib.ListN.{length}
 use Rattle.lex_spelling.proofs.Loops.{Copying}
 use Rattle.lex_spelling.proofs.copy_text.Given as goal
 
 abbrev pub invariant-loop-k : goal.invariant-loop-k
 invariant-loop-k l =
     Copying l.quoted l.s l.at l.initial.out l.out l.i l.k
-
-abbrev pub decreases-loop-k : goal.decreases-loop-k
-decreases-loop-k l =
-    length l.initial.out - l.k

@@ -1,40 +1,39 @@
 use Rattle.base_prelude.proofs.Choice.{tests}
-use Rattle.lex_spelling.specs.Classes.{is_blank, is_separator, is_digit, is_letter}
-use Rattle.lex_spelling.specs.Escape.{hex_of, plain_of}
-use Rattle.lex_spelling.specs.Text.{in_string}
+use borrow.Author.Rules.{rules}
+use Rattle.lex_spelling.specs.Escape.{hex_of}
 use Rattle.lex_spelling.proofs.hex.Goals as goal
 
-pub returns-then-c-lt48 : goal.returns-then-c-lt48
-unfolding is_blank is_separator is_digit is_letter hex_of plain_of in_string
-returns-then-c-lt48 c =
-    search tests depth 16
+pub returns-in-48-to-57 : goal.returns-in-48-to-57
+unfolding hex_of
+returns-in-48-to-57 c =
+    search (tests, rules) depth 16
 
-pub returns-then-c-lt58 : goal.returns-then-c-lt58
-unfolding is_blank is_separator is_digit is_letter hex_of plain_of in_string
-returns-then-c-lt58 c =
-    search tests depth 16
+pub returns-in-65-to-70 : goal.returns-in-65-to-70
+unfolding hex_of
+returns-in-65-to-70 c =
+    search (tests, rules) depth 16
 
-pub returns-then-c-lt65 : goal.returns-then-c-lt65
-unfolding is_blank is_separator is_digit is_letter hex_of plain_of in_string
-returns-then-c-lt65 c =
-    search tests depth 16
+pub returns-in-97-to-102 : goal.returns-in-97-to-102
+unfolding hex_of
+returns-in-97-to-102 c =
+    search (tests, rules) depth 16
 
-pub returns-then-c-lt71 : goal.returns-then-c-lt71
-unfolding is_blank is_separator is_digit is_letter hex_of plain_of in_string
-returns-then-c-lt71 c =
-    search tests depth 16
+pub returns-in_default : goal.returns-in_default
+unfolding hex_of
+returns-in_default c =
+    search (tests, rules) depth 16
 
-pub returns-then-c-lt97 : goal.returns-then-c-lt97
-unfolding is_blank is_separator is_digit is_letter hex_of plain_of in_string
-returns-then-c-lt97 c =
-    search tests depth 16
+pub returns-in_default-2 : goal.returns-in_default-2
+unfolding hex_of
+returns-in_default-2 c =
+    search (tests, rules) depth 16
 
-pub returns-then-c-lt103 : goal.returns-then-c-lt103
-unfolding is_blank is_separator is_digit is_letter hex_of plain_of in_string
-returns-then-c-lt103 c =
-    search tests depth 16
+pub returns-in_default-3 : goal.returns-in_default-3
+unfolding hex_of
+returns-in_default-3 c =
+    search (tests, rules) depth 16
 
-pub returns : goal.returns
-unfolding is_blank is_separator is_digit is_letter hex_of plain_of in_string
-returns c =
-    search tests depth 16
+pub returns-in_default-4 : goal.returns-in_default-4
+unfolding hex_of
+returns-in_default-4 c =
+    search (tests, rules) depth 16

@@ -1,20 +1,19 @@
 use Rattle.base_prelude.proofs.Choice.{tests}
-use Rattle.lex_spelling.specs.Classes.{is_blank, is_separator, is_digit, is_letter}
-use Rattle.lex_spelling.specs.Escape.{hex_of, plain_of}
-use Rattle.lex_spelling.specs.Text.{in_string}
+use borrow.Author.Rules.{rules}
+use Rattle.lex_spelling.specs.Classes.{is_digit}
 use Rattle.lex_spelling.proofs.is_digit.Goals as goal
 
-pub returns-then-c-lt48 : goal.returns-then-c-lt48
-unfolding is_blank is_separator is_digit is_letter hex_of plain_of in_string
-returns-then-c-lt48 c =
-    search tests depth 16
+pub returns-in-48-to-57 : goal.returns-in-48-to-57
+unfolding is_digit
+returns-in-48-to-57 c =
+    search (tests, rules) depth 16
 
-pub returns-then-c-lt58 : goal.returns-then-c-lt58
-unfolding is_blank is_separator is_digit is_letter hex_of plain_of in_string
-returns-then-c-lt58 c =
-    search tests depth 16
+pub returns-in_default : goal.returns-in_default
+unfolding is_digit
+returns-in_default c =
+    search (tests, rules) depth 16
 
-pub returns : goal.returns
-unfolding is_blank is_separator is_digit is_letter hex_of plain_of in_string
-returns c =
-    search tests depth 16
+pub returns-in_default-2 : goal.returns-in_default-2
+unfolding is_digit
+returns-in_default-2 c =
+    search (tests, rules) depth 16

@@ -1,18 +1,11 @@
 use Rattle.lex_spelling.proofs.Cases.{naming}
+use borrow.Author.Rules.{rules}
 use Rattle.lex_spelling.proofs.is_name_byte.Goals as goal
-
-pub returns-then-is_letter : goal.returns-then-is_letter
-returns-then-is_letter c =
-    search naming
 
 pub returns-then-is_digit : goal.returns-then-is_digit
 returns-then-is_digit c =
-    search naming
+    search (naming, rules)
 
-pub returns-then-c-eq45 : goal.returns-then-c-eq45
-returns-then-c-eq45 c =
-    search naming
-
-pub returns : goal.returns
-returns c =
-    search naming
+pub returns-else-is_digit : goal.returns-else-is_digit
+returns-else-is_digit c =
+    search (naming, rules)

@@ -5,10 +5,6 @@ pub loop-i-init : goal.loop-i-init
 loop-i-init c =
     search joining
 
-pub loop-i-smaller : goal.loop-i-smaller
-loop-i-smaller c =
-    search joins-less
-
 pub loop-i-preserved : goal.loop-i-preserved
 loop-i-preserved c =
     search joining
@@ -17,6 +13,10 @@ pub returns-else-is_joint : goal.returns-else-is_joint
 returns-else-is_joint c =
     search joining
 
-pub returns : goal.returns
-returns c =
+pub returns-after-loop-i : goal.returns-after-loop-i
+returns-after-loop-i c =
     search joining
+
+pub loop-i-smaller : goal.loop-i-smaller
+loop-i-smaller c =
+    search joins-less

@@ -1,14 +1,28 @@
-use Rattle.lex_spelling.proofs.Cases.{pairs}
+use Rattle.base_prelude.proofs.Choice.{tests}
+use Rattle.lex_spelling.specs.Pair.{pair_of, pair_one, pair_end}
 use Rattle.lex_spelling.proofs.pair.Goals as goal
 
-pub returns-in-One : goal.returns-in-One
-returns-in-One c =
-    search pairs
+pub returns-then-x-y : goal.returns-then-x-y
+unfolding pair_of pair_one pair_end
+returns-then-x-y c =
+    rw (c.in-Ok-Ok.is-0, c.in-Ok-Ok.is-1) (search tests)
 
-pub returns-in-Broken : goal.returns-in-Broken
-returns-in-Broken c =
-    search pairs
+pub returns-else-x-y : goal.returns-else-x-y
+unfolding pair_of pair_one pair_end
+returns-else-x-y c =
+    rw (c.in-Ok-Ok.is-0, c.in-Ok-Ok.is-1) (search tests)
 
-pub returns-in-Stop : goal.returns-in-Stop
-returns-in-Stop c =
-    search pairs
+pub returns-in-Err-Err : goal.returns-in-Err-Err
+unfolding pair_of pair_one pair_end
+returns-in-Err-Err c =
+    rw (c.in-Err-Err.is-0, c.in-Err-Err.is-1)
+
+pub returns-in_default : goal.returns-in_default
+unfolding pair_of pair_one pair_end
+returns-in_default c =
+    rw (c.in_default.is-0, c.in_default.is-1)
+
+pub returns-in_default-2 : goal.returns-in_default-2
+unfolding pair_of pair_one pair_end
+returns-in_default-2 c =
+    rw (c.in_default.is-0, c.in_default.is-1)

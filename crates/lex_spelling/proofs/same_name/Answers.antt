@@ -6,18 +6,14 @@ pub loop-one-init : goal.loop-one-init
 loop-one-init c =
     search (comparing, rules)
 
+pub loop-one-preserved : goal.loop-one-preserved
+loop-one-preserved c =
+    search (comparing, rules)
+
+pub returns-in-Break : goal.returns-in-Break
+returns-in-Break c =
+    search (comparing, rules)
+
 pub loop-one-smaller : goal.loop-one-smaller
 loop-one-smaller c =
     search comparing-less
-
-pub loop-one-preserved : goal.loop-one-preserved
-loop-one-preserved c =
-    search comparing
-
-pub returns-in-Differ : goal.returns-in-Differ
-returns-in-Differ c =
-    search comparing
-
-pub returns-in-Ended : goal.returns-in-Ended
-returns-in-Ended c =
-    search comparing

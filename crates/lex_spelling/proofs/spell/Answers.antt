@@ -1,22 +1,18 @@
 use Rattle.lex_spelling.proofs.Loops.{spelling, spelling-less}
 use Rattle.lex_spelling.proofs.spell.Goals as goal
 
-pub loop-value-init : goal.loop-value-init
-loop-value-init c =
+pub loop-x-init : goal.loop-x-init
+loop-x-init c =
     search spelling
 
-pub loop-value-smaller : goal.loop-value-smaller
-loop-value-smaller c =
+pub loop-x-preserved : goal.loop-x-preserved
+loop-x-preserved c =
+    search spelling
+
+pub returns-in-Err : goal.returns-in-Err
+returns-in-Err c =
+    search spelling
+
+pub loop-x-smaller : goal.loop-x-smaller
+loop-x-smaller c =
     search spelling-less
-
-pub loop-value-preserved : goal.loop-value-preserved
-loop-value-preserved c =
-    search spelling
-
-pub returns-in-Broken : goal.returns-in-Broken
-returns-in-Broken c =
-    search spelling
-
-pub returns-in-Stop : goal.returns-in-Stop
-returns-in-Stop c =
-    search spelling

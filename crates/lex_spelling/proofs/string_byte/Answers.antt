@@ -1,25 +1,14 @@
 use Rattle.base_prelude.proofs.Choice.{tests}
-use Rattle.lex_spelling.specs.Classes.{is_blank, is_separator, is_digit, is_letter}
-use Rattle.lex_spelling.specs.Escape.{hex_of, plain_of}
+use borrow.Author.Rules.{rules}
 use Rattle.lex_spelling.specs.Text.{in_string}
 use Rattle.lex_spelling.proofs.string_byte.Goals as goal
 
 pub returns-then-c-eq34 : goal.returns-then-c-eq34
-unfolding is_blank is_separator is_digit is_letter hex_of plain_of in_string
+unfolding in_string
 returns-then-c-eq34 c =
-    search tests depth 16
-
-pub returns-then-c-eq10 : goal.returns-then-c-eq10
-unfolding is_blank is_separator is_digit is_letter hex_of plain_of in_string
-returns-then-c-eq10 c =
-    search tests depth 16
-
-pub returns-then-c-lt256 : goal.returns-then-c-lt256
-unfolding is_blank is_separator is_digit is_letter hex_of plain_of in_string
-returns-then-c-lt256 c =
-    search tests depth 16
+    search (tests, rules) depth 16
 
 pub returns : goal.returns
-unfolding is_blank is_separator is_digit is_letter hex_of plain_of in_string
+unfolding in_string
 returns c =
-    search tests depth 16
+    search (tests, rules) depth 16
