@@ -3,12 +3,11 @@
 use mathlib.Core.Path.{◌≡◌, refl, sym, ◌∙◌, ap, subst}
 use mathlib.Core.Bool.{Bool, true, false}
 use mathlib.Core.List.{List, [], ◌∷◌}
-use Prim.Native.Nat.{ℕ, zero, suc, ◌+◌, ◌-◌, ◌≤◌, ◌<◌}
+use Prim.Native.Nat.{ℕ, ◌+◌, ◌≤◌, ◌<◌}
 use native.Mathlib.Omega.{arith}
 use lib.ListN.{length}
-use Rattle.base_prelude.specs.Choice.{if_lt, if_eq, if_true}
 use Rattle.base_prelude.specs.Bytes.{byte_at}
-use Rattle.base_prelude.proofs.Choice.{tests, either, either-eq, either_true, true-false}
+use Rattle.base_prelude.proofs.Choice.{tests, either-eq, either_true, true-false}
 use Rattle.base_prelude.proofs.Bytes.{byte-within}
 use Rattle.base_limits.specs.declared.Width.{Width}
 use Rattle.lex_spelling.specs.Classes.{is_letter, is_digit}
@@ -19,15 +18,14 @@ use Rattle.lex_spelling.specs.declared.Ending.{Ending}
 use Rattle.lex_spelling.specs.declared.Ending.TheVariants as ending
 use Rattle.lex_spelling.proofs.Ends.{digit-byte, letter-byte, joined_in}
 use Rattle.lex_spelling.proofs.Within.{spelled-in}
-use Rattle.lex_lexeme.specs.Number.{Digits, digits_at, value_of, integer_of, decimal_of}
+use Rattle.lex_lexeme.specs.Number.{digits_at, value_of, integer_of, decimal_of}
 use Rattle.lex_lexeme.specs.Gap.{gap_end}
-use Rattle.lex_lexeme.specs.Reading.{starts_symbol, starts_integer, texted, valued, symbol_to, symbol_end, symbol_by, symbol_at, string_to, string_end, string_by, string_read, integer_from, integer_by, digits_read, integer_at, marked_from, marked_at, at_from, at_read, plain_read, read_at, next_read, name_start}
-use Rattle.lex_lexeme.specs.declared.Number.{Number}
-use Rattle.lex_lexeme.specs.declared.Number.TheVariants.{Word, OutOfRange}
+use Rattle.lex_lexeme.specs.Reading.{TokenRead, Reading, starts_symbol, starts_integer, texted, valued, symbol_to, symbol_end, symbol_by, symbol_at, string_to, string_end, string_by, string_read, integer_from, integer_by, digits_read, integer_at, marked_from, marked_at, at_from, at_read, plain_read, token_at, as_reading, read_at, next_read, name_start}
+use Rattle.std.proofs.Common.{Option, None, Some, Ok, Err}
+use Rattle.std.specs.Result.{MatchResult, IsOkAnd}
 use Rattle.lex_lexeme.specs.declared.Decimal.{Decimal}
 use Rattle.lex_lexeme.specs.declared.Lexeme.{Lexeme}
-use Rattle.lex_lexeme.specs.declared.Reading.{Reading}
-use Rattle.lex_lexeme.specs.declared.Reading.TheVariants.{End, Lone, Broken, Open, Whole}
+use Rattle.lex_lexeme.specs.declared.TokenError.TheVariants.{Lone, Broken, Open}
 use Rattle.lex_lexeme.proofs.Digits.{decimal-number, decimal-count, decimal-next}
 
 module _ (c : ℕ) (b : Bool) where
@@ -102,15 +100,15 @@ pub ending-in : (n p : ℕ) (e : Ending) → end_of e ≤ n → e ≡ ending.Sto
 ending-in n p e h q = subst (λ (x : Ending). end_of x ≤ n) q h
 
 module _ (s : List ℕ) (kind first start size hash p : ℕ) (e : Ending) where
-  pub end-stopped : (x : Lexeme) → e ≡ ending.Stopped p → x ≡ symbol_to s kind first start size hash p → Whole x ≡ symbol_end s kind first start size hash e
+  pub end-stopped : (x : Lexeme) → e ≡ ending.Stopped p → x ≡ symbol_to s kind first start size hash p → Ok x ≡ symbol_end s kind first start size hash e
   unfolding symbol_end
-  end-stopped x q f = rw q (ap Whole f)
+  end-stopped x q f = rw q (ap (λ (y : Lexeme). Ok y) f)
 
-  pub end-broken : e ≡ ending.Broken p → Broken p ≡ symbol_end s kind first start size hash e
+  pub end-broken : e ≡ ending.Broken p → Err (Broken p) ≡ symbol_end s kind first start size hash e
   unfolding symbol_end
   end-broken q = rw q
 
-module _ (s : List ℕ) (kind first start : ℕ) (r : Reading) (x : Spelled) where
+module _ (s : List ℕ) (kind first start : ℕ) (r : TokenRead) (x : Spelled) where
   pub symbol-read : x ≡ measured (spelled_at false s start) → r ≡ symbol_end s kind first start x.size x.hash x.ending → r ≡ symbol_at s kind first start
   unfolding symbol_at symbol_by
   symbol-read p q = q ∙ ap (symbol_by s kind first start) p
@@ -122,61 +120,61 @@ pub string-ends : (s : List ℕ) (first : ℕ) (x : Spelled) → first < length 
 string-ends s first x l e = spelled-end true s (first + 1) x (omega arith) e
 
 module _ (s : List ℕ) (first size hash p : ℕ) where
-  pub to-string : (c j : ℕ) (x : Lexeme) → c ≡ byte_at s p → c ≡ 34 → j ≡ joined s (p + 1) → x ≡ texted 9 first (first + 1) j size hash → Whole x ≡ string_to s first size hash p
+  pub to-string : (c j : ℕ) (x : Lexeme) → c ≡ byte_at s p → c ≡ 34 → j ≡ joined s (p + 1) → x ≡ texted 9 first (first + 1) j size hash → Ok x ≡ string_to s first size hash p
   unfolding string_to
   to-string c j x q e f g = rw (← q, ← f, ← g) (search tests)
 
-  pub to-open : (c : ℕ) → c ≡ byte_at s p → (c ≡ 34 → ⊥) → Open first ≡ string_to s first size hash p
+  pub to-open : (c : ℕ) → c ≡ byte_at s p → (c ≡ 34 → ⊥) → Err (Open first) ≡ string_to s first size hash p
   unfolding string_to
   to-open c q e = rw (← q) (search tests)
 
-  pub string-stopped : (r : Reading) (e : Ending) → e ≡ ending.Stopped p → r ≡ string_to s first size hash p → r ≡ string_end s first size hash e
+  pub string-stopped : (r : TokenRead) (e : Ending) → e ≡ ending.Stopped p → r ≡ string_to s first size hash p → r ≡ string_end s first size hash e
   unfolding string_end
   string-stopped r e q f = rw q f
 
-  pub string-broken : (e : Ending) → e ≡ ending.Broken p → Broken p ≡ string_end s first size hash e
+  pub string-broken : (e : Ending) → e ≡ ending.Broken p → Err (Broken p) ≡ string_end s first size hash e
   unfolding string_end
   string-broken e q = rw q
 
-pub string-is : (s : List ℕ) (first : ℕ) (r : Reading) (x : Spelled) → x ≡ measured (spelled_at true s (first + 1))
+pub string-is : (s : List ℕ) (first : ℕ) (r : TokenRead) (x : Spelled) → x ≡ measured (spelled_at true s (first + 1))
     → r ≡ string_end s first x.size x.hash x.ending → r ≡ string_read s first
 unfolding string_read string_by
 string-is s first r x p q = q ∙ ap (string_by s first) p
 
-module _ (kind first next : ℕ) (n : Number) (x : Lexeme) where
-  pub integer-word : (v : ℕ) → n ≡ Word v → x ≡ valued kind first next v true → x ≡ integer_from kind first next n
+module _ (kind first next : ℕ) (n : Option ℕ) (x : Lexeme) where
+  pub integer-word : (v : ℕ) → n ≡ Some v → x ≡ valued kind first next v true → x ≡ integer_from kind first next n
   unfolding integer_from
   integer-word v p q = rw p q
 
-  pub integer-far : n ≡ OutOfRange → x ≡ valued kind first next 0 false → x ≡ integer_from kind first next n
+  pub integer-far : n ≡ None → x ≡ valued kind first next 0 false → x ≡ integer_from kind first next n
   unfolding integer_from
   integer-far p q = rw p q
 
-empty : (w : Width) (kind first : ℕ) (neg : Bool) (ds : List ℕ) (next : ℕ) → length ds ≡ 0 → Lone first ≡ integer_by w kind first neg ds next
+empty : (w : Width) (kind first : ℕ) (neg : Bool) (ds : List ℕ) (next : ℕ) → length ds ≡ 0 → Err (Lone first) ≡ integer_by w kind first neg ds next
 unfolding integer_by
 empty w kind first neg [] next e = refl
 empty w kind first neg (d ∷ ds) next e = let z : ⊥ = omega arith in absurd z
 
 some : (w : Width) (kind first : ℕ) (neg : Bool) (ds : List ℕ) (next : ℕ) → (length ds ≡ 0 → ⊥)
-    → Whole (integer_from kind first next (integer_of w neg (value_of ds))) ≡ integer_by w kind first neg ds next
+    → Ok (integer_from kind first next (integer_of w neg (value_of ds))) ≡ integer_by w kind first neg ds next
 unfolding integer_by
 some w kind first neg [] next e = absurd (e refl)
 some w kind first neg (d ∷ ds) next e = refl
 
 module _ (w : Width) (s : List ℕ) (kind first : ℕ) (neg : Bool) (at : ℕ) (d : Decimal) (p : d ≡ decimal_of (digits_at s at)) where
-  pub unsigned-none : d.count ≡ 0 → Lone first ≡ digits_read w s kind first neg at
+  pub unsigned-none : d.count ≡ 0 → Err (Lone first) ≡ digits_read w s kind first neg at
   unfolding digits_read
   unsigned-none e = empty w kind first neg (digits_at s at).digits (digits_at s at).next (sym (decimal-count d (digits_at s at) p) ∙ e)
 
-  pub unsigned-some : (n : Number) (x : Lexeme) → (d.count ≡ 0 → ⊥) → n ≡ integer_of w neg d.value → x ≡ integer_from kind first d.next n
-      → Whole x ≡ digits_read w s kind first neg at
+  pub unsigned-some : (n : Option ℕ) (x : Lexeme) → (d.count ≡ 0 → ⊥) → n ≡ integer_of w neg d.value → x ≡ integer_from kind first d.next n
+      → Ok x ≡ digits_read w s kind first neg at
   unfolding digits_read
   unsigned-some n x e q f =
-      ap Whole (f ∙ ap (integer_from kind first d.next) (q ∙ decimal-number w neg d (digits_at s at) p)
+      ap (λ (y : Lexeme). Ok y) (f ∙ ap (integer_from kind first d.next) (q ∙ decimal-number w neg d (digits_at s at) p)
       ∙ ap (λ (j : ℕ). integer_from kind first j (integer_of w neg (value_of (digits_at s at).digits))) (decimal-next d (digits_at s at) p))
       ∙ some w kind first neg (digits_at s at).digits (digits_at s at).next (λ z. e (decimal-count d (digits_at s at) p ∙ z))
 
-module _ (w : Width) (s : List ℕ) (kind first at c : ℕ) (r : Reading) (p : c ≡ byte_at s at) where
+module _ (w : Width) (s : List ℕ) (kind first at c : ℕ) (r : TokenRead) (p : c ≡ byte_at s at) where
   pub integer-negative : c ≡ 45 → r ≡ digits_read w s kind first true (at + 1) → r ≡ integer_at w s kind first at
   unfolding integer_at
   integer-negative e q = rw (← p, ← q) (search tests)
@@ -190,15 +188,15 @@ module _ (w : Width) (s : List ℕ) (kind first at c : ℕ) (r : Reading) (p : c
   integer-plain e f q = rw (← p, ← q) (search tests)
 
 module _ (s : List ℕ) (kind first at c : ℕ) (b : Bool) (p : c ≡ byte_at s at) (q : b ≡ starts_symbol c) where
-  pub marked-symbol : (r : Reading) → b ≡ true → r ≡ symbol_at s kind first at → r ≡ marked_from s kind first at
+  pub marked-symbol : (r : TokenRead) → b ≡ true → r ≡ symbol_at s kind first at → r ≡ marked_from s kind first at
   unfolding marked_from
   marked-symbol r e f = rw (← p, ← q, ← f) (search tests)
 
-  pub marked-lone : b ≡ false → Lone first ≡ marked_from s kind first at
+  pub marked-lone : b ≡ false → Err (Lone first) ≡ marked_from s kind first at
   unfolding marked_from
   marked-lone e = rw (← p, ← q) (search tests)
 
-pub marked-is : (s : List ℕ) (kind first at i : ℕ) (r : Reading) → i ≡ joined s at → r ≡ marked_from s kind first i → r ≡ marked_at s kind first at
+pub marked-is : (s : List ℕ) (kind first at i : ℕ) (r : TokenRead) → i ≡ joined s at → r ≡ marked_from s kind first i → r ≡ marked_at s kind first at
 unfolding marked_at
 marked-is s kind first at i r p q = q ∙ ap (marked_from s kind first) p
 
@@ -208,7 +206,7 @@ join-in s at i l p = subst (λ (j : ℕ). j ≤ length s) (sym p) (joined_in s a
 pub join-behind : (s : List ℕ) (first i : ℕ) → first < length s → i ≡ joined s (first + 1) → i ≤ length s
 join-behind s first i l p = join-in s (first + 1) i (omega arith) p
 
-module _ (w : Width) (s : List ℕ) (first at c : ℕ) (r : Reading) (p : c ≡ byte_at s at) where
+module _ (w : Width) (s : List ℕ) (first at c : ℕ) (r : TokenRead) (p : c ≡ byte_at s at) where
   pub at-percent : c ≡ 37 → r ≡ marked_at s 6 first (at + 1) → r ≡ at_from w s first at
   unfolding at_from
   at-percent e q = rw (← p, ← q) (search tests)
@@ -223,56 +221,64 @@ module _ (w : Width) (s : List ℕ) (first at c : ℕ) (r : Reading) (p : c ≡ 
     at-number d g h k q = rw (← p, ← f, ← h, ← q) (search tests)
 
 pub at-lone : (w : Width) (s : List ℕ) (first at c : ℕ) (b d : Bool) → c ≡ byte_at s at → (c ≡ 37 → ⊥) → b ≡ starts_symbol c → b ≡ false
-    → d ≡ starts_integer c → d ≡ false → Lone first ≡ at_from w s first at
+    → d ≡ starts_integer c → d ≡ false → Err (Lone first) ≡ at_from w s first at
 unfolding at_from
 at-lone w s first at c b d p e f g h k = rw (← p, ← f, ← h) (search tests)
 
-pub at-is : (w : Width) (s : List ℕ) (first i : ℕ) (r : Reading) → i ≡ joined s (first + 1) → r ≡ at_from w s first i → r ≡ at_read w s first
+pub at-is : (w : Width) (s : List ℕ) (first i : ℕ) (r : TokenRead) → i ≡ joined s (first + 1) → r ≡ at_from w s first i → r ≡ at_read w s first
 unfolding at_read
 at-is w s first i r p q = q ∙ ap (at_from w s first) p
 
 module _ (w : Width) (s : List ℕ) (at c : ℕ) (b : Bool) (f : b ≡ starts_symbol c) where
-  pub plain-symbol : (r : Reading) → b ≡ true → r ≡ symbol_at s 3 at at → r ≡ plain_read w s at c
+  pub plain-symbol : (r : TokenRead) → b ≡ true → r ≡ symbol_at s 3 at at → r ≡ plain_read w s at c
   unfolding plain_read
   plain-symbol r g q = rw (← f, ← q) (search tests)
 
-  pub plain-integer : (d : Bool) (r : Reading) → b ≡ false → d ≡ starts_integer c → d ≡ true → r ≡ integer_at w s 7 at at → r ≡ plain_read w s at c
+  pub plain-integer : (d : Bool) (r : TokenRead) → b ≡ false → d ≡ starts_integer c → d ≡ true → r ≡ integer_at w s 7 at at → r ≡ plain_read w s at c
   unfolding plain_read
   plain-integer d r g h k q = rw (← f, ← h, ← q) (search tests)
 
-  pub plain-lone : (d : Bool) → b ≡ false → d ≡ starts_integer c → d ≡ false → Lone at ≡ plain_read w s at c
+  pub plain-lone : (d : Bool) → b ≡ false → d ≡ starts_integer c → d ≡ false → Err (Lone at) ≡ plain_read w s at c
   unfolding plain_read
   plain-lone d g h k = rw (← f, ← h) (search tests)
 
-module _ (w : Width) (s : List ℕ) (at : ℕ) where
-  pub token_end : length s ≤ at → End ≡ read_at w s at
-  unfolding read_at
-  token_end h = search tests
+module _ (w : Width) (s : List ℕ) (at c : ℕ) (p : c ≡ byte_at s at) where
+  module _ (r : TokenRead) where
+    pub token-string : c ≡ 34 → r ≡ string_read s at → r ≡ token_at w s at
+    unfolding token_at
+    token-string f q = rw (← p, ← q) (search tests)
 
-  module _ (c : ℕ) (r : Reading) (h : at < length s) (p : c ≡ byte_at s at) where
-    pub token-string : (c ≡ 10 → ⊥) → c ≡ 34 → r ≡ string_read s at → r ≡ read_at w s at
-    unfolding read_at
-    token-string e f q = rw (← p, ← q) (search tests)
+    pub token-percent : c ≡ 37 → r ≡ marked_at s 4 at (at + 1) → r ≡ token_at w s at
+    unfolding token_at
+    token-percent g q = rw (← p, ← q) (search tests)
 
-    pub token-percent : (c ≡ 10 → ⊥) → (c ≡ 34 → ⊥) → c ≡ 37 → r ≡ marked_at s 4 at (at + 1) → r ≡ read_at w s at
-    unfolding read_at
-    token-percent e f g q = rw (← p, ← q) (search tests)
+    pub token-at : c ≡ 64 → r ≡ at_read w s at → r ≡ token_at w s at
+    unfolding token_at
+    token-at k q = rw (← p, ← q) (search tests)
 
-    pub token-at : (c ≡ 10 → ⊥) → (c ≡ 34 → ⊥) → (c ≡ 37 → ⊥) → c ≡ 64 → r ≡ at_read w s at → r ≡ read_at w s at
-    unfolding read_at
-    token-at e f g k q = rw (← p, ← q) (search tests)
-
-    pub token-plain : (c ≡ 10 → ⊥) → (c ≡ 34 → ⊥) → (c ≡ 37 → ⊥) → (c ≡ 64 → ⊥) → r ≡ plain_read w s at c → r ≡ read_at w s at
-    unfolding read_at
+    pub token-plain : (c ≡ 10 → ⊥) → (c ≡ 34 → ⊥) → (c ≡ 37 → ⊥) → (c ≡ 64 → ⊥) → r ≡ plain_read w s at c → r ≡ token_at w s at
+    unfolding token_at
     token-plain e f g k q = rw (← p, ← q) (search tests)
 
-  pub token-newline : (c : ℕ) (x : Lexeme) → at < length s → c ≡ byte_at s at → c ≡ 10 → x ≡ valued 1 at (at + 1) 0 true → Whole x ≡ read_at w s at
-  unfolding read_at
-  token-newline c x h p e q = rw (← p, ← q) (search tests)
+  pub token-newline : (x : Lexeme) → c ≡ 10 → x ≡ valued 1 at (at + 1) 0 true → Ok x ≡ token_at w s at
+  unfolding token_at
+  token-newline x e q = rw (← p, ← q) (search tests)
 
-  pub next-is : (i : ℕ) (r : Reading) → i ≡ gap_end s at → r ≡ read_at w s i → r ≡ next_read w s at
-  unfolding next_read
-  next-is i r p q = q ∙ ap (read_at w s) p
+-- a token that is read is what is read
+as-mapped : (t : TokenRead) (r : Reading) → MatchResult t (λ x. IsOkAnd r (λ y. y ≡ Some x)) (λ e. r ≡ Err e) → r ≡ as_reading t
+unfolding as_reading
+as-mapped (Ok x) (Ok y) h = ap (λ (z : Option Lexeme). Ok z) h
+as-mapped (Ok x) (Err d) h = absurd h
+as-mapped (Err e) r h = h
+
+module _ (w : Width) (s : List ℕ) (at i : ℕ) (p : i ≡ gap_end s at) where
+  pub next-token : (t : TokenRead) (r : Reading) → i < length s → t ≡ token_at w s i → MatchResult t (λ x. IsOkAnd r (λ y. y ≡ Some x)) (λ e. r ≡ Err e) → r ≡ next_read w s at
+  unfolding next_read read_at
+  next-token t r h q m = rw (← p, ← q, ← as-mapped t r m) (search tests)
+
+  pub next-end : length s ≤ i → Ok None ≡ next_read w s at
+  unfolding next_read read_at
+  next-end h = rw (← p) (search tests)
 
 pub ruleset symbols = (to-label, to-symbol, to-marked, end-stopped, end-broken, symbol-read)
 
@@ -284,7 +290,7 @@ pub ruleset marks = (marked-symbol, marked-lone, marked-is, at-percent, at_name,
 
 pub ruleset plains = (plain-symbol, plain-integer, plain-lone)
 
-pub ruleset reads = (token_end, token-newline, token-string, token-percent, token-at, token-plain, next-is)
+pub ruleset reads = (token-newline, token-string, token-percent, token-at, token-plain, next-token, next-end)
 
 module _ (s : List ℕ) (kind first : ℕ) where
   pub start_plain : kind < 4 → first ≡ name_start s kind first

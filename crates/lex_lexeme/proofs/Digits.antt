@@ -3,26 +3,24 @@
 use mathlib.Core.Path.{◌≡◌, refl, sym, ◌∙◌, ap, subst}
 use mathlib.Core.Bool.{Bool, true, false}
 use mathlib.Core.List.{List, [], ◌∷◌}
-use Prim.Native.Nat.{ℕ, zero, suc, ◌+◌, ◌-◌, ◌*◌, ◌%◌, ◌^◌, ◌≤◌, ◌<◌, min}
+use Prim.Native.Nat.{ℕ, zero, suc, ◌+◌, ◌-◌, ◌*◌, ◌%◌, ◌≤◌, ◌<◌, min}
 use native.Mathlib.Nat.{min-eq_left, min-eq_right, mod-lt}
 use native.Mathlib.Decide.{dec_lt}
 use native.Mathlib.Omega.{arith}
 use lib.ListN.{length}
-use Rattle.base_prelude.specs.Choice.{if_lt, if_eq, if_true}
+use Rattle.base_prelude.specs.Choice.{if_lt}
 use Rattle.base_prelude.specs.Bytes.{byte_at}
-use Rattle.base_prelude.proofs.Choice.{tests, either, either_true, if_lt-yes, if_lt-no, if_true-yes, if_true-no, true-false}
+use Rattle.base_prelude.proofs.Choice.{tests, either, either_true, if_true-no, true-false}
 use Rattle.base_prelude.proofs.Bytes.{byte-within}
-use Rattle.base_limits.specs.Width.{bits_of}
 use Rattle.base_limits.specs.declared.Width.{Width}
 use Rattle.base_limits.specs.declared.Width.TheVariants.{Bits32, Bits16}
 use Rattle.lex_spelling.specs.Classes.{is_digit}
 use Rattle.lex_spelling.specs.Continuation.{joined}
 use Rattle.lex_spelling.proofs.Ends.{byte_past, digit-byte, joined-from, joined_in}
-use Rattle.lex_lexeme.specs.Number.{digit_from, digit_at, Digits, digit_more, digits_within, digits_at, value_from, value_of, half_of, whole_of, integer_of, decimal_from, decimal_of}
-use Rattle.lex_lexeme.specs.declared.Digit.{Digit}
-use Rattle.lex_lexeme.specs.declared.Digit.TheVariants.{One, Stop}
-use Rattle.lex_lexeme.specs.declared.Number.{Number}
-use Rattle.lex_lexeme.specs.declared.Number.TheVariants.{Word, OutOfRange}
+use Rattle.lex_lexeme.specs.Number.{Digit, digit_from, digit_at, Digits, digit_more, digits_within, digits_at, value_from, value_of, half_of, whole_of, integer_of, decimal_from, decimal_of}
+use Rattle.lex_spelling.specs.Escape.{decoded}
+use Rattle.lex_spelling.specs.declared.Decoded.{Decoded}
+use Rattle.std.proofs.Common.{None, Some, Ok, Err}
 use Rattle.lex_lexeme.specs.declared.Decimal.{Decimal}
 
 -- a digit's byte
@@ -36,11 +34,11 @@ pub digit_low : (c : ℕ) (b : Bool) → b ≡ is_digit c → b ≡ true → 48 
 digit_low c b p e = (digit-range c (sym p ∙ e)).0
 
 module _ (s : List ℕ) (at c : ℕ) (b : Bool) (p : c ≡ byte_at s at) (q : b ≡ is_digit c) where
-  pub digit-one : b ≡ true → One (c - 48) (at + 1) ≡ digit_from s at
+  pub digit-one : b ≡ true → Ok (decoded (c - 48) (at + 1)) ≡ digit_from s at
   unfolding digit_from
   digit-one e = rw (← p, ← q) (search tests)
 
-  pub digit-stop : b ≡ false → Stop at ≡ digit_from s at
+  pub digit-stop : b ≡ false → Err at ≡ digit_from s at
   unfolding digit_from
   digit-stop e = rw (← p, ← q) (search tests)
 
@@ -48,7 +46,7 @@ no_digit : is_digit 256 ≡ false
 unfolding is_digit if_lt
 no_digit = refl
 
-past_stop : (s : List ℕ) (i : ℕ) → length s ≤ i → Stop i ≡ digit_from s i
+past_stop : (s : List ℕ) (i : ℕ) → length s ≤ i → Err i ≡ digit_from s i
 unfolding digit_from
 past_stop s i h = sym (if_true-no _ _ (ap is_digit (byte_past s i h) ∙ no_digit))
 
@@ -57,7 +55,7 @@ module _ (s : List ℕ) (at i : ℕ) (p : i ≡ joined s at) where
   unfolding digit_at
   digit-here r h = h ∙ ap (digit_from s) p
 
-  pub digit-past : length s ≤ i → Stop i ≡ digit_at s at
+  pub digit-past : length s ≤ i → Err i ≡ digit_at s at
   unfolding digit_at
   digit-past h = past_stop s i h ∙ ap (digit_from s) p
 
@@ -65,8 +63,8 @@ pub ruleset digiting = (digit-one, digit-stop, digit-here, digit-past)
 
 -- a digit that was read stands within the text
 abbrev pub DigitIn : List ℕ → ℕ → Digit → Type 0
-DigitIn s at (One value next) = (at < next) × (next ≤ length s) × (value < 10)
-DigitIn s at (Stop place) = (at ≤ place) × (at ≤ length s → place ≤ length s)
+DigitIn s at (Ok x) = (at < x.next) × (x.next ≤ length s) × (x.value < 10)
+DigitIn s at (Err place) = (at ≤ place) × (at ≤ length s → place ≤ length s)
 
 from_in : (s : List ℕ) (at : ℕ) → DigitIn s at (digit_from s at)
 unfolding digit_from
@@ -78,8 +76,8 @@ from_in s at =
     (λ _. (omega arith, λ h. h))
 
 later : (s : List ℕ) (at i : ℕ) (x : Digit) → at ≤ i → (at ≤ length s → i ≤ length s) → DigitIn s i x → DigitIn s at x
-later s at i (One v n) h g d = (omega (arith, d.0), d.1, d.2)
-later s at i (Stop p) h g d = (omega (arith, d.0), λ l. d.1 (g l))
+later s at i (Ok x) h g d = (omega (arith, d.0), d.1, d.2)
+later s at i (Err p) h g d = (omega (arith, d.0), λ l. d.1 (g l))
 
 pub digit-in : (s : List ℕ) (at : ℕ) (x : Digit) → x ≡ digit_at s at → DigitIn s at x
 unfolding digit_at
@@ -119,12 +117,12 @@ digits-by : (k : ℕ) (s : List ℕ) (at : ℕ) (x : Digit) → x ≡ digit_at s
 unfolding digits_within
 digits-by k s at x e = ap (λ (y : Digit). digit_more y (λ n. digits_within k s n)) (sym e)
 
-digits-one : (k : ℕ) (s : List ℕ) (at v n : ℕ) (x : Digit) → x ≡ digit_at s at → x ≡ One v n
-    → digits_within (suc k) s at ≡ record { digits = v ∷ (digits_within k s n).digits; next = (digits_within k s n).next }
+digits-one : (k : ℕ) (s : List ℕ) (at : ℕ) (y : Decoded) (x : Digit) → x ≡ digit_at s at → x ≡ Ok y
+    → digits_within (suc k) s at ≡ record { digits = y.value ∷ (digits_within k s y.next).digits; next = (digits_within k s y.next).next }
 unfolding digit_more
-digits-one k s at v n x e f = digits-by k s at x e ∙ ap (λ (y : Digit). digit_more y (λ n. digits_within k s n)) f
+digits-one k s at y x e f = digits-by k s at x e ∙ ap (λ (z : Digit). digit_more z (λ n. digits_within k s n)) f
 
-digits-stop : (k : ℕ) (s : List ℕ) (at p : ℕ) (x : Digit) → x ≡ digit_at s at → x ≡ Stop p → digits_within (suc k) s at ≡ record { digits = []; next = p }
+digits-stop : (k : ℕ) (s : List ℕ) (at p : ℕ) (x : Digit) → x ≡ digit_at s at → x ≡ Err p → digits_within (suc k) s at ≡ record { digits = []; next = p }
 unfolding digit_more
 digits-stop k s at p x e f = digits-by k s at x e ∙ ap (λ (y : Digit). digit_more y (λ n. digits_within k s n)) f
 
@@ -141,33 +139,33 @@ pub counting-start : (s : List ℕ) (at : ℕ) → Counting s at at 0 0
 unfolding digits_at decimal_of
 counting-start s at = record { few = omega arith; fits = omega arith; low = omega arith; more = length s; enough = omega arith; rest = refl }
 
-more-counted : (s : List ℕ) (at i count value d n value' : ℕ) (x : Digit) (k : ℕ) → length s - i ≤ k
-    → decimal_from count value (digits_within (suc k) s i) ≡ decimal_of (digits_at s at) → count ≤ i → DigitIn s i (One d n)
-    → x ≡ digit_at s i → x ≡ One d n → value' ≡ min (value * 10 + d) 4294967296 → Counting s at n (count + 1) value'
-more-counted s at i count value d n value' x zero g r f a p e m = let z : ⊥ = omega (arith, a.0, a.1) in absurd z
-more-counted s at i count value d n value' x (suc k) g r f a p e m =
+more-counted : (s : List ℕ) (at i count value : ℕ) (y : Decoded) (value' : ℕ) (x : Digit) (k : ℕ) → length s - i ≤ k
+    → decimal_from count value (digits_within (suc k) s i) ≡ decimal_of (digits_at s at) → count ≤ i → DigitIn s i (Ok y)
+    → x ≡ digit_at s i → x ≡ Ok y → value' ≡ min (value * 10 + y.value) 4294967296 → Counting s at y.next (count + 1) value'
+more-counted s at i count value y value' x zero g r f a p e m = let z : ⊥ = omega (arith, a.0, a.1) in absurd z
+more-counted s at i count value y value' x (suc k) g r f a p e m =
     record {
       few = omega (arith, a.0);
       fits = omega (arith, a.0, a.1);
       low = omega arith;
       more = k;
       enough = omega (arith, a.0);
-      rest = ap (λ (y : ℕ). decimal_from (count + 1) y (digits_within (suc k) s n)) m ∙ sym (decimal-more count value d (digits_within (suc k) s n)) ∙ ap (decimal_from count value) (sym (digits-one (suc k) s i d n x p e)) ∙ r;
+      rest = ap (λ (v : ℕ). decimal_from (count + 1) v (digits_within (suc k) s y.next)) m ∙ sym (decimal-more count value y.value (digits_within (suc k) s y.next)) ∙ ap (decimal_from count value) (sym (digits-one (suc k) s i y x p e)) ∙ r;
     }
 
 module _ (s : List ℕ) (at i count value : ℕ) (x : Digit) where
-  one-here : (d n : ℕ) → x ≡ digit_at s i → x ≡ One d n → DigitIn s i (One d n)
-  one-here d n p e = subst (DigitIn s i) e (digit-in s i x p)
+  one-here : (y : Decoded) → x ≡ digit_at s i → x ≡ Ok y → DigitIn s i (Ok y)
+  one-here y p e = subst (DigitIn s i) e (digit-in s i x p)
 
-  pub counting_more : (d n value' : ℕ) → Counting s at i count value → x ≡ digit_at s i → x ≡ One d n → value' ≡ min (value * 10 + d) 4294967296
-      → Counting s at n (count + 1) value'
-  counting_more d n value' h p e m =
-      more-counted s at i count value d n value' x h.more h.enough h.rest h.few (one-here d n p e) p e m
+  pub counting_more : (y : Decoded) (value' : ℕ) → Counting s at i count value → x ≡ digit_at s i → x ≡ Ok y → value' ≡ min (value * 10 + y.value) 4294967296
+      → Counting s at y.next (count + 1) value'
+  counting_more y value' h p e m =
+      more-counted s at i count value y value' x h.more h.enough h.rest h.few (one-here y p e) p e m
 
-  pub counting-less : (d n : ℕ) → Counting s at i count value → x ≡ digit_at s i → x ≡ One d n → length s - n < length s - i
-  counting-less d n h p e = let a : DigitIn s i (One d n) = one-here d n p e in omega (arith, a.0, a.1)
+  pub counting-less : (y : Decoded) → Counting s at i count value → x ≡ digit_at s i → x ≡ Ok y → length s - y.next < length s - i
+  counting-less y h p e = let a : DigitIn s i (Ok y) = one-here y p e in omega (arith, a.0, a.1)
 
-  pub counting-stop : (b : ℕ) → Counting s at i count value → x ≡ digit_at s i → x ≡ Stop b
+  pub counting-stop : (b : ℕ) → Counting s at i count value → x ≡ digit_at s i → x ≡ Err b
       → record { count = count; value = value; next = b } ≡ decimal_of (digits_at s at)
   counting-stop b h p e =
       sym (decimal-end count value b h.low) ∙ ap (decimal_from count value) (sym (digits-stop h.more s i b x p e)) ∙ h.rest
@@ -195,19 +193,19 @@ module _ (w : Width) where
 pub ruleset widths = (half-32, half-16, whole-32, whole-16)
 
 module _ (w : Width) (neg : Bool) (v whole half : ℕ) (p : whole ≡ whole_of w) where
-  pub word-far : neg ≡ true → half ≡ half_of w → half < v → OutOfRange ≡ integer_of w neg v
+  pub word-far : neg ≡ true → half ≡ half_of w → half < v → None ≡ integer_of w neg v
   unfolding integer_of
   word-far e q h = rw (← q) (search tests)
 
-  pub word-negative : neg ≡ true → half ≡ half_of w → v ≤ half → Word ((whole - v) % whole) ≡ integer_of w neg v
+  pub word-negative : neg ≡ true → half ≡ half_of w → v ≤ half → Some ((whole - v) % whole) ≡ integer_of w neg v
   unfolding integer_of
   word-negative e q h = rw (← p, ← q) (search tests)
 
-  pub word-positive : neg ≡ false → v < whole → Word v ≡ integer_of w neg v
+  pub word-positive : neg ≡ false → v < whole → Some v ≡ integer_of w neg v
   unfolding integer_of
   word-positive e h = rw (← p) (search tests)
 
-  pub word-past : neg ≡ false → whole ≤ v → OutOfRange ≡ integer_of w neg v
+  pub word-past : neg ≡ false → whole ≤ v → None ≡ integer_of w neg v
   unfolding integer_of
   word-past e h = rw (← p) (search tests)
 
@@ -233,7 +231,7 @@ number-capped w neg v =
       | no h ↦ ap (integer_of w neg) (min-eq_left (omega arith))
     ]
   where
-    far : (w : Width) (neg : Bool) (v : ℕ) → 4294967296 ≤ v → OutOfRange ≡ integer_of w neg v
+    far : (w : Width) (neg : Bool) (v : ℕ) → 4294967296 ≤ v → None ≡ integer_of w neg v
     far Bits32 true v h = word-far Bits32 true v 4294967296 2147483648 refl refl refl (omega arith)
     far Bits32 false v h = word-past Bits32 false v 4294967296 2147483648 refl refl (omega arith)
     far Bits16 true v h = word-far Bits16 true v 65536 32768 refl refl refl (omega arith)

@@ -1,18 +1,17 @@
 -- The loops over comments and gaps.
 -- Assumes nothing.
-use mathlib.Core.Path.{◌≡◌, refl, sym, ◌∙◌, ap, subst}
+use mathlib.Core.Path.{◌≡◌, sym, ◌∙◌, ap}
 use mathlib.Core.Bool.{Bool, true, false}
-use mathlib.Core.List.{List, [], ◌∷◌}
-use Prim.Native.Nat.{ℕ, zero, suc, ◌+◌, ◌-◌, ◌≤◌, ◌<◌}
-use native.Mathlib.Decide.{dec_lt}
+use mathlib.Core.List.{List}
+use Prim.Native.Nat.{ℕ, suc, ◌+◌, ◌-◌, ◌≤◌, ◌<◌, max}
+use native.Mathlib.Decide.{dec_lt, dec_le}
 use native.Mathlib.Omega.{arith}
-use lib.ListN.{length}
-use Rattle.base_prelude.specs.Choice.{if_lt, if_eq, if_true}
+use lib.ListN.{length, get_or}
 use Rattle.base_prelude.specs.Bytes.{byte_at}
-use Rattle.base_prelude.specs.Walk.{Step, go, stop, walk}
-use Rattle.base_prelude.proofs.Choice.{tests, either, either-eq, either_true, if_lt-yes, if_lt-no, if_eq-yes, if_eq-no, if_true-yes, if_true-no, true-false}
-use Rattle.base_prelude.proofs.Bytes.{byte-within}
-use Rattle.base_prelude.proofs.Walk.{Runs, runs-start, runs-go, runs-stop, Kept, walk_kept, Ends, walk_ends, walk-stop}
+use Rattle.base_prelude.specs.Walk.{go, stop}
+use Rattle.base_prelude.proofs.Choice.{tests, either, either-eq, either_true, if_lt-yes, if_lt-no, true-false}
+use Rattle.base_prelude.proofs.Bytes.{byte-within, get_d-within}
+use Rattle.base_prelude.proofs.Walk.{Runs, runs-start, runs-go, runs-stop, Kept, walk_kept, Ends, walk_ends}
 use Rattle.lex_spelling.specs.Classes.{is_blank}
 use Rattle.lex_spelling.specs.Continuation.{is_joint}
 use Rattle.lex_spelling.proofs.Ends.{byte_past, blank-byte, joint-within}
@@ -39,21 +38,30 @@ module _ (s : List ℕ) (at i : ℕ) where
   unfolding comment_end
   commenting-start = record { runs = runs-start _ _ _ _ _ (omega arith) }
 
-  pub commenting-newline : (c : ℕ) → Commenting s at i → c ≡ byte_at s i → c ≡ 10 → i ≡ comment_end s at
-  commenting-newline c h p e = runs-stop _ _ _ _ _ _ h.runs (comment-newline s i c p e)
+  read-is : i < length s → get_or s i 0 ≡ byte_at s i
+  unfolding byte_at
+  read-is l = get_d-within s i 0 256 l
 
-  pub commenting-more : (c : ℕ) → Commenting s at i → i < length s → c ≡ byte_at s i → (c ≡ 10 → ⊥) → c < 256 → Commenting s at (i + 1)
-  commenting-more c h l p e g = record { runs = runs-go _ _ _ _ _ (length s - i) _ h.runs (comment-go s i c p e g) (omega arith) }
+  pub commenting-newline : Commenting s at i → i < length s → get_or s i 0 ≡ 10 → i ≡ comment_end s at
+  commenting-newline h l e = runs-stop _ _ _ _ _ _ h.runs (comment-newline s i (get_or s i 0) (read-is l) e)
 
-  pub commenting-far : (c : ℕ) → Commenting s at i → c ≡ byte_at s i → (c ≡ 10 → ⊥) → 256 ≤ c → i ≡ comment_end s at
-  commenting-far c h p e g = runs-stop _ _ _ _ _ _ h.runs (comment-past s i c p e g)
+  pub commenting-more : Commenting s at i → i < length s → (get_or s i 0 ≡ 10 → ⊥) → get_or s i 0 < 256 → Commenting s at (i + 1)
+  commenting-more h l e g = record { runs = runs-go _ _ _ _ _ (length s - i) _ h.runs (comment-go s i (get_or s i 0) (read-is l) e g) (omega arith) }
 
-  pub commenting-past : Commenting s at i → length s ≤ i → i ≡ comment_end s at
+  commenting-past : Commenting s at i → length s ≤ i → i ≡ comment_end s at
   commenting-past h l =
       runs-stop _ _ _ _ _ _ h.runs
       (comment-past s i 256 (sym (byte_past s i l)) (λ e. let z : ⊥ = omega arith in z) (omega arith))
 
-pub ruleset commenting = (commenting-start, commenting-newline, commenting-more, commenting-far, commenting-past)
+-- a place past the end stays
+pub commenting-all : (s : List ℕ) (at i m : ℕ) → Commenting s at i → m ≡ max at (length s) → at ≤ i → (at ≤ length s → i ≤ length s) → length s ≤ i → m ≡ comment_end s at
+commenting-all s at i m h e l g k =
+    elim (dec_le at (length s)) [
+      | yes w ↦ let f : i ≤ length s = g w in let z : m ≡ i = omega arith in z ∙ commenting-past s at i h k
+      | no w ↦ let z : m ≡ at = omega arith in z ∙ commenting-past s at at (commenting-start s at at) (omega arith)
+    ]
+
+pub ruleset commenting = (commenting-start, commenting-newline, commenting-more, commenting-all)
 
 module _ (s : List ℕ) (at : ℕ) where
   comment-from : (i : ℕ) → at ≤ i → Kept (λ (j : ℕ). at ≤ j) (λ (j : ℕ). at ≤ j) (comment_step s i)

@@ -3,39 +3,33 @@
 use mathlib.Core.Path.{◌≡◌, refl, sym, ◌∙◌, ap, subst}
 use mathlib.Core.Bool.{Bool, true, false}
 use mathlib.Core.List.{List, [], ◌∷◌}
-use Prim.Native.Nat.{ℕ, zero, suc, ◌+◌, ◌-◌, ◌≤◌, ◌<◌}
+use Prim.Native.Nat.{ℕ, zero, suc, ◌+◌, ◌≤◌, ◌<◌}
 use native.Mathlib.Omega.{arith}
 use lib.ListN.{length}
-use Rattle.base_prelude.specs.Choice.{if_lt, if_eq, if_true}
+use Rattle.base_prelude.specs.Choice.{if_eq, if_true}
 use Rattle.base_prelude.specs.Bytes.{byte_at}
 use Rattle.base_prelude.proofs.Choice.{either, either-eq, either_true, true-false, if_true-yes, if_true-no, if_lt-yes, if_lt-no, if_eq-yes, if_eq-no}
 use Rattle.base_prelude.proofs.Bytes.{byte-within}
 use Rattle.base_limits.specs.declared.Width.{Width}
-use Rattle.lex_spelling.specs.Classes.{is_letter, is_digit, is_name_byte, is_blank}
+use Rattle.lex_spelling.specs.Classes.{is_letter, is_name_byte}
 use Rattle.lex_spelling.specs.Continuation.{joined, is_joint}
-use Rattle.lex_spelling.specs.Escape.{escape_at}
-use Rattle.lex_spelling.specs.Text.{escaped, raw_at, in_symbol, character_from, character_at, spelled_at, measured, name_at, string_at, hash_of, hash_from, end_of}
-use Rattle.lex_spelling.specs.declared.Escaped.{Escaped}
-use Rattle.lex_spelling.specs.declared.Escaped.TheVariants as escaped-as
-use Rattle.lex_spelling.specs.declared.Character.{Character}
-use Rattle.lex_spelling.specs.declared.Character.TheVariants as character
+use Rattle.lex_spelling.specs.Escape.{decoded, escape_at}
+use Rattle.lex_spelling.specs.Text.{Character, escaped, raw_at, in_symbol, character_from, character_at, spelled_at, measured, name_at, string_at, hash_of, hash_from, end_of}
+use Rattle.lex_spelling.specs.declared.Decoded.{Decoded}
 use Rattle.lex_spelling.specs.declared.Ending.{Ending}
 use Rattle.lex_spelling.specs.declared.Ending.TheVariants as ending
-use Rattle.lex_spelling.proofs.Ends.{joined-from, joined_in, joined-none, joined_same, digit-byte, letter-byte}
+use Rattle.lex_spelling.proofs.Ends.{joined-from, joined_in, joined-none, joined_same}
 use Rattle.lex_spelling.proofs.Within.{TextIn, text_in, name-some, name-broken}
-use Rattle.lex_lexeme.specs.Number.{Digits, digit_at, digit_more, digits_within, digits_at, value_of, integer_of}
+use Rattle.lex_lexeme.specs.Number.{Digit, Digits, digit_at, digit_more, digits_within, digits_at, value_of, integer_of}
 use Rattle.lex_lexeme.specs.Gap.{gap_skip, gap_end}
-use Rattle.lex_lexeme.specs.Reading.{starts_symbol, starts_integer, texted, valued, symbol_to, symbol_end, symbol_by, symbol_at, string_to, string_end, string_by, string_read, integer_from, integer_by, digits_read, integer_at, marked_from, marked_at, at_from, at_read, plain_read, read_at, next_read, is_named, name_start, text_of}
-use Rattle.lex_lexeme.specs.declared.Digit.{Digit}
-use Rattle.lex_lexeme.specs.declared.Digit.TheVariants as digit
-use Rattle.lex_lexeme.specs.declared.Number.{Number}
-use Rattle.lex_lexeme.specs.declared.Number.TheVariants.{Word, OutOfRange}
+use Rattle.lex_lexeme.specs.Reading.{TokenRead, Reading, starts_symbol, starts_integer, texted, valued, symbol_to, symbol_end, symbol_by, symbol_at, string_to, string_end, string_by, string_read, integer_from, integer_by, digits_read, integer_at, marked_from, marked_at, at_from, at_read, plain_read, token_at, as_reading, read_at, next_read, is_named, name_start, text_of}
+use Rattle.std.proofs.Common.{Option, None, Some, Result, Ok, Err}
 use Rattle.lex_lexeme.specs.declared.Lexeme.{Lexeme}
-use Rattle.lex_lexeme.specs.declared.Reading.{Reading}
-use Rattle.lex_lexeme.specs.declared.Reading.TheVariants.{End, Lone, Broken, Open, Whole}
+use Rattle.lex_lexeme.specs.declared.TokenError.{TokenError}
+use Rattle.lex_lexeme.specs.declared.TokenError.TheVariants.{Lone, Broken, Open}
 use Rattle.lex_lexeme.proofs.Digits.{DigitIn, digit-in}
 use Rattle.lex_lexeme.proofs.Gaps.{gap-in, joint-skips}
-use Rattle.lex_lexeme.proofs.Cases.{symbol-within, integer-within}
+use Rattle.lex_lexeme.proofs.Cases.{integer-within}
 
 pub record LexemeIn (s : List ℕ) (at : ℕ) (x : Lexeme) : Type 0 where
   pub first-is : x.first ≡ at
@@ -49,12 +43,19 @@ pub record LexemeIn (s : List ℕ) (at : ℕ) (x : Lexeme) : Type 0 where
   pub started : is_named x.kind ≡ true → x.start ≡ name_start s x.kind at
   pub some : is_named x.kind ≡ true → 1 ≤ x.size
 
+abbrev ErrorIn : List ℕ → ℕ → TokenError → Type 0
+ErrorIn s at (Lone p) = (at ≤ p) × (p ≤ length s)
+ErrorIn s at (Broken p) = (at ≤ p) × (p ≤ length s)
+ErrorIn s at (Open p) = (at ≤ p) × (p ≤ length s)
+
+abbrev TokenIn : List ℕ → ℕ → TokenRead → Type 0
+TokenIn s at (Ok x) = LexemeIn s at x
+TokenIn s at (Err e) = ErrorIn s at e
+
 abbrev pub ReadingIn : List ℕ → ℕ → Reading → Type 0
-ReadingIn s at End = Unit {0}
-ReadingIn s at (Lone p) = (at ≤ p) × (p ≤ length s)
-ReadingIn s at (Broken p) = (at ≤ p) × (p ≤ length s)
-ReadingIn s at (Open p) = (at ≤ p) × (p ≤ length s)
-ReadingIn s at (Whole x) = LexemeIn s at x
+ReadingIn s at (Ok None) = Unit {0}
+ReadingIn s at (Ok (Some x)) = LexemeIn s at x
+ReadingIn s at (Err e) = ErrorIn s at e
 
 no-hash : hash_of [] ≡ 0
 unfolding hash_from
@@ -99,14 +100,14 @@ start-inner s first = if_lt-no _ _ (omega arith) ∙ if_eq-yes _ _ refl
 
 -- a symbol's first character is there, or its escape is bad
 abbrev Shown : Character → Type 0
-Shown (character.One v n) = Unit {0}
-Shown (character.Broken p) = Unit {0}
-Shown (character.Stop p) = ⊥
+Shown (Ok x) = Unit {0}
+Shown (Err (ending.Broken p)) = Unit {0}
+Shown (Err (ending.Stopped p)) = ⊥
 
-escaped-shown : (e : Escaped) → Shown (escaped e)
+escaped-shown : (e : Result Decoded ℕ) → Shown (escaped e)
 unfolding escaped
-escaped-shown (escaped-as.Byte v n) = tt
-escaped-shown (escaped-as.Bad p) = tt
+escaped-shown (Ok x) = tt
+escaped-shown (Err p) = tt
 
 letter-name : (c : ℕ) → is_letter c ≡ true → is_name_byte c ≡ true
 unfolding is_name_byte
@@ -114,7 +115,7 @@ letter-name c e = if_true-yes _ _ e
 
 raw-shown : (c at : ℕ) → is_letter c ≡ true → Shown (raw_at false c at)
 unfolding raw_at in_symbol if_true
-raw-shown c at e = subst (λ (b : Bool). Shown (if_true b (character.One c (at + 1)) (character.Stop at))) (sym (letter-name c e)) tt
+raw-shown c at e = subst (λ (b : Bool). Shown (if_true b (Ok (decoded c (at + 1))) (Err (ending.Stopped at)))) (sym (letter-name c e)) tt
 
 from-shown : (s : List ℕ) (at : ℕ) → starts_symbol (byte_at s at) ≡ true → Shown (character_from false s at)
 unfolding character_from starts_symbol
@@ -133,9 +134,9 @@ not-broken : (p q : ℕ) → ending.Broken p ≡ ending.Stopped q → ⊥
 not-broken p q e = let z : ◌≡◌ {A = ℕ} 0 1 = cc in omega arith
 
 some-name : (s : List ℕ) (at p : ℕ) (x : Character) → Shown x → character_at false s at ≡ x → (spelled_at false s at).ending ≡ ending.Stopped p → 1 ≤ length (name_at s at)
-some-name s at p (character.One v n) h e f = name-some s at v n e
-some-name s at p (character.Broken q) h e f = absurd (not-broken q p (sym (name-broken s at q e) ∙ f))
-some-name s at p (character.Stop q) h e f = absurd h
+some-name s at p (Ok y) h e f = name-some s at y e
+some-name s at p (Err (ending.Broken q)) h e f = absurd (not-broken q p (sym (name-broken s at q e) ∙ f))
+some-name s at p (Err (ending.Stopped q)) h e f = absurd h
 
 named_in : (s : List ℕ) (at : ℕ) → TextIn s at (spelled_at false s at) → (at + length (name_at s at) ≤ end_of (spelled_at false s at).ending) × (end_of (spelled_at false s at).ending ≤ length s)
 unfolding name_at
@@ -163,7 +164,7 @@ module _ (s : List ℕ) (kind first start : ℕ) (l : start ≤ length s) (o : f
         some = λ _. z;
       }
 
-  to_in : (p : ℕ) → (spelled_at false s start).ending ≡ ending.Stopped p → ReadingIn s first (Whole (symbol_to s kind first start (length (name_at s start)) (hash_of (name_at s start)) p))
+  to_in : (p : ℕ) → (spelled_at false s start).ending ≡ ending.Stopped p → TokenIn s first (Ok (symbol_to s kind first start (length (name_at s start)) (hash_of (name_at s start)) p))
   unfolding symbol_to
   to_in p f =
       let z : 1 ≤ length (name_at s start) = some-name s start p (character_at false s start) (shown s start b j) refl f in
@@ -182,14 +183,14 @@ module _ (s : List ℕ) (kind first start : ℕ) (l : start ≤ length s) (o : f
       ends : (p : ℕ) → (spelled_at false s start).ending ≡ ending.Stopped p → (start + length (name_at s start) ≤ p) × (p ≤ length s)
       ends p f = subst (λ (x : Ending). (start + length (name_at s start) ≤ end_of x) × (end_of x ≤ length s)) f (named_in s start inside)
 
-  end-in : (x : Ending) → (spelled_at false s start).ending ≡ x → ReadingIn s first (symbol_end s kind first start (length (name_at s start)) (hash_of (name_at s start)) x)
+  end-in : (x : Ending) → (spelled_at false s start).ending ≡ x → TokenIn s first (symbol_end s kind first start (length (name_at s start)) (hash_of (name_at s start)) x)
   unfolding symbol_end
   end-in (ending.Stopped p) f = to_in p f
   end-in (ending.Broken p) f =
       let t : (start + length (name_at s start) ≤ p) × (p ≤ length s) = subst (λ (x : Ending). (start + length (name_at s start) ≤ end_of x) × (end_of x ≤ length s)) f (named_in s start inside) in
       (omega (arith, t.0), t.1)
 
-  pub symbol-in : ReadingIn s first (symbol_at s kind first start)
+  pub symbol-in : TokenIn s first (symbol_at s kind first start)
   unfolding symbol_at symbol_by measured name_at
   symbol-in = end-in (spelled_at false s start).ending refl
 
@@ -198,10 +199,10 @@ module _ (s : List ℕ) (first : ℕ) (l : first < length s) where
   quoted-in : TextIn s (first + 1) (spelled_at true s (first + 1))
   quoted-in = text_in true s (first + 1) (omega arith)
 
-  string-to : (p : ℕ) → first < p → p ≤ length s → ReadingIn s first (string_to s first (length (string_at s (first + 1))) (hash_of (string_at s (first + 1))) p)
+  string-to : (p : ℕ) → first < p → p ≤ length s → TokenIn s first (string_to s first (length (string_at s (first + 1))) (hash_of (string_at s (first + 1))) p)
   unfolding string_to string_at
   string-to p a w =
-      either-eq (ReadingIn s first) (byte_at s p) 34 _ _
+      either-eq (TokenIn s first) (byte_at s p) 34 _ _
       (λ c. let v : p < length s = byte-within s p (omega arith) in
       record {
         first-is = refl;
@@ -218,12 +219,12 @@ module _ (s : List ℕ) (first : ℕ) (l : first < length s) where
       (λ _. (omega arith, omega arith))
 
   string-end : (x : Ending) → (first + 1 ≤ end_of x) × (end_of x ≤ length s)
-      → ReadingIn s first (string_end s first (length (string_at s (first + 1))) (hash_of (string_at s (first + 1))) x)
+      → TokenIn s first (string_end s first (length (string_at s (first + 1))) (hash_of (string_at s (first + 1))) x)
   unfolding string_end
   string-end (ending.Stopped p) h = string-to p (omega (arith, h.0)) h.1
   string-end (ending.Broken p) h = (omega (arith, h.0), h.1)
 
-  pub string-in : ReadingIn s first (string_read s first)
+  pub string-in : TokenIn s first (string_read s first)
   unfolding string_read string_by measured string_at
   string-in = string-end (spelled_at true s (first + 1)).ending (omega (arith, quoted-in.0), quoted-in.1)
 
@@ -234,8 +235,8 @@ DigitsIn s at d = (at + length d.digits ≤ d.next) × (d.next ≤ length s)
 more-digits : (s : List ℕ) (at : ℕ) (x : Digit) (rest : ℕ → Digits) → at ≤ length s → DigitIn s at x → ((n : ℕ) → n ≤ length s → DigitsIn s n (rest n))
     → DigitsIn s at (digit_more x rest)
 unfolding digit_more
-more-digits s at (digit.One v n) rest l h f = let g : DigitsIn s n (rest n) = f n h.1 in (omega (arith, h.0, g.0), g.1)
-more-digits s at (digit.Stop p) rest l h f = (omega (arith, h.0), h.1 l)
+more-digits s at (Ok x) rest l h f = let g : DigitsIn s x.next (rest x.next) = f x.next h.1 in (omega (arith, h.0, g.0), g.1)
+more-digits s at (Err p) rest l h f = (omega (arith, h.0), h.1 l)
 
 within-digits : (k : ℕ) (s : List ℕ) (at : ℕ) → at ≤ length s → DigitsIn s at (digits_within k s at)
 unfolding digits_within
@@ -264,65 +265,65 @@ module _ (s : List ℕ) (kind first : ℕ) (k7 : 7 ≤ kind) (k8 : kind ≤ 8) w
         some = λ q. true-false (sym q ∙ unnamed-is kind k7);
       }
 
-  number_in : (next : ℕ) (n : Number) → first < next → next ≤ length s → LexemeIn s first (integer_from kind first next n)
+  number_in : (next : ℕ) (n : Option ℕ) → first < next → next ≤ length s → LexemeIn s first (integer_from kind first next n)
   unfolding integer_from
-  number_in next (Word v) a w = valued-in next v true a w
-  number_in next OutOfRange a w = valued-in next 0 false a w
+  number_in next (Some v) a w = valued-in next v true a w
+  number_in next None a w = valued-in next 0 false a w
 
   by_in : (w : Width) (neg : Bool) (at : ℕ) (ds : List ℕ) (next : ℕ) → first < length s → first ≤ at → at + length ds ≤ next → next ≤ length s
-      → ReadingIn s first (integer_by w kind first neg ds next)
+      → TokenIn s first (integer_by w kind first neg ds next)
   unfolding integer_by
   by_in w neg at [] next l o a b = (omega arith, omega arith)
   by_in w neg at (d ∷ ds) next l o a b = number_in next (integer_of w neg (value_of (d ∷ ds))) (omega arith) b
 
-  digits-read : (w : Width) (neg : Bool) (at : ℕ) → first < length s → first ≤ at → at ≤ length s → ReadingIn s first (digits_read w s kind first neg at)
+  digits-read : (w : Width) (neg : Bool) (at : ℕ) → first < length s → first ≤ at → at ≤ length s → TokenIn s first (digits_read w s kind first neg at)
   unfolding digits_read
   digits-read w neg at l o g = let d : DigitsIn s at (digits_at s at) = digits_in s at g in by_in w neg at (digits_at s at).digits (digits_at s at).next l o d.0 d.1
 
-  pub integer-in : (w : Width) (at : ℕ) → first ≤ at → at < length s → ReadingIn s first (integer_at w s kind first at)
+  pub integer-in : (w : Width) (at : ℕ) → first ≤ at → at < length s → TokenIn s first (integer_at w s kind first at)
   unfolding integer_at
   integer-in w at o g =
-      either-eq (ReadingIn s first) (byte_at s at) 45 _ _ (λ _. digits-read w true (at + 1) (omega arith) (omega arith) (omega arith)) (λ _.
-      either-eq (ReadingIn s first) (byte_at s at) 43 _ _ (λ _. digits-read w false (at + 1) (omega arith) (omega arith) (omega arith)) (λ _.
+      either-eq (TokenIn s first) (byte_at s at) 45 _ _ (λ _. digits-read w true (at + 1) (omega arith) (omega arith) (omega arith)) (λ _.
+      either-eq (TokenIn s first) (byte_at s at) 43 _ _ (λ _. digits-read w false (at + 1) (omega arith) (omega arith) (omega arith)) (λ _.
       digits-read w false at (omega arith) o (omega arith)))
 
 -- marks
 module _ (s : List ℕ) (first : ℕ) (l : first < length s) where
-  marked_from_lem : (kind at : ℕ) → 3 ≤ kind → kind ≤ 6 → first ≤ at → at ≤ length s → at ≡ name_start s kind first → is_joint s at ≡ false → ReadingIn s first (marked_from s kind first at)
+  marked_from_lem : (kind at : ℕ) → 3 ≤ kind → kind ≤ 6 → first ≤ at → at ≤ length s → at ≡ name_start s kind first → is_joint s at ≡ false → TokenIn s first (marked_from s kind first at)
   unfolding marked_from
   marked_from_lem kind at k3 k6 o g e j =
-      either_true (ReadingIn s first) (starts_symbol (byte_at s at)) _ _
+      either_true (TokenIn s first) (starts_symbol (byte_at s at)) _ _
       (λ b. symbol-in s kind first at g o k3 k6 e b j)
       (λ _. (omega arith, omega arith))
 
-  pub marked-in : (kind at : ℕ) → 3 ≤ kind → kind ≤ 6 → first ≤ at → at ≤ length s → joined s at ≡ name_start s kind first → ReadingIn s first (marked_at s kind first at)
+  pub marked-in : (kind at : ℕ) → 3 ≤ kind → kind ≤ 6 → first ≤ at → at ≤ length s → joined s at ≡ name_start s kind first → TokenIn s first (marked_at s kind first at)
   unfolding marked_at
   marked-in kind at k3 k6 o g e =
       marked_from_lem kind (joined s at) k3 k6 (omega (arith, joined-from s at)) (joined_in s at g) e (joined-none s at)
 
-  at_from_lem : (w : Width) (at : ℕ) → first < at → at ≤ length s → at ≡ joined s (first + 1) → ReadingIn s first (at_from w s first at)
+  at_from_lem : (w : Width) (at : ℕ) → first < at → at ≤ length s → at ≡ joined s (first + 1) → TokenIn s first (at_from w s first at)
   unfolding at_from
   at_from_lem w at o g e =
-      either-eq (ReadingIn s first) (byte_at s at) 37 _ _
+      either-eq (TokenIn s first) (byte_at s at) 37 _ _
       (λ c. let v : at < length s = byte-within s at (omega arith) in
       marked-in 6 (at + 1) (omega arith) (omega arith) (omega arith) (omega arith) (ap (λ (i : ℕ). joined s (i + 1)) e ∙ sym (start-inner s first)))
-      (λ _. either_true (ReadingIn s first) (starts_symbol (byte_at s at)) _ _
+      (λ _. either_true (TokenIn s first) (starts_symbol (byte_at s at)) _ _
       (λ b. symbol-in s 5 first at g (omega arith) (omega arith) (omega arith) (e ∙ sym (start-marked s 5 first (omega arith) (λ z. let y : ⊥ = omega arith in y))) b
       (ap (is_joint s) e ∙ joined-none s (first + 1)))
-      (λ _. either_true (ReadingIn s first) (starts_integer (byte_at s at)) _ _
+      (λ _. either_true (TokenIn s first) (starts_integer (byte_at s at)) _ _
       (λ b. integer-in s 8 first (omega arith) (omega arith) w at (omega arith) (integer-within s at (byte_at s at) refl true (sym b) refl))
       (λ _. (omega arith, omega arith))))
 
-  pub at_in : (w : Width) → ReadingIn s first (at_read w s first)
+  pub at_in : (w : Width) → TokenIn s first (at_read w s first)
   unfolding at_read
   at_in w = at_from_lem w (joined s (first + 1)) (omega (arith, joined-from s (first + 1))) (joined_in s (first + 1) (omega arith)) refl
 
-plain_in : (w : Width) (s : List ℕ) (at : ℕ) → at < length s → is_joint s at ≡ false → ReadingIn s at (plain_read w s at (byte_at s at))
+plain_in : (w : Width) (s : List ℕ) (at : ℕ) → at < length s → is_joint s at ≡ false → TokenIn s at (plain_read w s at (byte_at s at))
 unfolding plain_read
 plain_in w s at l j =
-    either_true (ReadingIn s at) (starts_symbol (byte_at s at)) _ _
+    either_true (TokenIn s at) (starts_symbol (byte_at s at)) _ _
     (λ b. symbol-in s 3 at at (omega arith) (omega arith) (omega arith) (omega arith) (sym (start_plain s 3 at (omega arith))) b j)
-    (λ _. either_true (ReadingIn s at) (starts_integer (byte_at s at)) _ _
+    (λ _. either_true (TokenIn s at) (starts_integer (byte_at s at)) _ _
     (λ b. integer-in s 7 at (omega arith) (omega arith) w at (omega arith) l)
     (λ _. (omega arith, omega arith)))
 
@@ -342,17 +343,25 @@ newline-in s at l =
       some = λ q. true-false (sym q ∙ nothing-named);
     }
 
+token-in : (w : Width) (s : List ℕ) (at : ℕ) → at < length s → is_joint s at ≡ false → TokenIn s at (token_at w s at)
+unfolding token_at
+token-in w s at l j =
+    either-eq (TokenIn s at) (byte_at s at) 10 _ _ (λ _. newline-in s at l) (λ _.
+    either-eq (TokenIn s at) (byte_at s at) 34 _ _ (λ _. string-in s at l) (λ _.
+    either-eq (TokenIn s at) (byte_at s at) 37 _ _
+    (λ _. marked-in s at l 4 (at + 1) (omega arith) (omega arith) (omega arith) (omega arith) (sym (start-marked s 4 at (omega arith) (λ z. let y : ⊥ = omega arith in y)))) (λ _.
+    either-eq (TokenIn s at) (byte_at s at) 64 _ _ (λ _. at_in s at l w) (λ _.
+    plain_in w s at l j))))
+
+as-in : (s : List ℕ) (at : ℕ) (r : TokenRead) → TokenIn s at r → ReadingIn s at (as_reading r)
+unfolding as_reading
+as-in s at (Ok x) h = h
+as-in s at (Err e) h = h
+
 pub read-in : (w : Width) (s : List ℕ) (at : ℕ) → is_joint s at ≡ false → ReadingIn s at (read_at w s at)
 unfolding read_at
 read-in w s at j =
-    either (ReadingIn s at) at (length s) _ _
-    (λ l. either-eq (ReadingIn s at) (byte_at s at) 10 _ _ (λ _. newline-in s at l) (λ _.
-    either-eq (ReadingIn s at) (byte_at s at) 34 _ _ (λ _. string-in s at l) (λ _.
-    either-eq (ReadingIn s at) (byte_at s at) 37 _ _
-    (λ _. marked-in s at l 4 (at + 1) (omega arith) (omega arith) (omega arith) (omega arith) (sym (start-marked s 4 at (omega arith) (λ z. let y : ⊥ = omega arith in y)))) (λ _.
-    either-eq (ReadingIn s at) (byte_at s at) 64 _ _ (λ _. at_in s at l w) (λ _.
-    plain_in w s at l j)))))
-    (λ _. tt)
+    either (ReadingIn s at) at (length s) _ _ (λ l. as-in s at (token_at w s at) (token-in w s at l j)) (λ _. tt)
 
 -- nothing can be skipped where a gap ends
 no-joint : (s : List ℕ) (at : ℕ) → gap_skip s at ≤ at → is_joint s at ≡ false

@@ -6,18 +6,12 @@ ghost use Rattle.base_limits.specs.Limits.{word_values};
 ghost use Rattle.base_limits.specs.Width.{bits_of};
 ghost use Rattle.lex_lexeme.specs.Number.{digit_from, digit_at, digits_at, decimal_of, half_of, whole_of, integer_of};
 ghost use Rattle.lex_lexeme.specs.Gap.{comment_end, gap_skip, gap_end};
-ghost use Rattle.lex_lexeme.specs.Reading.{starts_symbol, starts_integer, texted, valued, symbol_to, symbol_end, symbol_at, string_to, string_end, string_read, integer_from, digits_read, integer_at, marked_from, marked_at, at_from, at_read, plain_read, read_at, next_read, is_named, name_start};
+ghost use Rattle.lex_lexeme.specs.Reading.{starts_symbol, starts_integer, texted, valued, symbol_to, symbol_end, symbol_at, string_to, string_end, string_read, integer_from, digits_read, integer_at, marked_from, marked_at, at_from, at_read, plain_read, token_at, next_read, is_named, name_start};
 ghost use Rattle.lex_spelling.specs.Text.{end_of};
 
 use base_limits::{Machine, Width};
 use lang_kinds::Token;
-use lex_spelling::Ending;
-
-#[derive(Drop)]
-pub enum Digit {
-    One { value: u32, next: usize },
-    Stop(usize),
-}
+use lex_spelling::{Decoded, Ending};
 
 // Digits read: how many, their value, at most 2^32, and the place behind them.
 #[derive(Drop)]
@@ -25,12 +19,6 @@ pub struct Decimal {
     pub count: usize,
     pub value: u64,
     pub next: usize,
-}
-
-#[derive(Drop)]
-pub enum Number {
-    Word(u32),
-    OutOfRange,
 }
 
 // A token: its kind, first byte, first byte of its text, next byte, its text's size and hash, an integer's word and whether
@@ -47,39 +35,37 @@ pub struct Lexeme {
     pub fits: bool,
 }
 
-// What is read at a place: the source's end, a byte that starts no token, a token with a bad escape, a string that does not
-// end, or a token.
+// Why no token is read: a byte that starts none, a bad escape, or a string that does not end, each with its place.
 #[derive(Clone, Copy)]
-pub enum Reading {
-    End,
+pub enum TokenError {
     Lone(usize),
     Broken(usize),
     Open(usize),
-    Whole(Lexeme),
 }
 
-fn digit_from(s: &[u8], at: usize) -> Digit
+fn digit_from(s: &[u8], at: usize) -> Result<Decoded, usize>
     requires { at < length s.now }
     ensures { result ≡ digit_from s.now at }
 {
     let c = base_prelude::byte_at(s, at);
     if lex_spelling::is_digit(c) {
-        return Digit::One {
+        return Ok(Decoded {
             value: c - 48,
             next: at + 1,
-        };
+        });
     }
-    Digit::Stop(at)
+    Err(at)
 }
 
-fn read_digit(s: &[u8], at: usize) -> Digit
+// The digit at a place, or the place behind continuations where none stands.
+fn read_digit(s: &[u8], at: usize) -> Result<Decoded, usize>
     ensures { result ≡ digit_at s.now at }
 {
     let i = lex_spelling::join(s, at);
     if i < s.len() {
         return digit_from(s, i);
     }
-    Digit::Stop(i)
+    Err(i)
 }
 
 // One digit more, at most 2^32.
@@ -87,7 +73,7 @@ fn push(value: u64, digit: u32) -> u64
     requires { value ≤ word_values }
     ensures { result ≡ min (value * 10 + digit) word_values }
 {
-    base_prelude::least(value * 10 + digit as u64, Machine::WORD_VALUES)
+    (value * 10 + u64::from(digit)).min(Machine::WORD_VALUES)
 }
 
 fn read_digits(s: &[u8], at: usize) -> Decimal
@@ -98,18 +84,12 @@ fn read_digits(s: &[u8], at: usize) -> Decimal
     let mut value: u64 = 0;
     loop {
         match read_digit(s, i) {
-            Digit::One { value: d, next } => {
+            Ok(x) => {
                 count += 1;
-                value = push(value, d);
-                i = next;
+                value = push(value, x.value);
+                i = x.next;
             }
-            Digit::Stop(place) => {
-                return Decimal {
-                    count: count,
-                    value: value,
-                    next: place,
-                };
-            }
+            Err(next) => return Decimal { count, value, next },
         }
     }
 }
@@ -132,60 +112,45 @@ fn whole_of(w: Width) -> u64
     }
 }
 
-// The word of an integer of a magnitude.
-fn to_word(w: Width, negative: bool, v: u64) -> Number
+// The word of an integer of a magnitude, where it is in range.
+fn to_word(w: Width, negative: bool, v: u64) -> Option<u32>
     ensures { result ≡ integer_of w negative v }
 {
     let whole = whole_of(w);
     if negative {
         if half_of(w) < v {
-            return Number::OutOfRange;
+            return None;
         }
-        return Number::Word(((whole - v) % whole) as u32);
+        return Some(((whole - v) % whole) as u32);
     }
     if v < whole {
-        return Number::Word(v as u32);
+        return Some(v as u32);
     }
-    Number::OutOfRange
+    None
 }
 
 pub fn starts_symbol(c: u32) -> bool
     ensures { result ≡ starts_symbol c }
 {
-    if lex_spelling::is_letter(c) {
-        return true;
-    }
-    if c == 92 {
-        return true;
-    }
-    false
+    lex_spelling::is_letter(c) || c == 92
 }
 
 pub fn starts_integer(c: u32) -> bool
     ensures { result ≡ starts_integer c }
 {
-    if lex_spelling::is_digit(c) {
-        return true;
-    }
-    if c == 43 {
-        return true;
-    }
-    if c == 45 {
-        return true;
-    }
-    false
+    lex_spelling::is_digit(c) || c == 43 || c == 45
 }
 
 fn with_text(kind: u32, first: usize, start: usize, next: usize, size: usize, hash: u32) -> Lexeme
     ensures { result ≡ texted kind first start next size hash }
 {
     Lexeme {
-        kind: kind,
-        first: first,
-        start: start,
-        next: next,
-        size: size,
-        hash: hash,
+        kind,
+        first,
+        start,
+        next,
+        size,
+        hash,
         value: 0,
         fits: true,
     }
@@ -195,14 +160,14 @@ fn with_value(kind: u32, first: usize, next: usize, value: u32, fits: bool) -> L
     ensures { result ≡ valued kind first next value fits }
 {
     Lexeme {
-        kind: kind,
-        first: first,
+        kind,
+        first,
         start: first,
-        next: next,
+        next,
         size: 0,
         hash: 0,
-        value: value,
-        fits: fits,
+        value,
+        fits,
     }
 }
 
@@ -210,19 +175,12 @@ fn with_value(kind: u32, first: usize, next: usize, value: u32, fits: bool) -> L
 fn comment_end(s: &[u8], at: usize) -> usize
     ensures { result ≡ comment_end s.now at }
 {
-    let mut i = at;
-    while i < s.len() {
-        let c = base_prelude::byte_at(s, i);
-        if c == 10 {
-            return i;
-        }
-        if c < 256 {
-            i += 1;
-        } else {
+    for i in at..s.len() {
+        if s[i] == b'\n' {
             return i;
         }
     }
-    i
+    at.max(s.len())
 }
 
 // One blank, comment or continuation less.
@@ -248,6 +206,7 @@ pub fn gap_end(s: &[u8], at: usize) -> usize
     ensures { result ≡ gap_end s.now at }
 {
     let mut i = at;
+    // By index: a step leads over a blank, a comment or a continuation, so it is not one.
     while i < s.len() {
         let j = skip_one(s, i);
         if i < j {
@@ -288,32 +247,31 @@ fn symbol_end(
     size: usize,
     hash: u32,
     e: Ending,
-) -> Reading
+) -> Result<Lexeme, TokenError>
     requires { end_of e ≤ length s.now }
     ensures { result ≡ symbol_end s.now kind first start size hash e }
 {
     match e {
-        Ending::Stopped(p) => Reading::Whole(symbol_to(s, kind, first, start, size, hash, p)),
-        Ending::Broken(p) => Reading::Broken(p),
+        Ending::Stopped(p) => Ok(symbol_to(s, kind, first, start, size, hash, p)),
+        Ending::Broken(p) => Err(TokenError::Broken(p)),
     }
 }
 
 // A token whose symbol starts at a place.
-fn read_symbol(s: &[u8], kind: u32, first: usize, start: usize) -> Reading
+fn read_symbol(s: &[u8], kind: u32, first: usize, start: usize) -> Result<Lexeme, TokenError>
     requires { start ≤ length s.now }
     ensures { result ≡ symbol_at s.now kind first start }
 {
     let x = lex_spelling::spell(false, s, start);
-    let e = x.ending;
-    symbol_end(s, kind, first, start, x.size, x.hash, e)
+    symbol_end(s, kind, first, start, x.size, x.hash, x.ending)
 }
 
-fn string_to(s: &[u8], first: usize, size: usize, hash: u32, p: usize) -> Reading
+fn string_to(s: &[u8], first: usize, size: usize, hash: u32, p: usize) -> Result<Lexeme, TokenError>
     requires { (p ≤ length s.now) × (first < length s.now) }
     ensures { result ≡ string_to s.now first size hash p }
 {
     if base_prelude::byte_at(s, p) == 34 {
-        return Reading::Whole(with_text(
+        return Ok(with_text(
             Token::STRING,
             first,
             first + 1,
@@ -322,50 +280,68 @@ fn string_to(s: &[u8], first: usize, size: usize, hash: u32, p: usize) -> Readin
             hash,
         ));
     }
-    Reading::Open(first)
+    Err(TokenError::Open(first))
 }
 
-fn string_end(s: &[u8], first: usize, size: usize, hash: u32, e: Ending) -> Reading
+fn string_end(
+    s: &[u8],
+    first: usize,
+    size: usize,
+    hash: u32,
+    e: Ending,
+) -> Result<Lexeme, TokenError>
     requires { (end_of e ≤ length s.now) × (first < length s.now) }
     ensures { result ≡ string_end s.now first size hash e }
 {
     match e {
         Ending::Stopped(p) => string_to(s, first, size, hash, p),
-        Ending::Broken(p) => Reading::Broken(p),
+        Ending::Broken(p) => Err(TokenError::Broken(p)),
     }
 }
 
 // The string whose opening quote stands at a place.
-fn read_string(s: &[u8], first: usize) -> Reading
+fn read_string(s: &[u8], first: usize) -> Result<Lexeme, TokenError>
     requires { first < length s.now }
     ensures { result ≡ string_read s.now first }
 {
     let x = lex_spelling::spell(true, s, first + 1);
-    let e = x.ending;
-    string_end(s, first, x.size, x.hash, e)
+    string_end(s, first, x.size, x.hash, x.ending)
 }
 
-fn integer_from(kind: u32, first: usize, next: usize, n: Number) -> Lexeme
+fn integer_from(kind: u32, first: usize, next: usize, n: Option<u32>) -> Lexeme
     ensures { result ≡ integer_from kind first next n }
 {
     match n {
-        Number::Word(v) => with_value(kind, first, next, v, true),
-        Number::OutOfRange => with_value(kind, first, next, 0, false),
+        Some(v) => with_value(kind, first, next, v, true),
+        None => with_value(kind, first, next, 0, false),
     }
 }
 
-fn read_unsigned(w: Width, s: &[u8], kind: u32, first: usize, negative: bool, at: usize) -> Reading
+fn read_unsigned(
+    w: Width,
+    s: &[u8],
+    kind: u32,
+    first: usize,
+    negative: bool,
+    at: usize,
+) -> Result<Lexeme, TokenError>
     ensures { result ≡ digits_read w s.now kind first negative at }
 {
     let d = read_digits(s, at);
     if d.count == 0 {
-        return Reading::Lone(first);
+        return Err(TokenError::Lone(first));
     }
-    Reading::Whole(integer_from(kind, first, d.next, to_word(w, negative, d.value)))
+    Ok(integer_from(kind, first, d.next, to_word(w, negative, d.value)))
 }
 
 // An integer whose sign or first digit stands at a place.
-fn read_integer(w: Width, s: &[u8], kind: u32, first: usize, at: usize) -> Reading
+fn read_integer(
+    w: Width,
+    s: &[u8],
+    kind: u32,
+    first: usize,
+    at: usize,
+) -> Result<Lexeme, TokenError>
     requires { at < length s.now }
     ensures { result ≡ integer_at w s.now kind first at }
 {
@@ -379,25 +355,25 @@ fn read_integer(w: Width, s: &[u8], kind: u32, first: usize, at: usize) -> Readi
     read_unsigned(w, s, kind, first, false, at)
 }
 
-fn marked_from(s: &[u8], kind: u32, first: usize, at: usize) -> Reading
+fn marked_from(s: &[u8], kind: u32, first: usize, at: usize) -> Result<Lexeme, TokenError>
     requires { at ≤ length s.now }
     ensures { result ≡ marked_from s.now kind first at }
 {
     if starts_symbol(base_prelude::byte_at(s, at)) {
         return read_symbol(s, kind, first, at);
     }
-    Reading::Lone(first)
+    Err(TokenError::Lone(first))
 }
 
 // What stands behind a `%`.
-fn read_marked(s: &[u8], kind: u32, first: usize, at: usize) -> Reading
+fn read_marked(s: &[u8], kind: u32, first: usize, at: usize) -> Result<Lexeme, TokenError>
     requires { at ≤ length s.now }
     ensures { result ≡ marked_at s.now kind first at }
 {
     marked_from(s, kind, first, lex_spelling::join(s, at))
 }
 
-fn at_from(w: Width, s: &[u8], first: usize, at: usize) -> Reading
+fn at_from(w: Width, s: &[u8], first: usize, at: usize) -> Result<Lexeme, TokenError>
     requires { at ≤ length s.now }
     ensures { result ≡ at_from w s.now first at }
 {
@@ -411,11 +387,11 @@ fn at_from(w: Width, s: &[u8], first: usize, at: usize) -> Reading
     if starts_integer(c) {
         return read_integer(w, s, Token::AT_INTEGER, first, at);
     }
-    Reading::Lone(first)
+    Err(TokenError::Lone(first))
 }
 
 // The token whose `@` stands at a place.
-fn read_at_sign(w: Width, s: &[u8], first: usize) -> Reading
+fn read_at_sign(w: Width, s: &[u8], first: usize) -> Result<Lexeme, TokenError>
     requires { first < length s.now }
     ensures { result ≡ at_read w s.now first }
 {
@@ -423,7 +399,7 @@ fn read_at_sign(w: Width, s: &[u8], first: usize) -> Reading
 }
 
 // A token that starts with no mark.
-fn read_plain(w: Width, s: &[u8], at: usize, c: u32) -> Reading
+fn read_plain(w: Width, s: &[u8], at: usize, c: u32) -> Result<Lexeme, TokenError>
     requires { at < length s.now }
     ensures { result ≡ plain_read w s.now at c }
 {
@@ -433,50 +409,40 @@ fn read_plain(w: Width, s: &[u8], at: usize, c: u32) -> Reading
     if starts_integer(c) {
         return read_integer(w, s, Token::INTEGER, at, at);
     }
-    Reading::Lone(at)
+    Err(TokenError::Lone(at))
 }
 
 // The token at a place.
-fn read_token(w: Width, s: &[u8], at: usize) -> Reading
-    ensures { result ≡ read_at w s.now at }
+fn read_token(w: Width, s: &[u8], at: usize) -> Result<Lexeme, TokenError>
+    requires { at < length s.now }
+    ensures { result ≡ token_at w s.now at }
 {
-    if s.len() <= at {
-        return Reading::End;
-    }
     let c = base_prelude::byte_at(s, at);
-    if c == 10 {
-        return Reading::Whole(with_value(Token::NEWLINE, at, at + 1, 0, true));
+    match c {
+        10 => Ok(with_value(Token::NEWLINE, at, at + 1, 0, true)),
+        34 => read_string(s, at),
+        37 => read_marked(s, Token::SUBSTITUTE, at, at + 1),
+        64 => read_at_sign(w, s, at),
+        _ => read_plain(w, s, at, c),
     }
-    if c == 34 {
-        return read_string(s, at);
-    }
-    if c == 37 {
-        return read_marked(s, Token::SUBSTITUTE, at, at + 1);
-    }
-    if c == 64 {
-        return read_at_sign(w, s, at);
-    }
-    read_plain(w, s, at, c)
 }
 
-// The first token from a place on.
-pub fn next_token(w: Width, s: &[u8], at: usize) -> Reading
+// The first token from a place on, or none where the source ends.
+pub fn next_token(w: Width, s: &[u8], at: usize) -> Result<Option<Lexeme>, TokenError>
     ensures { result ≡ next_read w s.now at }
 {
-    read_token(w, s, gap_end(s, at))
+    let i = gap_end(s, at);
+    if i < s.len() {
+        return read_token(w, s, i).map(Some);
+    }
+    Ok(None)
 }
 
 // A symbol, plain, as a label, or under a mark.
 pub fn is_named(kind: u32) -> bool
     ensures { result ≡ is_named kind }
 {
-    if kind < Token::LABEL {
-        return false;
-    }
-    if kind < Token::INTEGER {
-        return true;
-    }
-    false
+    Token::LABEL <= kind && kind < Token::INTEGER
 }
 
 // Where the symbol of a token starts.

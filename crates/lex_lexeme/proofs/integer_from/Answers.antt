@@ -1,10 +1,10 @@
 use Rattle.lex_lexeme.proofs.Cases.{integers}
 use Rattle.lex_lexeme.proofs.integer_from.Goals as goal
 
-pub returns-in-Word : goal.returns-in-Word
-returns-in-Word c =
+pub returns-in-Some : goal.returns-in-Some
+returns-in-Some c =
     search integers
 
-pub returns-in-OutOfRange : goal.returns-in-OutOfRange
-returns-in-OutOfRange c =
+pub returns-in-None : goal.returns-in-None
+returns-in-None c =
     search integers

@@ -1,18 +1,18 @@
 use Rattle.lex_lexeme.proofs.Digits.{counting, counting-less}
 use Rattle.lex_lexeme.proofs.read_digits.Goals as goal
 
-pub loop-d-init : goal.loop-d-init
-loop-d-init c =
+pub loop-x-init : goal.loop-x-init
+loop-x-init c =
     search counting
 
-pub loop-d-smaller : goal.loop-d-smaller
-loop-d-smaller c =
+pub loop-x-smaller : goal.loop-x-smaller
+loop-x-smaller c =
     search counting-less
 
-pub loop-d-preserved : goal.loop-d-preserved
-loop-d-preserved c =
+pub loop-x-preserved : goal.loop-x-preserved
+loop-x-preserved c =
     search counting
 
-pub returns-in-Stop : goal.returns-in-Stop
-returns-in-Stop c =
+pub returns-in-Err : goal.returns-in-Err
+returns-in-Err c =
     search counting

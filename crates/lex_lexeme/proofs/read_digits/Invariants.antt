@@ -3,10 +3,10 @@ use lib.ListN.{length}
 use Rattle.lex_lexeme.proofs.Digits.{Counting}
 use Rattle.lex_lexeme.proofs.read_digits.Given as goal
 
-abbrev pub invariant-loop-d : goal.invariant-loop-d
-invariant-loop-d l =
+abbrev pub invariant-loop-x : goal.invariant-loop-x
+invariant-loop-x l =
     Counting l.s l.at l.i l.count l.value
 
-abbrev pub decreases-loop-d : goal.decreases-loop-d
-decreases-loop-d l =
+abbrev pub decreases-loop-x : goal.decreases-loop-x
+decreases-loop-x l =
     length l.s - l.i

@@ -1,26 +1,23 @@
+use borrow.Author.Rules.{rules}
 use Rattle.lex_lexeme.proofs.Cases.{reads}
 use Rattle.lex_lexeme.proofs.read_token.Goals as goal
 
-pub returns-then-s-at : goal.returns-then-s-at
-returns-then-s-at c =
-    search reads
+pub returns-in-10 : goal.returns-in-10
+returns-in-10 c =
+    search (reads, rules)
 
-pub returns-then-c-eq10 : goal.returns-then-c-eq10
-returns-then-c-eq10 c =
-    search reads
+pub returns-in-34 : goal.returns-in-34
+returns-in-34 c =
+    search (reads, rules)
 
-pub returns-then-c-eq34 : goal.returns-then-c-eq34
-returns-then-c-eq34 c =
-    search reads
+pub returns-in-37 : goal.returns-in-37
+returns-in-37 c =
+    search (reads, rules)
 
-pub returns-then-c-eq37 : goal.returns-then-c-eq37
-returns-then-c-eq37 c =
-    search reads
+pub returns-in-64 : goal.returns-in-64
+returns-in-64 c =
+    search (reads, rules)
 
-pub returns-then-c-eq64 : goal.returns-then-c-eq64
-returns-then-c-eq64 c =
-    search reads
-
-pub returns : goal.returns
-returns c =
-    search reads
+pub returns-in_default : goal.returns-in_default
+returns-in_default c =
+    search (reads, rules)
