@@ -1,12 +1,10 @@
 -- One law for each way through a function of this crate.
 -- Assumes nothing.
-use mathlib.Core.Path.{◌≡◌, refl, sym, ◌∙◌, ap, subst}
+use mathlib.Core.Path.{◌≡◌, ◌∙◌, ap, subst}
 use mathlib.Core.Bool.{Bool, true, false}
-use mathlib.Core.List.{List, [], ◌∷◌}
-use Prim.Native.Nat.{ℕ, zero, suc, ◌+◌, ◌*◌, ◌-◌, ◌≤◌, ◌<◌}
-use native.Mathlib.Omega.{arith}
+use mathlib.Core.List.{List}
+use Prim.Native.Nat.{ℕ, ◌+◌, ◌*◌, ◌≤◌, ◌<◌}
 use lib.ListN.{length, get_or, take}
-use Rattle.base_prelude.specs.Choice.{if_lt, if_eq, if_true}
 use Rattle.base_prelude.specs.Bytes.{byte_at}
 use Rattle.base_prelude.specs.Fault.{none, key}
 use Rattle.base_prelude.specs.Lists.{same_list, overlay}
@@ -16,7 +14,6 @@ use Rattle.base_limits.specs.declared.Width.{Width}
 use Rattle.lang_words.specs.Sections.{known_of}
 use Rattle.lang_words.specs.Substitutes.{substitute_of}
 use Rattle.lex_spelling.specs.Classes.{is_separator}
-use Rattle.lex_spelling.specs.Continuation.{joined}
 use Rattle.lex_spelling.specs.Text.{name_at, spelled_at}
 use Rattle.lex_spelling.proofs.Loops.{overlay-front}
 use Rattle.lex_lexeme.specs.declared.Lexeme.{Lexeme}

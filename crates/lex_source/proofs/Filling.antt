@@ -3,40 +3,36 @@
 use mathlib.Core.Path.{◌≡◌, refl, sym, ◌∙◌, ap, ap₂, subst}
 use mathlib.Core.Bool.{Bool, true, false}
 use mathlib.Core.List.{List, [], ◌∷◌, ◌++◌}
-use Prim.Native.Nat.{ℕ, zero, suc, ◌+◌, ◌*◌, ◌-◌, ◌%◌, ◌/◌, ◌≤◌, ◌<◌}
-use native.Mathlib.Decide.{dec_lt}
+use Prim.Native.Nat.{ℕ, suc, ◌+◌, ◌*◌, ◌-◌, ◌%◌, ◌/◌, ◌≤◌, ◌<◌}
 use native.Mathlib.Omega.{arith}
-use lib.ListN.{length, get_or, take, drop, length-append}
-use Rattle.base_prelude.specs.Choice.{if_lt, if_eq, if_true}
+use lib.ListN.{length, take, length-append}
+use Rattle.base_prelude.specs.Choice.{if_lt}
 use Rattle.base_prelude.specs.Fault.{none, key}
 use Rattle.base_prelude.specs.Lists.{zeros, cleared_from}
-use Rattle.base_prelude.specs.Walk.{Step, go, stop, walk}
-use Rattle.base_prelude.proofs.Choice.{tests, either, if_true-yes, if_true-no, if_lt-yes, if_lt-no, true-false}
+use Rattle.base_prelude.specs.Walk.{go, stop}
+use Rattle.base_prelude.proofs.Choice.{tests, either, if_true-yes, if_true-no, if_lt-yes, if_lt-no}
 use Rattle.base_prelude.proofs.Walk.{Runs, runs-start, runs-go, runs-stop}
 use Rattle.base_limits.specs.declared.Width.{Width}
 use Rattle.lex_spelling.specs.Text.{name_at, hash_of}
 use Rattle.lex_lexeme.specs.Gap.{gap_end}
-use Rattle.lex_lexeme.specs.Reading.{is_named, name_start, text_of, next_read}
+use Rattle.lex_lexeme.specs.Reading.{Reading, is_named, name_start, text_of, next_read}
 use Rattle.lex_lexeme.specs.declared.Lexeme.{Lexeme}
-use Rattle.lex_lexeme.specs.declared.Reading.{Reading}
-use Rattle.lex_lexeme.specs.declared.Reading.TheVariants.{End, Lone, Broken, Open, Whole}
+use Rattle.lex_lexeme.specs.declared.TokenError.{TokenError}
+use Rattle.lex_lexeme.specs.declared.TokenError.TheVariants.{Lone, Broken, Open}
 use Rattle.lex_lexeme.proofs.Gaps.{gap-in}
-use Rattle.lex_lexeme.proofs.Within.{LexemeIn, ReadingIn, next-in, text-named, text-none}
-use Rattle.lex_source.specs.Token.{Token, is_substitute, token_value, word_of, name_number, token_of}
+use Rattle.lex_lexeme.proofs.Within.{LexemeIn, ReadingIn, next-in, text-named}
+use Rattle.lex_source.specs.Token.{Token, token_value, word_of, name_number, token_of}
 use Rattle.lex_source.specs.Faults.{range_fault, length_fault, limit_fault, follow_fault, fault_of}
 use Rattle.lex_source.specs.Rows.{row_of, rows_of, token_table}
 use Rattle.lex_source.specs.Fits.{LexemeFits, ReadingFits}
-use Rattle.lex_source.specs.Filling.{find_name, word_named, row_from, words_of, put_row, Filled, filled, fill_by, fill_reading, fill_at}
-use Rattle.lex_source.specs.Lex.{State, state, Outcome, accepted, refused, token_step, read_step, lex_step, tokens_from, lex_of, answer_of, table_of}
-use Rattle.lex_source.specs.declared.Lexed.{Lexed}
-use Rattle.lex_source.specs.declared.Lexed.TheVariants.{Tokens, Refused}
+use Rattle.lex_source.specs.Filling.{FillStep, find_name, word_named, row_from, words_of, put_row, Filled, filled, fill_by, fill_reading, fill_at}
+use Rattle.lex_source.specs.Lex.{Lexed, state, accepted, refused, token_step, read_step, lex_step, tokens_from, lex_of, answer_of, table_of}
 use Rattle.lex_source.specs.declared.Row.{Row}
-use Rattle.lex_source.specs.declared.FillStep.{FillStep}
-use Rattle.lex_source.specs.declared.FillStep.TheVariants as fill_step
 use Rattle.lex_source.proofs.Least.{lone-fault, broken-fault, open-fault, whole-clean, clean-limit, clean-length}
 use Rattle.lex_source.proofs.Finding.{find-most}
 use Rattle.lex_source.proofs.Rows.{length-put, taken-put, length-rows, rows_more}
 use Rattle.lex_source.proofs.Tokens.{Every, every_more, Spelt, number_is}
+use Rattle.std.proofs.Common.{Some, None, Ok, Err}
 
 -- `row_from`
 module _ (s t : List ℕ) (n : ℕ) (x : Lexeme) (b : Bool) (h : LexemeFits s t n x) (p : b ≡ is_named x.kind) (e : b ≡ true) where
@@ -65,33 +61,27 @@ name-fits s t n name x h e = omega (arith, h.few, find-most s t n x.hash x.start
 
 -- `fill`
 module _ (w : Width) (s t : List ℕ) (n : ℕ) (r : Reading) where
-  pub reading-fits : (x : Lexeme) → ReadingFits s t n r → r ≡ Whole x → LexemeFits s t n x
+  pub reading-fits : (x : Lexeme) → ReadingFits s t n r → r ≡ Ok (Some x) → LexemeFits s t n x
   reading-fits x h e = subst (ReadingFits s t n) e h
 
-  pub fill_end : r ≡ End → filled fill_step.Done t ≡ fill_by w s t n r
+  pub fill_end : r ≡ Ok None → filled (Ok None) t ≡ fill_by w s t n r
   unfolding fill_by
   fill_end e = rw e
 
-  pub fill-lone : (p : ℕ) → r ≡ Lone p → filled (fill_step.Fault none) t ≡ fill_by w s t n r
+  pub fill-error : (p : TokenError) → r ≡ Err p → filled (Err none) t ≡ fill_by w s t n r
   unfolding fill_by
-  fill-lone p e = rw e
+  fill-error (Lone p) e = rw e
+  fill-error (Broken p) e = rw e
+  fill-error (Open p) e = rw e
 
-  pub fill-broken : (p : ℕ) → r ≡ Broken p → filled (fill_step.Fault none) t ≡ fill_by w s t n r
+  pub fill-whole : (x : Lexeme) (t' : List ℕ) → r ≡ Ok (Some x) → t' ≡ put_row t n (row_from w s t n x) → filled (Ok (Some x.next)) t' ≡ fill_by w s t n r
   unfolding fill_by
-  fill-broken p e = rw e
+  fill-whole x t' e q = rw e (ap (filled (Ok (Some x.next))) q)
 
-  pub fill-open : (p : ℕ) → r ≡ Open p → filled (fill_step.Fault none) t ≡ fill_by w s t n r
-  unfolding fill_by
-  fill-open p e = rw e
-
-  pub fill-whole : (x : Lexeme) (t' : List ℕ) → r ≡ Whole x → t' ≡ put_row t n (row_from w s t n x) → filled (fill_step.More x.next) t' ≡ fill_by w s t n r
-  unfolding fill_by
-  fill-whole x t' e q = rw e (ap (filled (fill_step.More x.next)) q)
-
-pub ruleset filling = (fill_end, fill-lone, fill-broken, fill-open, fill-whole)
+pub ruleset filling = (fill_end, fill-error, fill-whole)
 
 -- `fill_at`
-clean-fits : (s t : List ℕ) (n at : ℕ) (x : Lexeme) → length s ≤ 16384 → length t ≡ 32768 → at ≤ length s → LexemeIn s at x → none ≤ fault_of s n (Whole x) → LexemeFits s t n x
+clean-fits : (s t : List ℕ) (n at : ℕ) (x : Lexeme) → length s ≤ 16384 → length t ≡ 32768 → at ≤ length s → LexemeIn s at x → none ≤ fault_of s n (Ok (Some x)) → LexemeFits s t n x
 clean-fits s t n at x ls lt la h c =
     let d : (none ≤ range_fault x) × (none ≤ length_fault x) × (none ≤ limit_fault n x.first) × (none ≤ follow_fault s x) = whole-clean s n x c in
     let f : n < 4096 = clean-limit n x.first d.2 in
@@ -105,18 +95,18 @@ clean-fits s t n at x ls lt la h c =
     }
 
 fits_by : (s t : List ℕ) (n at : ℕ) (r : Reading) → length s ≤ 16384 → length t ≡ 32768 → at ≤ length s → ReadingIn s at r → none ≤ fault_of s n r → ReadingFits s t n r
-fits_by s t n at End ls lt la h c = tt
-fits_by s t n at (Lone p) ls lt la h c = tt
-fits_by s t n at (Broken p) ls lt la h c = tt
-fits_by s t n at (Open p) ls lt la h c = tt
-fits_by s t n at (Whole x) ls lt la h c = clean-fits s t n at x ls lt la h c
+fits_by s t n at (Ok None) ls lt la h c = tt
+fits_by s t n at (Err (Lone p)) ls lt la h c = tt
+fits_by s t n at (Err (Broken p)) ls lt la h c = tt
+fits_by s t n at (Err (Open p)) ls lt la h c = tt
+fits_by s t n at (Ok (Some x)) ls lt la h c = clean-fits s t n at x ls lt la h c
 
 module _ (w : Width) (s t : List ℕ) (n at : ℕ) (r : Reading) (k : ℕ) (p : r ≡ next_read w s at) (q : k ≡ fault_of s n r) where
   pub fill-at-fits : length s ≤ 16384 → length t ≡ 32768 → at ≤ length s → none ≤ k → ReadingFits s t n r
   fill-at-fits ls lt la c =
       fits_by s t n (gap_end s at) r ls lt ((gap-in s at).0.1 la) (subst (ReadingIn s (gap_end s at)) (sym p) (next-in w s at)) (subst (λ (i : ℕ). none ≤ i) q c)
 
-  pub fill-at-fault : k < none → filled (fill_step.Fault k) t ≡ fill_at w s t n at
+  pub fill-at-fault : k < none → filled (Err k) t ≡ fill_at w s t n at
   unfolding fill_at fill_reading
   fill-at-fault h = rw (← p, ← q) (search tests)
 
@@ -214,13 +204,13 @@ step-good w s at n ts r e c h =
 pub record Grown (w : Width) (s t : List ℕ) (at n next : ℕ) (t' : List ℕ) : Type 0 where
   pub lexeme : Lexeme
   pub next-is : next ≡ lexeme.next
-  pub reads : Whole lexeme ≡ next_read w s at
-  pub clean : none ≤ fault_of s n (Whole lexeme)
+  pub reads : Ok (Some lexeme) ≡ next_read w s at
+  pub clean : none ≤ fault_of s n (Ok (Some lexeme))
   pub table : t' ≡ put_row t n (row_from w s t n lexeme)
 
 pub record Ended (w : Width) (s t : List ℕ) (at n : ℕ) (t' : List ℕ) : Type 0 where
-  pub reads : End ≡ next_read w s at
-  pub clean : none ≤ fault_of s n End
+  pub reads : (Ok None) ≡ next_read w s at
+  pub clean : none ≤ fault_of s n (Ok None)
   pub table : t' ≡ t
 
 pub record Failed (w : Width) (s t : List ℕ) (at n k : ℕ) (t' : List ℕ) : Type 0 where
@@ -231,20 +221,20 @@ pub record Failed (w : Width) (s t : List ℕ) (at n k : ℕ) (t' : List ℕ) : 
   pub table : t' ≡ t
 
 abbrev FillFactsBy : Width → List ℕ → List ℕ → ℕ → ℕ → List ℕ → FillStep → Type 0
-FillFactsBy w s t at n t' (fill_step.More next) = Grown w s t at n next t'
-FillFactsBy w s t at n t' fill_step.Done = Ended w s t at n t'
-FillFactsBy w s t at n t' (fill_step.Fault k) = Failed w s t at n k t'
+FillFactsBy w s t at n t' (Ok (Some next)) = Grown w s t at n next t'
+FillFactsBy w s t at n t' (Ok None) = Ended w s t at n t'
+FillFactsBy w s t at n t' (Err k) = Failed w s t at n k t'
 
 abbrev FillFacts : Width → List ℕ → List ℕ → ℕ → ℕ → Filled → Type 0
 FillFacts w s t at n y = FillFactsBy w s t at n y.table y.fill_step
 
 clean-fill-at : (w : Width) (s t : List ℕ) (at n : ℕ) (r : Reading) → r ≡ next_read w s at → none ≤ fault_of s n r → FillFacts w s t at n (fill_by w s t n r)
 unfolding fill_by
-clean-fill-at w s t at n End e c = record { reads = e; clean = c; table = refl }
-clean-fill-at w s t at n (Lone p) e c = let z : ⊥ = omega (arith, lone-fault s n p) in absurd z
-clean-fill-at w s t at n (Broken p) e c = let z : ⊥ = omega (arith, broken-fault s n p) in absurd z
-clean-fill-at w s t at n (Open p) e c = let z : ⊥ = omega (arith, open-fault s n p) in absurd z
-clean-fill-at w s t at n (Whole x) e c = record { lexeme = x; next-is = refl; reads = e; clean = c; table = refl }
+clean-fill-at w s t at n (Ok None) e c = record { reads = e; clean = c; table = refl }
+clean-fill-at w s t at n (Err (Lone p)) e c = let z : ⊥ = omega (arith, lone-fault s n p) in absurd z
+clean-fill-at w s t at n (Err (Broken p)) e c = let z : ⊥ = omega (arith, broken-fault s n p) in absurd z
+clean-fill-at w s t at n (Err (Open p)) e c = let z : ⊥ = omega (arith, open-fault s n p) in absurd z
+clean-fill-at w s t at n (Ok (Some x)) e c = record { lexeme = x; next-is = refl; reads = e; clean = c; table = refl }
 
 any-fill-at : (w : Width) (s t : List ℕ) (at n : ℕ) (r : Reading) → r ≡ next_read w s at → FillFacts w s t at n (fill_reading w s t n r)
 unfolding fill_reading
@@ -258,7 +248,7 @@ unfolding fill_at
 fill-at-facts w s t at n x t' e = subst (FillFacts w s t at n) (sym e) (any-fill-at w s t at n (next_read w s at) refl)
 
 module _ (w : Width) (s t : List ℕ) (at n : ℕ) (x : FillStep) (t' : List ℕ) (h : Lexing w s t at n) (e : filled x t' ≡ fill_at w s t n at) where
-  more-facts : (next : ℕ) → x ≡ fill_step.More next → Grown w s t at n next t'
+  more-facts : (next : ℕ) → x ≡ Ok (Some next) → Grown w s t at n next t'
   more-facts next q = subst (FillFactsBy w s t at n t') q (fill-at-facts w s t at n x t' e)
 
   grown-in : (next : ℕ) (g : Grown w s t at n next t') → LexemeIn s (gap_end s at) g.lexeme
@@ -273,7 +263,7 @@ module _ (w : Width) (s t : List ℕ) (at n : ℕ) (x : FillStep) (t' : List ℕ
       let o : at ≤ gap_end s at = (gap-in s at).0.0 in
       (omega (arith, g.next-is, i.ahead), omega (arith, g.next-is, i.within))
 
-  pub lexing-less : (next : ℕ) → x ≡ fill_step.More next → length s - next < length s - at
+  pub lexing-less : (next : ℕ) → x ≡ Ok (Some next) → length s - next < length s - at
   lexing-less next q = let a : (at < next) × (next ≤ length s) = grown-ahead next (more-facts next q) in omega (arith, a.0, a.1)
 
   grow : (next : ℕ) → Grown w s t at n next t' → Lexing w s t' next (n + 1)
@@ -292,23 +282,23 @@ module _ (w : Width) (s t : List ℕ) (at n : ℕ) (x : FillStep) (t' : List ℕ
         within = a.1;
         rows = ap (take ((n + 1) * 8)) g.table ∙ taken-put t n (row_from w s t n g.lexeme) m ∙ ap₂ ◌++◌ h.rows (row_is w s t n (gap_end s at) h.tokens g.lexeme i h.rows h.count h.spelt) ∙ sym (rows_more h.tokens (token_of w s h.tokens g.lexeme));
         spelt = every_more (Spelt s) h.tokens (token_of w s h.tokens g.lexeme) h.spelt (spelt_is w s t n (gap_end s at) h.tokens g.lexeme i h.rows h.count h.spelt);
-        runs = runs-go _ _ _ _ _ (length s - at) _ h.runs (step-good w s at n h.tokens (Whole g.lexeme) g.reads h.count g.clean ∙ ap (λ (j : ℕ). go (state j (h.tokens ++ (token_of w s h.tokens g.lexeme ∷ [])))) (sym g.next-is)) (omega (arith, a.0, a.1));
+        runs = runs-go _ _ _ _ _ (length s - at) _ h.runs (step-good w s at n h.tokens (Ok (Some g.lexeme)) g.reads h.count g.clean ∙ ap (λ (j : ℕ). go (state j (h.tokens ++ (token_of w s h.tokens g.lexeme ∷ [])))) (sym g.next-is)) (omega (arith, a.0, a.1));
       }
 
-  pub lexing-more : (next : ℕ) → x ≡ fill_step.More next → Lexing w s t' next (n + 1)
+  pub lexing-more : (next : ℕ) → x ≡ Ok (Some next) → Lexing w s t' next (n + 1)
   lexing-more next q = grow next (more-facts next q)
 
   -- the end: accepted
-  end-facts : x ≡ fill_step.Done → Ended w s t at n t'
+  end-facts : x ≡ Ok None → Ended w s t at n t'
   end-facts q = subst (FillFactsBy w s t at n t') q (fill-at-facts w s t at n x t' e)
 
   end_is : Ended w s t at n t' → accepted h.tokens ≡ tokens_from w s (state 0 [])
   unfolding token_step
-  end_is d = runs-stop _ _ _ _ _ _ h.runs (step-good w s at n h.tokens End d.reads h.count d.clean)
+  end_is d = runs-stop _ _ _ _ _ _ h.runs (step-good w s at n h.tokens (Ok None) d.reads h.count d.clean)
 
-  pub done-answer : x ≡ fill_step.Done → Tokens n ≡ answer_of (tokens_from w s (state 0 []))
+  pub done-answer : x ≡ Ok None → Ok n ≡ answer_of (tokens_from w s (state 0 []))
   unfolding answer_of
-  done-answer q = ap Tokens h.count ∙ ap answer_of (end_is (end-facts q))
+  done-answer q = ap (λ (m : ℕ). Ok m) h.count ∙ ap answer_of (end_is (end-facts q))
 
   table_is : Ended w s t at n t' → cleared_from t' (n * 8) ≡ token_table h.tokens
   unfolding cleared_from token_table
@@ -317,12 +307,12 @@ module _ (w : Width) (s t : List ℕ) (at n : ℕ) (x : FillStep) (t' : List ℕ
       ∙ ap₂ (λ (l : List ℕ) (j : ℕ). l ++ zeros j) h.rows
       (ap₂ ◌-◌ h.long (ap (λ (j : ℕ). j * 8) h.count ∙ sym (length-rows h.tokens)))
 
-  pub done-table : (t'' : List ℕ) → x ≡ fill_step.Done → t'' ≡ cleared_from t' (n * 8) → t'' ≡ table_of (tokens_from w s (state 0 []))
+  pub done-table : (t'' : List ℕ) → x ≡ Ok None → t'' ≡ cleared_from t' (n * 8) → t'' ≡ table_of (tokens_from w s (state 0 []))
   unfolding table_of
   done-table t'' q f = f ∙ table_is (end-facts q) ∙ ap table_of (end_is (end-facts q))
 
   -- a fault: refused
-  fault-facts : (k : ℕ) → x ≡ fill_step.Fault k → Failed w s t at n k t'
+  fault-facts : (k : ℕ) → x ≡ Err k → Failed w s t at n k t'
   fault-facts k q = subst (FillFactsBy w s t at n t') q (fill-at-facts w s t at n x t' e)
 
   fault-is : (k : ℕ) → Failed w s t at n k t' → refused k ≡ tokens_from w s (state 0 [])
@@ -330,7 +320,7 @@ module _ (w : Width) (s t : List ℕ) (at n : ℕ) (x : FillStep) (t' : List ℕ
       ap refused d.key-is
       ∙ runs-stop _ _ _ _ _ _ h.runs (step-fault w s at n h.tokens d.reading d.reads h.count (subst (λ (i : ℕ). i < none) d.key-is d.fault))
 
-  pub fault-answer : (k : ℕ) → x ≡ fill_step.Fault k → Refused (k % 64) (k / 64) ≡ answer_of (tokens_from w s (state 0 []))
+  pub fault-answer : (k : ℕ) → x ≡ Err k → Err (record { number = k % 64; place = k / 64 }) ≡ answer_of (tokens_from w s (state 0 []))
   unfolding answer_of
   fault-answer k q = ap answer_of (fault-is k (fault-facts k q))
 
@@ -339,7 +329,7 @@ module _ (w : Width) (s t : List ℕ) (at n : ℕ) (x : FillStep) (t' : List ℕ
   empty-is k d =
       let z : length t' - 0 ≡ 32768 = omega (arith, ap length d.table, h.long) in ap zeros z
 
-  pub fault-table : (k : ℕ) (t'' : List ℕ) → x ≡ fill_step.Fault k → t'' ≡ cleared_from t' 0 → t'' ≡ table_of (tokens_from w s (state 0 []))
+  pub fault-table : (k : ℕ) (t'' : List ℕ) → x ≡ Err k → t'' ≡ cleared_from t' 0 → t'' ≡ table_of (tokens_from w s (state 0 []))
   unfolding table_of
   fault-table k t'' q f = f ∙ empty-is k (fault-facts k q) ∙ ap table_of (fault-is k (fault-facts k q))
 
@@ -359,7 +349,7 @@ module _ (w : Width) (s : List ℕ) where
   unfolding lex_of
   short-is h = if_lt-no _ _ h
 
-  pub long-answer : (r : Lexed) → 16384 < length s → r ≡ Refused 1 16384 → r ≡ answer_of (lex_of w s)
+  pub long-answer : (r : Lexed) → 16384 < length s → r ≡ Err (record { number = 1; place = 16384 }) → r ≡ answer_of (lex_of w s)
   unfolding answer_of key
   long-answer r h e = e ∙ ap answer_of (sym (long-is h))
 

@@ -1,9 +1,9 @@
 -- The loop of `find_name`.
 -- Assumes nothing.
-use mathlib.Core.Path.{◌≡◌, refl, sym, ◌∙◌, ap, subst}
+use mathlib.Core.Path.{◌≡◌, refl, sym, ◌∙◌, ap}
 use mathlib.Core.Bool.{Bool, true, false}
-use mathlib.Core.List.{List, [], ◌∷◌}
-use Prim.Native.Nat.{ℕ, zero, suc, ◌+◌, ◌*◌, ◌-◌, ◌≤◌, ◌<◌}
+use mathlib.Core.List.{List}
+use Prim.Native.Nat.{ℕ, zero, suc, ◌+◌, ◌-◌, ◌≤◌, ◌<◌}
 use native.Mathlib.Omega.{arith}
 use Rattle.base_prelude.specs.Choice.{if_true}
 use Rattle.base_prelude.proofs.Choice.{if_true-yes, if_true-no, either_true}
@@ -42,10 +42,11 @@ module _ (s t : List ℕ) (n hash start : ℕ) where
           rest = sym (ap (λ (m : ℕ). find_within m s t k hash start) q ∙ step_is k (n - (k + 1)) ∙ if_true-no _ _ (sym p ∙ e)) ∙ h.rest;
         }
 
-    pub finding-none : Finding s t n hash start k → n ≤ k → k ≡ find_name s t n hash start
+    pub finding-none : Finding s t n hash start k → n ≤ k → n ≡ find_name s t n hash start
     finding-none h l =
         let q : n - k ≡ 0 = omega arith in
-        sym (ap (λ (m : ℕ). find_within m s t k hash start) q ∙ none_is k) ∙ h.rest
+        let e : n ≡ k = omega (arith, h.below) in
+        e ∙ sym (ap (λ (m : ℕ). find_within m s t k hash start) q ∙ none_is k) ∙ h.rest
 
 pub ruleset finding = (finding-start, finding-here, finding-more, finding-none)
 

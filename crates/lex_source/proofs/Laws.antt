@@ -12,10 +12,9 @@ use native.Mathlib.Omega.{arith}
 use lib.Dec.{T}
 use lib.ListN.{length, get_or, length-append, get_or-append}
 use lib.Seq.{get_or_at, get_or-append-add}
-use Rattle.base_prelude.specs.Choice.{if_lt, if_true}
-use Rattle.base_prelude.specs.Fault.{none, key}
-use Rattle.base_prelude.specs.Lists.{same_list, zeros}
-use Rattle.base_prelude.specs.Walk.{Step, go, stop, walk}
+use Rattle.base_prelude.specs.Choice.{if_true}
+use Rattle.base_prelude.specs.Fault.{none}
+use Rattle.base_prelude.specs.Lists.{zeros}
 use Rattle.base_prelude.proofs.Choice.{either, either_true, if_true-yes, if_true-no, true-false}
 use Rattle.base_prelude.proofs.Lists.{same-is, same_refl}
 use Rattle.base_prelude.proofs.Walk.{Kept, walk_kept}
@@ -23,10 +22,9 @@ use Rattle.base_limits.specs.Limits.{token_words}
 use Rattle.base_limits.specs.declared.Width.{Width}
 use Rattle.lex_spelling.specs.Text.{name_at}
 use Rattle.lex_lexeme.specs.Gap.{gap_end}
-use Rattle.lex_lexeme.specs.Reading.{is_named, name_start, text_of, next_read}
+use Rattle.lex_lexeme.specs.Reading.{Reading, is_named, name_start, next_read}
 use Rattle.lex_lexeme.specs.declared.Lexeme.{Lexeme}
-use Rattle.lex_lexeme.specs.declared.Reading.{Reading}
-use Rattle.lex_lexeme.specs.declared.Reading.TheVariants.{End, Lone, Broken, Open, Whole}
+use Rattle.lex_lexeme.specs.declared.TokenError.TheVariants.{Lone, Broken, Open}
 use Rattle.lex_lexeme.proofs.Gaps.{gap-in}
 use Rattle.lex_lexeme.proofs.Within.{LexemeIn, ReadingIn, next-in, text-named}
 use Rattle.lex_source.specs.Token.{Token, has_name, first_from, name_number, token_of}
@@ -35,7 +33,8 @@ use Rattle.lex_source.specs.Lex.{State, state, Outcome, accepted, refused, token
 use Rattle.lex_source.specs.Rows.{row_of, rows_of, token_table}
 use Rattle.lex_source.proofs.Rows.{length-rows, row_read}
 use Rattle.lex_source.proofs.Least.{whole-clean, clean-limit, clean-length}
-use Rattle.lex_source.proofs.Tokens.{no_token, Every, every_more, every-at}
+use Rattle.lex_source.proofs.Tokens.{no_token, Every, every_more}
+use Rattle.std.proofs.Common.{Some, None, Ok, Err}
 
 -- the first token with a name
 module _ (text : List ℕ) where
@@ -191,7 +190,7 @@ more-rising ts x at h a b = (λ k l. step k l (old-or-new ts x (k + 1) l), λ k 
     last k (inl g) = let z : (get_or ts k no_token).next ≤ at = h.1 k g in omega (arith, ap (λ (t : Token). t.next) (get_d-old ts x k g))
     last k (inr g) = omega (arith, ap (λ (t : Token). t.next) (get_d-new ts x k g))
 
-module _ (w : Width) (s : List ℕ) (ts : List Token) (at : ℕ) (x : Lexeme) (h : Good s ts at) (i : LexemeIn s (gap_end s at) x) (c : none ≤ fault_of s (length ts) (Whole x)) where
+module _ (w : Width) (s : List ℕ) (ts : List Token) (at : ℕ) (x : Lexeme) (h : Good s ts at) (i : LexemeIn s (gap_end s at) x) (c : none ≤ fault_of s (length ts) (Ok (Some x))) where
   clean : (none ≤ range_fault x) × (none ≤ length_fault x) × (none ≤ limit_fault (length ts) x.first) × (none ≤ follow_fault s x)
   clean = whole-clean s (length ts) x c
 
@@ -248,11 +247,11 @@ weaken s ts at h =
 token-kept : (w : Width) (s : List ℕ) (q : State) (r : Reading) → GoodState s q → ReadingIn s (gap_end s q.at) r → none ≤ fault_of s (length q.tokens) r
     → Kept (GoodState s) (GoodOutcome s) (token_step w s q r)
 unfolding token_step
-token-kept w s q End h i c = weaken s q.tokens q.at h
-token-kept w s q (Lone p) h i c = tt
-token-kept w s q (Broken p) h i c = tt
-token-kept w s q (Open p) h i c = tt
-token-kept w s q (Whole x) h i c = good_more w s q.tokens q.at x h i c
+token-kept w s q (Ok None) h i c = weaken s q.tokens q.at h
+token-kept w s q (Err (Lone p)) h i c = tt
+token-kept w s q (Err (Broken p)) h i c = tt
+token-kept w s q (Err (Open p)) h i c = tt
+token-kept w s q (Ok (Some x)) h i c = good_more w s q.tokens q.at x h i c
 
 step_kept : (w : Width) (s : List ℕ) (q : State) → GoodState s q → Kept (GoodState s) (GoodOutcome s) (lex_step w s q)
 unfolding lex_step read_step

@@ -6,3 +6,4 @@ pub mod Tokens
 pub mod Filling
 pub mod Laws
 pub mod Examples
+pub mod Nested

@@ -3,16 +3,15 @@
 use mathlib.Core.Path.{◌≡◌, refl, sym, ◌∙◌, ap, subst}
 use mathlib.Core.Bool.{Bool, true, false}
 use mathlib.Core.List.{List, [], ◌∷◌, ◌++◌}
-use Prim.Native.Nat.{ℕ, zero, suc, ◌+◌, ◌*◌, ◌-◌, ◌≤◌, ◌<◌}
+use Prim.Native.Nat.{ℕ, zero, suc, ◌+◌, ◌*◌, ◌<◌}
 use native.Mathlib.Nat.{le_of_suc-le-suc, not-suc-le-zero}
-use native.Mathlib.Numerals.{add-one}
 use native.Mathlib.Omega.{arith}
 use lib.Dec.{T}
-use lib.ListN.{length, get_or, take, length-append}
+use lib.ListN.{length, get_or, take}
 use Rattle.base_prelude.specs.Choice.{if_eq, if_true}
 use Rattle.base_prelude.specs.Lists.{same_list}
-use Rattle.base_prelude.proofs.Choice.{either-eq, either_true, if_true-yes, if_true-no, if_eq-yes, if_eq-no, true-false}
-use Rattle.base_prelude.proofs.Lists.{same-is, same_refl}
+use Rattle.base_prelude.proofs.Choice.{either-eq, if_true-yes, if_true-no}
+use Rattle.base_prelude.proofs.Lists.{same-is}
 use Rattle.lex_spelling.specs.Text.{name_at, hash_of}
 use Rattle.lex_lexeme.specs.Reading.{is_named, name_start}
 use Rattle.lex_source.specs.Token.{Token, has_name, first_from, name_number}

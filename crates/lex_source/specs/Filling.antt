@@ -1,7 +1,7 @@
 -- How the code fills the table: a name is looked for in the rows written so far. proofs/Filling shows that the rows are those of
 -- specs/Lex.
 -- Assumes nothing.
-use Rattle.std.specs.Prelude.{ℕ, zero, suc, ◌+◌, ◌*◌, Bool, true, false, List, [], ◌∷◌, ◌++◌, length, get_or, take, drop}
+use Rattle.std.specs.Prelude.{Option, Some, None, Result, Ok, Err, ℕ, zero, suc, ◌+◌, ◌*◌, Bool, false, List, [], ◌∷◌, ◌++◌, get_or, take, drop}
 use Rattle.base_prelude.specs.Choice.{if_lt, if_eq, if_true}
 use Rattle.base_prelude.specs.Fault.{none}
 use Rattle.base_prelude.specs.Lists.{same_list}
@@ -11,15 +11,12 @@ use Rattle.lang_kinds.specs.TokenRow as field
 use Rattle.lang_words.specs.Sections.{known_of}
 use Rattle.lang_words.specs.Substitutes.{substitute_of}
 use Rattle.lex_spelling.specs.Text.{name_at}
-use Rattle.lex_lexeme.specs.Reading.{is_named, name_start, next_read}
+use Rattle.lex_lexeme.specs.Reading.{Reading, is_named, name_start, next_read}
 use Rattle.lex_lexeme.specs.declared.Lexeme.{Lexeme}
-use Rattle.lex_lexeme.specs.declared.Reading.{Reading}
-use Rattle.lex_lexeme.specs.declared.Reading.TheVariants.{End, Lone, Broken, Open, Whole}
+use Rattle.lex_lexeme.specs.declared.TokenError.TheVariants.{Lone, Broken, Open}
 use Rattle.lex_source.specs.Token.{is_substitute, token_value}
 use Rattle.lex_source.specs.Faults.{fault_of}
 use Rattle.lex_source.specs.declared.Row.{Row}
-use Rattle.lex_source.specs.declared.FillStep.{FillStep}
-use Rattle.lex_source.specs.declared.FillStep.TheVariants as fill_step
 
 -- whether the token of row k has the name that starts at a place; the hash is compared first
 unfoldable pub row_named : List ℕ → List ℕ → ℕ → ℕ → ℕ → Bool
@@ -70,6 +67,10 @@ words_of r = r.kind ∷ r.first ∷ r.next ∷ r.value ∷ r.name ∷ r.word ∷
 unfoldable pub put_row : List ℕ → ℕ → Row → List ℕ
 put_row t n r = take (n * token_row) t ++ words_of r ++ drop (n * token_row + token_row) t
 
+-- what reading one token comes to: the place behind it, nothing at the end, or a fault
+abbrev pub FillStep : Type 0
+FillStep = Result (Option ℕ) ℕ
+
 -- what reading one token comes to, and the table then
 pub record Filled : Type 0 where
   pub fill_step : FillStep
@@ -79,14 +80,14 @@ abbrev pub filled : FillStep → List ℕ → Filled
 filled x t = record { fill_step = x; table = t }
 
 unfoldable pub fill_by : Width → List ℕ → List ℕ → ℕ → Reading → Filled
-fill_by w s t n End = filled fill_step.Done t
-fill_by w s t n (Lone p) = filled (fill_step.Fault none) t
-fill_by w s t n (Broken p) = filled (fill_step.Fault none) t
-fill_by w s t n (Open p) = filled (fill_step.Fault none) t
-fill_by w s t n (Whole x) = filled (fill_step.More x.next) (put_row t n (row_from w s t n x))
+fill_by w s t n (Ok None) = filled (Ok None) t
+fill_by w s t n (Err (Lone p)) = filled (Err none) t
+fill_by w s t n (Err (Broken p)) = filled (Err none) t
+fill_by w s t n (Err (Open p)) = filled (Err none) t
+fill_by w s t n (Ok (Some x)) = filled (Ok (Some x.next)) (put_row t n (row_from w s t n x))
 
 unfoldable pub fill_reading : Width → List ℕ → List ℕ → ℕ → Reading → Filled
-fill_reading w s t n r = if_lt (fault_of s n r) none (filled (fill_step.Fault (fault_of s n r)) t) (fill_by w s t n r)
+fill_reading w s t n r = if_lt (fault_of s n r) none (filled (Err (fault_of s n r)) t) (fill_by w s t n r)
 
 unfoldable pub fill_at : Width → List ℕ → List ℕ → ℕ → ℕ → Filled
 fill_at w s t n at = fill_reading w s t n (next_read w s at)

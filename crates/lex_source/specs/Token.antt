@@ -1,7 +1,7 @@
 -- A token: what is known of it, and its row in the token table.
 -- Assumes nothing.
-use Rattle.std.specs.Prelude.{ℕ, ◌+◌, ◌*◌, Bool, true, false, List, [], ◌∷◌, ◌++◌, length}
-use Rattle.base_prelude.specs.Choice.{if_lt, if_eq, if_true}
+use Rattle.std.specs.Prelude.{ℕ, ◌+◌, Bool, true, false, List, [], ◌∷◌, length}
+use Rattle.base_prelude.specs.Choice.{if_eq, if_true}
 use Rattle.base_prelude.specs.Lists.{same_list}
 use Rattle.base_limits.specs.Width.{bits_of, bytes_of}
 use Rattle.base_limits.specs.declared.Width.{Width}
@@ -9,7 +9,7 @@ use Rattle.lang_kinds.specs.Tokens as token
 use Rattle.lang_words.specs.Substitutes as substitute
 use Rattle.lang_words.specs.Sections.{known_of}
 use Rattle.lang_words.specs.Substitutes.{substitute_of}
-use Rattle.lex_lexeme.specs.Reading.{is_named, name_start, text_of}
+use Rattle.lex_lexeme.specs.Reading.{is_named, text_of}
 use Rattle.lex_lexeme.specs.declared.Lexeme.{Lexeme}
 
 -- kind, first byte, next byte; an integer's word or a text's size; the decoded text; the name's number; the word's number

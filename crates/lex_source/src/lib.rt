@@ -1,7 +1,7 @@
 // Source bytes to the token table.
 #![tactic(auto)]
 
-ghost use Rattle.std.specs.Prelude.{◌≡◌, ◌+◌, ◌*◌, ◌≤◌, ◌<◌, ◌-◌, min, length, take, []};
+ghost use Rattle.std.specs.Prelude.{◌≡◌, ◌+◌, ◌*◌, ◌≤◌, ◌<◌, ◌-◌, min, length, take, [], Err};
 ghost use Rattle.base_limits.specs.Limits as limits;
 ghost use Rattle.base_prelude.specs.Fault.{none};
 ghost use Rattle.lex_spelling.specs.Text.{name_at, hash_of};
@@ -13,17 +13,10 @@ ghost use Rattle.base_limits.specs.Limits.{token_row};
 ghost use Rattle.lex_source.specs.Fits.{LexemeFits, ReadingFits};
 ghost use Rattle.lex_source.specs.Lex.{lex_of, tokens_from, state, answer_of, table_of};
 
-use base_limits::{Machine, Width};
+use base_limits::{Machine, Refusal, Width};
 use lang_kinds::{Token, TokenRow};
 use lang_words::Substitutes;
-use lex_lexeme::{Lexeme, Reading};
-
-// The number of tokens, or a refusal's number and place.
-#[derive(Drop)]
-pub enum Lexed {
-    Tokens(usize),
-    Refused { number: u32, place: usize },
-}
+use lex_lexeme::{Lexeme, TokenError};
 
 // A token row without its last word.
 #[derive(Drop)]
@@ -37,37 +30,21 @@ pub struct Row {
     pub hash: u32,
 }
 
-// What reading one token comes to: a token more, with the place behind it; the end; or a fault.
-#[derive(Drop)]
-pub enum FillStep {
-    More(usize),
-    Done,
-    Fault(u64),
-}
-
 // Under a `%`.
 pub fn is_substitute(kind: u32) -> bool
     ensures { result ≡ is_substitute kind }
 {
-    if kind == Token::SUBSTITUTE {
-        return true;
-    }
-    if kind == Token::AT_SUBSTITUTE {
-        return true;
-    }
-    false
+    matches!(kind, Token::SUBSTITUTE | Token::AT_SUBSTITUTE)
 }
 
 fn substitute_value(w: Width, k: u32) -> u32
     ensures { result ≡ substitute_value w k }
 {
-    if k == Substitutes::BITS_PER_WORD {
-        return base_limits::bits_of(w);
+    match k {
+        Substitutes::BITS_PER_WORD => base_limits::bits_of(w),
+        Substitutes::BYTES_PER_WORD => base_limits::bytes_of(w),
+        _ => 0,
     }
-    if k == Substitutes::BYTES_PER_WORD {
-        return base_limits::bytes_of(w);
-    }
-    0
 }
 
 fn value_of(w: Width, kind: u32, value: u32, size: usize, word: u32) -> u32
@@ -77,13 +54,10 @@ fn value_of(w: Width, kind: u32, value: u32, size: usize, word: u32) -> u32
     if is_substitute(kind) {
         return substitute_value(w, word);
     }
-    if kind == Token::INTEGER {
-        return value;
+    match kind {
+        Token::INTEGER | Token::AT_INTEGER => value,
+        _ => size as u32,
     }
-    if kind == Token::AT_INTEGER {
-        return value;
-    }
-    size as u32
 }
 
 fn range_fault(x: Lexeme) -> u64
@@ -98,11 +72,8 @@ fn range_fault(x: Lexeme) -> u64
 fn length_fault(x: Lexeme) -> u64
     ensures { result ≡ length_fault x }
 {
-    if lex_lexeme::is_named(x.kind) {
-        if Machine::NAME_BYTES < x.size {
-            return base_prelude::fault(x.first, 6);
-        }
-        return 1099511627776;
+    if lex_lexeme::is_named(x.kind) && Machine::NAME_BYTES < x.size {
+        return base_prelude::fault(x.first, 6);
     }
     1099511627776
 }
@@ -119,33 +90,29 @@ fn limit_fault(n: usize, place: usize) -> u64
 fn follow_fault(s: &[u8], x: Lexeme) -> u64
     ensures { result ≡ follow_fault s.now x }
 {
-    if x.kind < Token::SYMBOL {
+    if x.kind < Token::SYMBOL || lex_spelling::is_separator(base_prelude::byte_at(s, x.next)) {
         return 1099511627776;
     }
-    let next = x.next;
-    if lex_spelling::is_separator(base_prelude::byte_at(s, next)) {
-        return 1099511627776;
-    }
-    base_prelude::fault(next, 2)
+    base_prelude::fault(x.next, 2)
 }
 
 fn token_fault(s: &[u8], n: usize, x: Lexeme) -> u64
     ensures { result ≡ min (range_fault x) (min (length_fault x) (min (limit_fault n x.first) (follow_fault s.now x))) }
 {
-    let last = base_prelude::least(limit_fault(n, x.first), follow_fault(s, x));
-    base_prelude::least(range_fault(x), base_prelude::least(length_fault(x), last))
+    let last = limit_fault(n, x.first).min(follow_fault(s, x));
+    range_fault(x).min(length_fault(x).min(last))
 }
 
 // The least fault of what is read behind n tokens.
-fn fault_of(s: &[u8], n: usize, r: Reading) -> u64
+fn fault_of(s: &[u8], n: usize, r: Result<Option<Lexeme>, TokenError>) -> u64
     ensures { result ≡ fault_of s.now n r }
 {
     match r {
-        Reading::End => 1099511627776,
-        Reading::Lone(p) => base_prelude::fault(p, 2),
-        Reading::Broken(p) => base_prelude::fault(p, 3),
-        Reading::Open(p) => base_prelude::least(base_prelude::fault(p, 4), limit_fault(n, p)),
-        Reading::Whole(x) => token_fault(s, n, x),
+        Ok(None) => 1099511627776,
+        Ok(Some(x)) => token_fault(s, n, x),
+        Err(TokenError::Lone(p)) => base_prelude::fault(p, 2),
+        Err(TokenError::Broken(p)) => base_prelude::fault(p, 3),
+        Err(TokenError::Open(p)) => base_prelude::fault(p, 4).min(limit_fault(n, p)),
     }
 }
 
@@ -173,14 +140,12 @@ fn find_name(s: &[u8], t: &[u32], n: usize, hash: u32, start: usize) -> usize
     requires { n * token_row ≤ length t.now }
     ensures { result ≡ find_name s.now t.now n hash start }
 {
-    let mut k: usize = 0;
-    while k < n {
+    for k in 0..n {
         if row_named(s, t, k, hash, start) {
             return k;
         }
-        k += 1;
     }
-    k
+    n
 }
 
 fn lookup_in(kind: u32, name: &[u8]) -> u32
@@ -259,74 +224,80 @@ fn add_token(w: Width, s: &[u8], t: &mut [u32], n: usize, x: Lexeme)
     put_row(t, n, r);
 }
 
-fn fill(w: Width, s: &[u8], t: &mut [u32], n: usize, r: Reading) -> FillStep
+// Adds the token that is read, where one is: the place behind it, none at the source's end, or a fault.
+fn fill(
+    w: Width,
+    s: &[u8],
+    t: &mut [u32],
+    n: usize,
+    r: Result<Option<Lexeme>, TokenError>,
+) -> Result<Option<usize>, u64>
     requires { ReadingFits s.now t.old n r }
     ensures { filled result t.new ≡ fill_by w s.now t.old n r }
 {
     match r {
-        Reading::End => FillStep::Done,
-        Reading::Lone(_) => FillStep::Fault(1099511627776),
-        Reading::Broken(_) => FillStep::Fault(1099511627776),
-        Reading::Open(_) => FillStep::Fault(1099511627776),
-        Reading::Whole(x) => {
+        Ok(None) => Ok(None),
+        Ok(Some(x)) => {
             add_token(w, s, t, n, x);
-            FillStep::More(x.next)
+            Ok(Some(x.next))
         }
+        Err(_) => Err(1099511627776),
     }
 }
 
-fn fill_at(w: Width, s: &[u8], t: &mut [u32], n: usize, at: usize) -> FillStep
+fn fill_at(w: Width, s: &[u8], t: &mut [u32], n: usize, at: usize) -> Result<Option<usize>, u64>
     requires { (length s.now ≤ limits.source_bytes) × (length t.old ≡ limits.token_words) × (n ≤ limits.tokens) × (at ≤ length s.now) }
     ensures { filled result t.new ≡ fill_at w s.now t.old n at }
 {
     let r = lex_lexeme::next_token(w, s, at);
     let k = fault_of(s, n, r);
     if k < 1099511627776 {
-        return FillStep::Fault(k);
+        return Err(k);
     }
     fill(w, s, t, n, r)
 }
 
-fn lex_from(w: Width, s: &[u8], t: &mut [u32]) -> Lexed
+fn lex_from(w: Width, s: &[u8], t: &mut [u32]) -> Result<usize, Refusal>
     requires { (length s.now ≤ limits.source_bytes) × (length t.old ≡ limits.token_words) }
     ensures value { result ≡ answer_of (tokens_from w s.now (state 0 [])) }
     ensures t_after { t.new ≡ table_of (tokens_from w s.now (state 0 [])) }
 {
     let mut at: usize = 0;
     let mut n: usize = 0;
+    // By index: a step leads behind a token, and n is the answer.
     loop {
         match fill_at(w, s, t, n, at) {
-            FillStep::More(next) => {
+            Ok(Some(next)) => {
                 n += 1;
                 at = next;
             }
-            FillStep::Done => {
+            Ok(None) => {
                 base_prelude::clear_from(t, n * Machine::TOKEN_ROW);
-                return Lexed::Tokens(n);
+                return Ok(n);
             }
-            FillStep::Fault(k) => {
+            Err(k) => {
                 base_prelude::clear_from(t, 0);
-                return Lexed::Refused {
+                return Err(Refusal {
                     number: (k % 64) as u32,
                     place: (k / 64) as usize,
-                };
+                });
             }
         }
     }
 }
 
-fn refuse_long(t: &mut [u32]) -> Lexed
-    ensures { (result ≡ Lexed.Refused 1 limits.source_bytes) × (t.new ≡ zeros (length t.old)) }
+fn refuse_long(t: &mut [u32]) -> Result<usize, Refusal>
+    ensures { (result ≡ Err (record { number = 1; place = limits.source_bytes })) × (t.new ≡ zeros (length t.old)) }
 {
     base_prelude::clear_from(t, 0);
-    Lexed::Refused {
+    Err(Refusal {
         number: 1,
         place: Machine::SOURCE_BYTES,
-    }
+    })
 }
 
 // The tokens of a source into the token table: rows, then zeros; all zeros on a refusal.
-pub fn lex(w: Width, s: &[u8], t: &mut [u32; Machine::TOKEN_WORDS]) -> Lexed
+pub fn lex(w: Width, s: &[u8], t: &mut [u32; Machine::TOKEN_WORDS]) -> Result<usize, Refusal>
     ensures value { result ≡ answer_of (lex_of w s.now) }
     ensures t_after { t.new ≡ table_of (lex_of w s.now) }
 {

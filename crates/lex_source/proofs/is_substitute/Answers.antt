@@ -1,18 +1,14 @@
 use Rattle.base_prelude.proofs.Choice.{tests}
+use borrow.Author.Rules.{rules}
 use Rattle.lex_source.specs.Token.{is_substitute}
 use Rattle.lex_source.proofs.is_substitute.Goals as goal
 
-pub returns-then-kind-eq-SUBSTITUTE : goal.returns-then-kind-eq-SUBSTITUTE
+pub returns-in-4 : goal.returns-in-4
 unfolding is_substitute
-returns-then-kind-eq-SUBSTITUTE c =
-    search tests
+returns-in-4 c =
+    search (tests, rules)
 
-pub returns-then-kind-eq-AT_SUBSTITUTE : goal.returns-then-kind-eq-AT_SUBSTITUTE
+pub returns-in_default : goal.returns-in_default
 unfolding is_substitute
-returns-then-kind-eq-AT_SUBSTITUTE c =
-    search tests
-
-pub returns : goal.returns
-unfolding is_substitute
-returns c =
-    search tests
+returns-in_default c =
+    search (tests, rules)
