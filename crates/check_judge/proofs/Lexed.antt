@@ -10,9 +10,9 @@ use lib.ListN.{length, length-replicate}
 use Rattle.base_limits.specs.declared.Width.{Width}
 use Rattle.lex_source.specs.Token.{Token}
 use Rattle.lex_source.specs.Rows.{token_table}
-use Rattle.lex_source.specs.Lex.{Outcome, accepted, refused, lex_of, answer_of, table_of}
-use Rattle.lex_source.specs.declared.Lexed.{Lexed}
-use Rattle.lex_source.specs.declared.Lexed.TheVariants as lexed
+use Rattle.lex_source.specs.Lex.{Lexed, Outcome, accepted, refused, lex_of, answer_of, table_of}
+use Rattle.std.proofs.Common.{Ok, Err}
+use Rattle.base_limits.specs.declared.Refusal.{Refusal}
 use Rattle.lex_source.proofs.Laws.{accepted-good}
 use Rattle.res_scope.specs.Names.{same_number}
 use Rattle.parse_verdict.proofs.Lexed.{lexed-long}
@@ -29,13 +29,13 @@ record Tokens (w : Width) (s t : List ℕ) (n : ℕ) : Type 0 where
   count : n ≡ length tokens
   table : t ≡ token_table tokens
 
-not-tokens : (number place n : ℕ) → lexed.Refused number place ≡ lexed.Tokens n → ⊥
-not-tokens number place n e = let z : ◌≡◌ {A = ℕ} 0 1 = cc in omega arith
+not-tokens : (d : Refusal) (n : ℕ) → ◌≡◌ {A = Lexed} (Err d) (Ok n) → ⊥
+not-tokens d n e = let z : ◌≡◌ {A = ℕ} 0 1 = cc in omega arith
 
-tokens-by : (w : Width) (s t : List ℕ) (n : ℕ) (o : Outcome) → lex_of w s ≡ o → lexed.Tokens n ≡ answer_of o → t ≡ table_of o → Tokens w s t n
+tokens-by : (w : Width) (s t : List ℕ) (n : ℕ) (o : Outcome) → lex_of w s ≡ o → Ok n ≡ answer_of o → t ≡ table_of o → Tokens w s t n
 unfolding answer_of table_of
 tokens-by w s t n (accepted ts) e q p = record { tokens = ts; lexes = e; count = cc; table = p }
-tokens-by w s t n (refused k) e q p = absurd (not-tokens _ _ n (sym q))
+tokens-by w s t n (refused k) e q p = absurd (not-tokens _ n (sym q))
 
 lexed-size : (w : Width) (s : List ℕ) (o : Outcome) → lex_of w s ≡ o → length (table_of o) ≡ 32768
 unfolding table_of
@@ -49,7 +49,7 @@ token-long words names w s t v n p d =
     ap length d ∙ hosted-long (host_list words names) s n t ∙ ap length p ∙ lexed-size w s (lex_of w s) refl
 
 module _ (words names : List ℕ) (w : Width) (s t : List ℕ) (r : Lexed) (q : r ≡ answer_of (lex_of w s)) (p : t ≡ table_of (lex_of w s)) where
-  module _ (n : ℕ) (e : r ≡ lexed.Tokens n) where
+  module _ (n : ℕ) (e : r ≡ Ok n) where
     known : Tokens w s t n
     known = tokens-by w s t n (lex_of w s) refl (sym e ∙ q) p
 
@@ -74,13 +74,13 @@ module _ (words names : List ℕ) (w : Width) (s t : List ℕ) (r : Lexed) (q : 
         ∙ ap (λ (z : ℕ → ℕ → Bool). line_group w z (length s) (length k.tokens) (hosted_table h s k.tokens)) (hosted-same h s k.tokens w k.lexes)
         ∙ sym (ap (token_group w h s) k.lexes)
 
-  refused-by : (o : Outcome) (number place : ℕ) → lexed.Refused number place ≡ answer_of o → refusal number place ≡ token_group w (host_list words names) s o
+  refused-by : (o : Outcome) (d : Refusal) → Err d ≡ answer_of o → refusal d.number d.place ≡ token_group w (host_list words names) s o
   unfolding token_group answer_of
-  refused-by (accepted ts) number place h = absurd (not-tokens number place (length ts) h)
-  refused-by (refused k) number place h = cc
+  refused-by (accepted ts) d h = absurd (not-tokens d (length ts) h)
+  refused-by (refused k) d h = cc
 
-  pub judge-refused : (number place : ℕ) → r ≡ lexed.Refused number place → refusal number place ≡ judge_of w (host_list words names) s
+  pub judge-refused : (d : Refusal) → r ≡ Err d → refusal d.number d.place ≡ judge_of w (host_list words names) s
   unfolding judge_of
-  judge-refused number place e = refused-by (lex_of w s) number place (sym e ∙ q)
+  judge-refused d e = refused-by (lex_of w s) d (sym e ∙ q)
 
 pub ruleset source-ways = (judge-tokens, judge-refused)

@@ -11,7 +11,6 @@ ghost use Rattle.check_judge.specs.Judge.{names_judged, line_group, judge_of};
 ghost use Rattle.check_judge.specs.Judged.{judged};
 
 use base_limits::{Machine, Width};
-use lex_source::Lexed;
 use parse_outline::{Outline, Parsed};
 use prog_tables::Table;
 use res_data::Measured;
@@ -122,7 +121,7 @@ pub fn judge(
     ensures { judged result t.new k.new y.new flags.new ≡ judge_of w (host_list hosts.now host_names.now) s.now }
 {
     match lex_source::lex(w, s, t) {
-        Lexed::Tokens(n) => {
+        Ok(n) => {
             res_hosts::mark_hosts(s, n as u32, hosts, host_names, t);
             judge_tokens(
                 w,
@@ -134,9 +133,9 @@ pub fn judge(
                 flags,
             )
         }
-        Lexed::Refused { number, place } => Judgement::Refused {
-            number: number,
-            place: place,
+        Err(e) => Judgement::Refused {
+            number: e.number,
+            place: e.place,
         },
     }
 }

@@ -17,16 +17,17 @@ use Rattle.base_limits.specs.declared.Width.{Width}
 use Rattle.lang_kinds.specs.Tokens as token
 use Rattle.lex_spelling.specs.Breaks.{EscapeBreaks}
 use Rattle.lex_spelling.specs.Classes.{is_separator}
-use Rattle.lex_lexeme.specs.Reading.{is_named, next_read}
+use Rattle.lex_lexeme.specs.Reading.{Reading, is_named, next_read}
 use Rattle.lex_lexeme.specs.declared.Lexeme.{Lexeme}
-use Rattle.lex_lexeme.specs.declared.Reading.{Reading}
-use Rattle.lex_lexeme.specs.declared.Reading.TheVariants.{End, Lone, Broken, Open, Whole}
+use Rattle.lex_lexeme.specs.declared.TokenError.{TokenError}
+use Rattle.lex_lexeme.specs.declared.TokenError.TheVariants.{Lone, Broken, Open}
 use Rattle.lex_lexeme.proofs.Broken.{ReadingBreaks, next-breaks}
 use Rattle.lex_source.specs.Faults.{range_fault, length_fault, limit_fault, follow_fault, fault_of}
 use Rattle.lex_source.specs.Lex.{State, state, Outcome, refused, token_step, lex_step, tokens_from, lex_of}
 use Rattle.lex_source.proofs.Least.{fault-end, fault-lone, fault-broken, fault-open, fault-whole}
 use Rattle.parse_verdict.specs.Lexing.{lex_key}
 use Rattle.parse_verdict.proofs.Lexing.{fault_in, step-fault, step-fine, min-keeps, StopsClean, token-stops, long-refused}
+use Rattle.std.proofs.Common.{Option, Some, None, Result, Ok, Err}
 
 -- a fault of another number
 abbrev Other : ℕ → Type 0
@@ -60,22 +61,22 @@ module _ (s : List ℕ) (n : ℕ) (x : Lexeme) where
       either Other x.kind token.symbol _ _ (λ _. other_none) (λ _.
       either_true Other (is_separator (byte_at s x.next)) _ _ (λ _. other_none) (λ _. other_key x.next 2 (omega arith) (λ e. let z : ⊥ = omega arith in z)))
 
-  whole-other : Other (fault_of s n (Whole x))
+  whole-other : Other (fault_of s n (Ok (Some x)))
   whole-other =
-      subst Other (fault-whole s n (Whole x) _ x refl refl)
+      subst Other (fault-whole s n (Ok (Some x)) _ x refl refl)
       (min-keeps Other _ _ range_other (min-keeps Other _ _ length-other (min-keeps Other _ _ (limit-other n x.first) follow-other)))
 
 -- what is read has a fault of number 3 only where an escape breaks
 reading-breaks : (s : List ℕ) (n : ℕ) (r : Reading) → length s ≤ source_bytes → ReadingBreaks s r → key_number (fault_of s n r) ≡ 3 → EscapeBreaks s (key_place (fault_of s n r))
-reading-breaks s n End l h e = absurd (subst Other (fault-end s n End refl) other_none e)
-reading-breaks s n (Lone p) l h e = absurd (subst Other (fault-lone s n (Lone p) (key p 2) p refl refl) (other_key p 2 (omega arith) (λ q. let z : ⊥ = omega arith in z)) e)
-reading-breaks s n (Broken p) l h e =
-    let f : key p 3 ≡ fault_of s n (Broken p) = fault-broken s n (Broken p) (key p 3) p refl refl in
+reading-breaks s n (Ok None) l h e = absurd (subst Other (fault-end s n (Ok None) refl) other_none e)
+reading-breaks s n (Err (Lone p)) l h e = absurd (subst Other (fault-lone s n (Err (Lone p)) (key p 2) p refl refl) (other_key p 2 (omega arith) (λ q. let z : ⊥ = omega arith in z)) e)
+reading-breaks s n (Err (Broken p)) l h e =
+    let f : key p 3 ≡ fault_of s n (Err (Broken p)) = fault-broken s n (Err (Broken p)) (key p 3) p refl refl in
     subst (EscapeBreaks s) (sym (key-place p 3 (omega (arith, h.2.within)) (omega arith)) ∙ ap key_place f) h
-reading-breaks s n (Open p) l h e =
-    absurd (subst Other (fault-open s n (Open p) (min (key p 4) (limit_fault n p)) p (key p 4) (limit_fault n p) refl refl refl refl)
+reading-breaks s n (Err (Open p)) l h e =
+    absurd (subst Other (fault-open s n (Err (Open p)) (min (key p 4) (limit_fault n p)) p (key p 4) (limit_fault n p) refl refl refl refl)
     (min-keeps Other _ _ (other_key p 4 (omega arith) (λ q. let z : ⊥ = omega arith in z)) (limit-other n p)) e)
-reading-breaks s n (Whole x) l h e = absurd (whole-other s n x e)
+reading-breaks s n (Ok (Some x)) l h e = absurd (whole-other s n x e)
 
 module _ (w : Width) (s : List ℕ) (l : length s ≤ source_bytes) where
   from-breaks : (k : ℕ) (q : State) (j : ℕ) → walk (lex_step w s) (refused none) k q ≡ refused j → key_number j ≡ 3 → EscapeBreaks s (key_place j)

@@ -19,10 +19,10 @@ use Rattle.base_prelude.proofs.Walk.{walk-go, walk-stop}
 use Rattle.base_limits.specs.declared.Width.{Width}
 use Rattle.lex_spelling.specs.Classes.{is_separator}
 use Rattle.lex_lexeme.specs.Gap.{gap_end}
-use Rattle.lex_lexeme.specs.Reading.{is_named, next_read}
+use Rattle.lex_lexeme.specs.Reading.{Reading, is_named, next_read}
 use Rattle.lex_lexeme.specs.declared.Lexeme.{Lexeme}
-use Rattle.lex_lexeme.specs.declared.Reading.{Reading}
-use Rattle.lex_lexeme.specs.declared.Reading.TheVariants.{End, Lone, Broken, Open, Whole}
+use Rattle.lex_lexeme.specs.declared.TokenError.{TokenError}
+use Rattle.lex_lexeme.specs.declared.TokenError.TheVariants.{Lone, Broken, Open}
 use Rattle.lex_lexeme.proofs.Gaps.{gap-in}
 use Rattle.lex_lexeme.proofs.Within.{LexemeIn, ReadingIn, next-in}
 use Rattle.lex_source.specs.Token.{Token, token_of}
@@ -32,6 +32,7 @@ use Rattle.lex_source.proofs.Least.{lone-fault, broken-fault, open-fault, fault-
 use Rattle.parse_verdict.specs.Verdict.{All, Clean}
 use Rattle.parse_verdict.specs.Lexing.{faults_behind, token_faults, lex_faults, lex_key}
 use Rattle.parse_verdict.proofs.Decided.{least-none, none-all}
+use Rattle.std.proofs.Common.{Option, Some, None, Result, Ok, Err}
 
 not-refused : (k : ℕ) (ts : List Token) → refused k ≡ accepted ts → ⊥
 not-refused k ts e = let z : ◌≡◌ {A = ℕ} 0 1 = cc in omega arith
@@ -68,7 +69,7 @@ module _ (w : Width) (s : List ℕ) where
       by (stop r) p f = tt
 
   -- a token ends behind where its reading began, and within the source
-  whole-ahead : (q : State) (x : Lexeme) → read_in q ≡ Whole x → (q.at < x.next) × (x.next ≤ length s)
+  whole-ahead : (q : State) (x : Lexeme) → read_in q ≡ Ok (Some x) → (q.at < x.next) × (x.next ≤ length s)
   whole-ahead q x e =
       let i : LexemeIn s (gap_end s q.at) x = subst (ReadingIn s (gap_end s q.at)) e (next-in w s q.at) in
       (omega (arith, (gap-in s q.at).0.0, i.ahead), i.within)
@@ -88,15 +89,15 @@ module _ (w : Width) (s : List ℕ) where
       by : (r : Reading) → read_in q ≡ r → Clean (faults_behind (token_step w s q (read_in q)) (λ (y : State). token_faults k w s y))
           → ((y : State) → length s - y.at < k → Clean (token_faults k w s y) → (ts : List Token) × (walk (lex_step w s) (refused none) k y ≡ accepted ts))
           → (ts : List Token) × (walk (lex_step w s) (refused none) (suc k) q ≡ accepted ts)
-      by End e g f = (q.tokens, walk-stop (lex_step w s) (refused none) k q _ (leads End e))
-      by (Lone p) e g f = let z : ⊥ = omega (arith, fault-of (Lone p) e, lone-fault s (length q.tokens) p) in absurd z
-      by (Broken p) e g f = let z : ⊥ = omega (arith, fault-of (Broken p) e, broken-fault s (length q.tokens) p) in absurd z
-      by (Open p) e g f = let z : ⊥ = omega (arith, fault-of (Open p) e, open-fault s (length q.tokens) p) in absurd z
-      by (Whole x) e g f =
+      by (Ok None) e g f = (q.tokens, walk-stop (lex_step w s) (refused none) k q _ (leads (Ok None) e))
+      by (Err (Lone p)) e g f = let z : ⊥ = omega (arith, fault-of (Err (Lone p)) e, lone-fault s (length q.tokens) p) in absurd z
+      by (Err (Broken p)) e g f = let z : ⊥ = omega (arith, fault-of (Err (Broken p)) e, broken-fault s (length q.tokens) p) in absurd z
+      by (Err (Open p)) e g f = let z : ⊥ = omega (arith, fault-of (Err (Open p)) e, open-fault s (length q.tokens) p) in absurd z
+      by (Ok (Some x)) e g f =
           let a = whole-ahead q x e in
           let c = subst (λ (r : Reading). Clean (faults_behind (token_step w s q r) (λ (y : State). token_faults k w s y))) e g in
           let r = f _ (omega (arith, a.0, a.1)) c in
-          (r.0, walk-go (lex_step w s) (refused none) k q _ (leads (Whole x) e) ∙ r.1)
+          (r.0, walk-go (lex_step w s) (refused none) k q _ (leads (Ok (Some x)) e) ∙ r.1)
 
 -- "You accept a source exactly when it breaks none of the listed rules": 1, and 2 to 6 with 14 for tokens
 pub lexed-fine : (w : Width) (s : List ℕ) (ts : List Token) → lex_of w s ≡ accepted ts → (length s ≤ 16384) × Clean (lex_faults w s)
@@ -164,9 +165,9 @@ module _ (s : List ℕ) (n : ℕ) (x : Lexeme) (o : x.first < x.next) (l : x.nex
       spans-key _ _ x.next 2 (omega arith) (omega arith) (omega arith) (omega arith)))
 
   -- a token's faults stand in it or right behind it
-  whole-spans : Spans x.first x.next (fault_of s n (Whole x))
+  whole-spans : Spans x.first x.next (fault_of s n (Ok (Some x)))
   whole-spans =
-      subst (Spans x.first x.next) (fault-whole s n (Whole x) _ x refl refl)
+      subst (Spans x.first x.next) (fault-whole s n (Ok (Some x)) _ x refl refl)
       (kept _ _ range-spans (kept _ _ length-spans (kept _ _ limit-spans follow-spans)))
     where
       kept : (j k : ℕ) → Spans x.first x.next j → Spans x.first x.next k → Spans x.first x.next (min j k)
@@ -181,14 +182,14 @@ limit-from n a p h l = either (λ (k : ℕ). a * 64 + 2 ≤ k) n 4096 _ _ (λ _.
 
 -- no fault of a reading stands before where it began
 reading-from : (s : List ℕ) (n a : ℕ) (r : Reading) → length s ≤ 16384 → a ≤ 16384 → ReadingIn s a r → a * 64 + 2 ≤ fault_of s n r
-reading-from s n a End l b i = subst (λ (k : ℕ). a * 64 + 2 ≤ k) (fault-end s n End refl) (omega arith)
-reading-from s n a (Lone p) l b i = subst (λ (k : ℕ). a * 64 + 2 ≤ k) (fault-lone s n (Lone p) (key p 2) p refl refl) (key-from a p 2 i.0 (omega (arith, i.1)) (omega arith))
-reading-from s n a (Broken p) l b i = subst (λ (k : ℕ). a * 64 + 2 ≤ k) (fault-broken s n (Broken p) (key p 3) p refl refl) (key-from a p 3 i.0 (omega (arith, i.1)) (omega arith))
-reading-from s n a (Open p) l b i =
+reading-from s n a (Ok None) l b i = subst (λ (k : ℕ). a * 64 + 2 ≤ k) (fault-end s n (Ok None) refl) (omega arith)
+reading-from s n a (Err (Lone p)) l b i = subst (λ (k : ℕ). a * 64 + 2 ≤ k) (fault-lone s n (Err (Lone p)) (key p 2) p refl refl) (key-from a p 2 i.0 (omega (arith, i.1)) (omega arith))
+reading-from s n a (Err (Broken p)) l b i = subst (λ (k : ℕ). a * 64 + 2 ≤ k) (fault-broken s n (Err (Broken p)) (key p 3) p refl refl) (key-from a p 3 i.0 (omega (arith, i.1)) (omega arith))
+reading-from s n a (Err (Open p)) l b i =
     let f : a * 64 + 2 ≤ key p 4 = key-from a p 4 i.0 (omega (arith, i.1)) (omega arith) in
     let g : a * 64 + 2 ≤ limit_fault n p = limit-from n a p i.0 (omega (arith, i.1)) in
-    subst (λ (k : ℕ). a * 64 + 2 ≤ k) (fault-open s n (Open p) (min (key p 4) (limit_fault n p)) p (key p 4) (limit_fault n p) refl refl refl refl) (omega arith)
-reading-from s n a (Whole x) l b i =
+    subst (λ (k : ℕ). a * 64 + 2 ≤ k) (fault-open s n (Err (Open p)) (min (key p 4) (limit_fault n p)) p (key p 4) (limit_fault n p) refl refl refl refl) (omega arith)
+reading-from s n a (Ok (Some x)) l b i =
     let h = whole-spans s n x (omega (arith, i.first-is, i.ahead)) (omega (arith, i.within)) in
     omega (arith, h.0, i.first-is)
 
@@ -212,24 +213,24 @@ module _ (w : Width) (s : List ℕ) (l : length s ≤ 16384) where
   nil_is = refl
 
   -- where a reading leads: nowhere, or behind its token
-  behind-or : (k : ℕ) (q : State) → (least_of (behind_in k q) ≡ none) ⊎ ((x : Lexeme) × (next_read w s q.at ≡ Whole x))
+  behind-or : (k : ℕ) (q : State) → (least_of (behind_in k q) ≡ none) ⊎ ((x : Lexeme) × (next_read w s q.at ≡ Ok (Some x)))
   unfolding token_step
   behind-or k q = by (next_read w s q.at) refl
     where
       over : (r : Reading) → next_read w s q.at ≡ r → faults_behind (token_step w s q r) (λ (y : State). token_faults k w s y) ≡ [] → least_of (behind_in k q) ≡ none
       over r e f = ap (λ (r : Reading). least_of (faults_behind (token_step w s q r) (λ (y : State). token_faults k w s y))) e ∙ ap least_of f ∙ nil_is
 
-      by : (r : Reading) → next_read w s q.at ≡ r → (least_of (behind_in k q) ≡ none) ⊎ ((x : Lexeme) × (next_read w s q.at ≡ Whole x))
-      by End e = inl (over End e refl)
-      by (Lone p) e = inl (over (Lone p) e refl)
-      by (Broken p) e = inl (over (Broken p) e refl)
-      by (Open p) e = inl (over (Open p) e refl)
-      by (Whole x) e = inr (x, e)
+      by : (r : Reading) → next_read w s q.at ≡ r → (least_of (behind_in k q) ≡ none) ⊎ ((x : Lexeme) × (next_read w s q.at ≡ Ok (Some x)))
+      by (Ok None) e = inl (over (Ok None) e refl)
+      by (Err (Lone p)) e = inl (over (Err (Lone p)) e refl)
+      by (Err (Broken p)) e = inl (over (Err (Broken p)) e refl)
+      by (Err (Open p)) e = inl (over (Err (Open p)) e refl)
+      by (Ok (Some x)) e = inr (x, e)
 
   abbrev state_behind : State → Lexeme → State
   state_behind q x = state x.next (q.tokens ++ (token_of w s q.tokens x ∷ []))
 
-  behind-is : (k : ℕ) (q : State) (x : Lexeme) → next_read w s q.at ≡ Whole x → least_of (behind_in k q) ≡ least_of (token_faults k w s (state_behind q x))
+  behind-is : (k : ℕ) (q : State) (x : Lexeme) → next_read w s q.at ≡ Ok (Some x) → least_of (behind_in k q) ≡ least_of (token_faults k w s (state_behind q x))
   unfolding token_step
   behind-is k q x e = ap (λ (r : Reading). least_of (faults_behind (token_step w s q r) (λ (y : State). token_faults k w s y))) e
 
@@ -253,8 +254,8 @@ module _ (w : Width) (s : List ℕ) (l : length s ≤ 16384) where
       (λ y. let a = whole-ahead w s q y.0 y.1 in
       let i : LexemeIn s (gap_end s q.at) y.0 = subst (ReadingIn s (gap_end s q.at)) y.1 (next-in w s q.at) in
       let p = whole-spans s (length q.tokens) y.0 (omega (arith, i.first-is, i.ahead)) (omega (arith, a.1)) in
-      let e : fault_in w s q ≡ fault_of s (length q.tokens) (Whole y.0) = ap (fault_of s (length q.tokens)) y.1 in
-      let u : fault_of s (length q.tokens) (Whole y.0) ≤ y.0.next * 64 + 2 = p.1 (omega arith) in
+      let e : fault_in w s q ≡ fault_of s (length q.tokens) (Ok (Some y.0)) = ap (fault_of s (length q.tokens)) y.1 in
+      let u : fault_of s (length q.tokens) (Ok (Some y.0)) ≤ y.0.next * 64 + 2 = p.1 (omega arith) in
       let b : y.0.next * 64 + 2 ≤ least_of (token_faults k w s (state_behind q y.0)) = later-from k (state_behind q y.0) a.1 in
       omega (arith, cons-is k q, behind-is k q y.0 y.1))
       (behind-or k q)
@@ -269,11 +270,11 @@ module _ (w : Width) (s : List ℕ) (l : length s ≤ 16384) where
 
   pub token-stops : (q : State) (r : Reading) → StopsClean (token_step w s q r)
   unfolding token_step
-  token-stops q End = refl
-  token-stops q (Lone p) = refl
-  token-stops q (Broken p) = refl
-  token-stops q (Open p) = refl
-  token-stops q (Whole x) = tt
+  token-stops q (Ok None) = refl
+  token-stops q (Err (Lone p)) = refl
+  token-stops q (Err (Broken p)) = refl
+  token-stops q (Err (Open p)) = refl
+  token-stops q (Ok (Some x)) = tt
 
   lex-decides : (k : ℕ) (q : State) → lex_key (walk (lex_step w s) (refused none) k q) ≡ least_of (token_faults k w s q)
   unfolding walk token_faults

@@ -5,7 +5,6 @@ ghost use Rattle.std.specs.Prelude.{◌≤◌, ◌<◌, length};
 
 use base_limits::Machine;
 use lang_kinds::{Token, TokenRow};
-use lex_source::Lexed;
 use test_lines::{
     Case, add_source, field, field_start, front, has_numbers, is_comment, is_source, line_end,
     narrow, one_more, starts_with, width_of,
@@ -247,17 +246,17 @@ fn fill(t: &mut Table) {
     }
 }
 
-fn answer_of(x: Lexed) -> Answer {
+fn answer_of(x: Result<usize, Refusal>) -> Answer {
     match x {
-        Lexed::Tokens(n) => Answer {
+        Ok(n) => Answer {
             rows: n,
             number: 0,
             place: 0,
         },
-        Lexed::Refused { number, place } => Answer {
+        Err(e) => Answer {
             rows: 0,
-            number: number,
-            place: place,
+            number: e.number,
+            place: e.place,
         },
     }
 }

@@ -5,7 +5,6 @@ ghost use Rattle.std.specs.Prelude.{◌≤◌, ◌<◌, length};
 
 use base_limits::Machine;
 use base_prelude::byte_at;
-use lex_source::Lexed;
 use parse_outline::{Outline, Parsed};
 use test_lines::{
     Case, add_line, add_source, add_text, field, field_start, front, has_numbers, is_comment,
@@ -124,8 +123,8 @@ fn parse_source(
 ) -> Answer {
     let x = lex_source::lex(width_of(bits), front(text, size), table);
     match x {
-        Lexed::Refused { number, place } => refused(number, place as u64),
-        Lexed::Tokens(_) => {
+        Err(e) => refused(e.number, e.place as u64),
+        Ok(_) => {
             answer_of(parse_outline::parse(width_of(bits), length_of(size), table, rows, labels))
         }
     }

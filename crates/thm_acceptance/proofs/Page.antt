@@ -15,10 +15,10 @@ use Rattle.base_prelude.specs.Walk.{Step, go, stop}
 use Rattle.base_prelude.proofs.Choice.{either, either-eq, if_lt-yes, if_lt-no, if_eq-yes, if_eq-no}
 use Rattle.base_prelude.proofs.Keys.{key-fault}
 use Rattle.base_limits.specs.declared.Width.{Width}
-use Rattle.lex_lexeme.specs.Reading.{next_read}
+use Rattle.lex_lexeme.specs.Reading.{Reading, next_read}
 use Rattle.lex_lexeme.specs.declared.Lexeme.{Lexeme}
-use Rattle.lex_lexeme.specs.declared.Reading.{Reading}
-use Rattle.lex_lexeme.specs.declared.Reading.TheVariants.{End, Lone, Broken, Open, Whole}
+use Rattle.lex_lexeme.specs.declared.TokenError.{TokenError}
+use Rattle.lex_lexeme.specs.declared.TokenError.TheVariants.{Lone, Broken, Open}
 use Rattle.lex_source.specs.Token.{Token, token_of}
 use Rattle.lex_source.specs.Faults.{lone_rule, escape_rule, open_rule, range_rule, length_rule, limit_rule, follow_rule, faults_of, fault_of}
 use Rattle.lex_source.specs.Lex.{State, state, Outcome, accepted, refused, token_step}
@@ -30,22 +30,23 @@ use Rattle.thm_acceptance.specs.Reads.{Behind, EachReadFrom, EachRead}
 use Rattle.thm_acceptance.specs.Lines.{Line, EachFrom, EachLine, lines_of}
 use Rattle.thm_acceptance.specs.LineRules.{Silent, Shaped, SubstitutesKnown, NamesFree, Placed, MayBeLabelled, LabelsFree, NotLeftOut, ImportBetween, NoFrameSize, FewStatements, FewLabels, FewImports, FewLocals, FewBlocks, FewArguments}
 use Rattle.thm_acceptance.proofs.Paged.{LineFine}
+use Rattle.std.proofs.Common.{Option, Some, None, Result, Ok, Err}
 
 -- ---- what is read
 
 behind-map : (r : Reading) (P Q : ℕ → Type 0) → ((next : ℕ) → P next → Q next) → Behind r P → Behind r Q
-behind-map End P Q f h = tt
-behind-map (Lone p) P Q f h = tt
-behind-map (Broken p) P Q f h = tt
-behind-map (Open p) P Q f h = tt
-behind-map (Whole x) P Q f h = f x.next h
+behind-map (Ok None) P Q f h = tt
+behind-map (Err (Lone p)) P Q f h = tt
+behind-map (Err (Broken p)) P Q f h = tt
+behind-map (Err (Open p)) P Q f h = tt
+behind-map (Ok (Some x)) P Q f h = f x.next h
 
 behind-both : (r : Reading) (P Q : ℕ → Type 0) → Behind r P → Behind r Q → Behind r (λ (next : ℕ). P next × Q next)
-behind-both End P Q h g = tt
-behind-both (Lone p) P Q h g = tt
-behind-both (Broken p) P Q h g = tt
-behind-both (Open p) P Q h g = tt
-behind-both (Whole x) P Q h g = (h, g)
+behind-both (Ok None) P Q h g = tt
+behind-both (Err (Lone p)) P Q h g = tt
+behind-both (Err (Broken p)) P Q h g = tt
+behind-both (Err (Open p)) P Q h g = tt
+behind-both (Ok (Some x)) P Q h g = (h, g)
 
 module _ (w : Width) (s : List ℕ) where
   read-map : (P Q : ℕ → Reading → Type 0) → ((n : ℕ) (r : Reading) → P n r → Q n r) → (left n at : ℕ) → EachReadFrom left w s P n at → EachReadFrom left w s Q n at
@@ -81,11 +82,11 @@ module _ (w : Width) (s : List ℕ) where
     where
       behind : (r : Reading) → ((y : State) (m : ℕ) → m ≡ length y.tokens → Clean (token_faults left w s y) → EachReadFrom left w s Read m y.at)
           → Clean (faults_behind (token_step w s q r) (λ (y : State). token_faults left w s y)) → Behind r (λ (next : ℕ). EachReadFrom left w s Read (suc n) next)
-      behind End g c = tt
-      behind (Lone p) g c = tt
-      behind (Broken p) g c = tt
-      behind (Open p) g c = tt
-      behind (Whole x) g c = g (state x.next (q.tokens ++ (token_of w s q.tokens x ∷ []))) (suc n) (more-tokens q n x e) c
+      behind (Ok None) g c = tt
+      behind (Err (Lone p)) g c = tt
+      behind (Err (Broken p)) g c = tt
+      behind (Err (Open p)) g c = tt
+      behind (Ok (Some x)) g c = g (state x.next (q.tokens ++ (token_of w s q.tokens x ∷ []))) (suc n) (more-tokens q n x e) c
 
   read-faults : (left : ℕ) (q : State) (n : ℕ) → n ≡ length q.tokens → EachReadFrom left w s Read n q.at → Clean (token_faults left w s q)
   unfolding token_faults token_step
@@ -95,11 +96,11 @@ module _ (w : Width) (s : List ℕ) where
     where
       behind : (r : Reading) → ((y : State) (m : ℕ) → m ≡ length y.tokens → EachReadFrom left w s Read m y.at → Clean (token_faults left w s y))
           → Behind r (λ (next : ℕ). EachReadFrom left w s Read (suc n) next) → Clean (faults_behind (token_step w s q r) (λ (y : State). token_faults left w s y))
-      behind End g c = tt
-      behind (Lone p) g c = tt
-      behind (Broken p) g c = tt
-      behind (Open p) g c = tt
-      behind (Whole x) g c = g (state x.next (q.tokens ++ (token_of w s q.tokens x ∷ []))) (suc n) (more-tokens q n x e) c
+      behind (Ok None) g c = tt
+      behind (Err (Lone p)) g c = tt
+      behind (Err (Broken p)) g c = tt
+      behind (Err (Open p)) g c = tt
+      behind (Ok (Some x)) g c = g (state x.next (q.tokens ++ (token_of w s q.tokens x ∷ []))) (suc n) (more-tokens q n x e) c
 
   -- rule by rule
   read-rules : (n : ℕ) (r : Reading) → none ≤ fault_of s n r → Clean (faults_of s n r)

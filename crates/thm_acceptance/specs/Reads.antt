@@ -1,19 +1,19 @@
 -- What is read of a source, one after the other: each is judged behind the n tokens before it.
 -- Assumes nothing.
-use Rattle.std.specs.Prelude.{ℕ, zero, suc, List, length}
+use Rattle.std.specs.Prelude.{Option, Some, None, Result, Ok, Err, ℕ, zero, suc, List, length}
 use Rattle.base_limits.specs.declared.Width.{Width}
-use Rattle.lex_lexeme.specs.Reading.{next_read}
+use Rattle.lex_lexeme.specs.Reading.{Reading, next_read}
 use Rattle.lex_lexeme.specs.declared.Lexeme.{Lexeme}
-use Rattle.lex_lexeme.specs.declared.Reading.{Reading}
-use Rattle.lex_lexeme.specs.declared.Reading.TheVariants.{End, Lone, Broken, Open, Whole}
+use Rattle.lex_lexeme.specs.declared.TokenError.{TokenError}
+use Rattle.lex_lexeme.specs.declared.TokenError.TheVariants.{Lone, Broken, Open}
 
 -- what holds behind a token; behind the end and what is no token nothing is read
 abbrev pub Behind : Reading → (ℕ → Type 0) → Type 0
-Behind End P = Unit {0}
-Behind (Lone p) P = Unit {0}
-Behind (Broken p) P = Unit {0}
-Behind (Open p) P = Unit {0}
-Behind (Whole x) P = P x.next
+Behind (Ok None) P = Unit {0}
+Behind (Err (Lone p)) P = Unit {0}
+Behind (Err (Broken p)) P = Unit {0}
+Behind (Err (Open p)) P = Unit {0}
+Behind (Ok (Some x)) P = P x.next
 
 -- of at most so many, from a place on
 abbrev pub EachReadFrom : ℕ → Width → List ℕ → (ℕ → Reading → Type 0) → ℕ → ℕ → Type 0

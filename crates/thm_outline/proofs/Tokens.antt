@@ -18,10 +18,10 @@ use Rattle.lang_words.specs.Words.{number_of}
 use Rattle.lang_words.specs.Sections.{section_of, known_of}
 use Rattle.lang_words.proofs.Exact.{Entered, number-entered, number-below}
 use Rattle.lex_spelling.specs.Text.{name_at}
-use Rattle.lex_lexeme.specs.Reading.{is_named, name_start, text_of, next_read}
+use Rattle.lex_lexeme.specs.Reading.{Reading, is_named, name_start, text_of, next_read}
 use Rattle.lex_lexeme.specs.declared.Lexeme.{Lexeme}
-use Rattle.lex_lexeme.specs.declared.Reading.{Reading}
-use Rattle.lex_lexeme.specs.declared.Reading.TheVariants.{End, Lone, Broken, Open, Whole}
+use Rattle.lex_lexeme.specs.declared.TokenError.{TokenError}
+use Rattle.lex_lexeme.specs.declared.TokenError.TheVariants.{Lone, Broken, Open}
 use Rattle.lex_source.specs.Token.{Token, is_substitute, word_of, token_value, token_of}
 use Rattle.lex_source.specs.Faults.{fault_of}
 use Rattle.lex_source.specs.Lex as lex
@@ -31,6 +31,7 @@ use Rattle.lex_source.proofs.Tokens.{no_token, Every, every_more, every-at}
 use Rattle.lex_source.proofs.Laws.{TokenGood, Good, accepted-good, token-read, token-behind}
 use Rattle.parse_lines.specs.Tokens.{token_word, kind_at, value_at, word_at}
 use Rattle.thm_outline.proofs.Unit.{Free}
+use Rattle.std.proofs.Common.{Option, Some, None, Result, Ok, Err}
 
 -- ---- a name that is no reserved word
 
@@ -89,11 +90,11 @@ MadeIn (refused k) = Unit {0}
 
 step-made : (w : Width) (s : List ℕ) (q : State) (r : Reading) → Every Made q.tokens → Kept (λ (x : State). Every Made x.tokens) MadeIn (token_step w s q r)
 unfolding token_step
-step-made w s q End h = h
-step-made w s q (Lone p) h = tt
-step-made w s q (Broken p) h = tt
-step-made w s q (Open p) h = tt
-step-made w s q (Whole x) h = every_more Made q.tokens (token_of w s q.tokens x) h (token-made w s q.tokens x)
+step-made w s q (Ok None) h = h
+step-made w s q (Err (Lone p)) h = tt
+step-made w s q (Err (Broken p)) h = tt
+step-made w s q (Err (Open p)) h = tt
+step-made w s q (Ok (Some x)) h = every_more Made q.tokens (token_of w s q.tokens x) h (token-made w s q.tokens x)
 
 unit-step-made : (w : Width) (s : List ℕ) (q : State) → Every Made q.tokens → Kept (λ (x : State). Every Made x.tokens) MadeIn (lex_step w s q)
 unfolding lex_step lex.read_step
