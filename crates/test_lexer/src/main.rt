@@ -3,7 +3,7 @@
 
 ghost use Rattle.std.specs.Prelude.{◌≤◌, ◌<◌, length};
 
-use base_limits::Machine;
+use base_limits::{Machine, Refusal};
 use lang_kinds::{Token, TokenRow};
 use test_lines::{
     Case, add_source, field, field_start, front, has_numbers, is_comment, is_source, line_end,
