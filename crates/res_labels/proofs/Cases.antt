@@ -1,14 +1,13 @@
 -- One law for each way through a function of this crate.
 -- Assumes nothing.
-use mathlib.Core.Path.{◌≡◌, refl, sym, ◌∙◌, ap, ap₂, subst}
+use mathlib.Core.Path.{◌≡◌, refl, sym, ◌∙◌, ap}
 use mathlib.Core.Bool.{false}
 use mathlib.Core.List.{List, [], ◌∷◌, ◌++◌}
-use Prim.Native.Nat.{ℕ, zero, suc, ◌+◌, ◌*◌, ◌-◌, ◌/◌, ◌%◌, ◌≤◌, ◌<◌}
+use Prim.Native.Nat.{ℕ, suc, ◌+◌, ◌*◌, ◌-◌, ◌/◌, ◌%◌, ◌≤◌, ◌<◌}
 use native.Mathlib.Numerals.{add-one, add-two, add-three}
 use native.Mathlib.Omega.{arith}
-use lib.ListN.{length, get_or, take, drop, set, length-append, length-take, length-drop, get_or-eq_default}
+use lib.ListN.{length, take, drop, set, length-append, length-take, length-drop}
 use lib.Seq.{sets-eq}
-use Rattle.base_prelude.specs.Choice.{if_eq}
 use Rattle.base_prelude.specs.Lists.{overlay}
 use Rattle.base_prelude.proofs.Choice.{tests}
 use Rattle.base_limits.specs.declared.Width.{Width}
@@ -16,25 +15,7 @@ use Rattle.lex_spelling.specs.Text.{spelled_at, name_at}
 use Rattle.parse_lines.specs.Tokens.{token_word}
 use Rattle.res_data.specs.Sizes.{address_of}
 use Rattle.res_data.proofs.Cases.{overlay-long}
-use Rattle.res_labels.specs.Labelling.{outline_word, flag_at, final_number, final_arguments, label_words, put_words, labels_from, label_table, label_name, put_name, names_from, name_table}
-
-pub word-here : (y : List ℕ) (j f : ℕ) → get_or y (j * 4 + f) 0 ≡ outline_word y j f
-unfolding outline_word
-word-here y j f = refl
-
-pub word-past : (y : List ℕ) (j f : ℕ) → length y ≤ j * 4 + f → 0 ≡ outline_word y j f
-unfolding outline_word
-word-past y j f h = sym (get_or-eq_default y 0 h)
-
-pub flag-here : (flags : List ℕ) (j : ℕ) → get_or flags j 0 ≡ flag_at flags j
-unfolding flag_at
-flag-here flags j = refl
-
-pub flag-past : (flags : List ℕ) (j : ℕ) → length flags ≤ j → 0 ≡ flag_at flags j
-unfolding flag_at
-flag-past flags j h = sym (get_or-eq_default flags 0 h)
-
-pub ruleset reading = (word-here, word-past, flag-here, flag-past)
+use Rattle.res_labels.specs.Labelling.{outline_word, final_number, final_arguments, label_words, put_words, labels_from, label_table, label_name, put_name, names_from, name_table}
 
 module _ (w : Width) (t : List ℕ) (kind number : ℕ) where
   pub number-data : (a : ℕ) → kind ≡ 1 → a ≡ address_of w t number → a ≡ final_number w t kind number

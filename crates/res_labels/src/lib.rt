@@ -15,67 +15,50 @@ fn outline_word(y: &[u32], j: u32, f: usize) -> u32
     requires { f < 4 }
     ensures { result ≡ outline_word y.now j f }
 {
-    let at = j as usize * Table::LABEL_ROW + f;
-    if at < y.len() { y[at] } else { 0 }
+    prog_tables::word_at(y, j as usize * Table::LABEL_ROW + f)
 }
 
 fn flag_at(flags: &[u32], j: u32) -> u32
     ensures { result ≡ flag_at flags.now j }
 {
-    let at = j as usize;
-    if at < flags.len() { flags[at] } else { 0 }
+    prog_tables::word_at(flags, j as usize)
 }
 
 fn exported_kind(kind: u32) -> u32
     ensures { result ≡ exported_kind kind }
 {
-    if kind == LabelKind::DATA {
-        return LabelKind::EXPORTED_DATA;
+    match kind {
+        LabelKind::DATA => LabelKind::EXPORTED_DATA,
+        LabelKind::FUNCTION => LabelKind::EXPORTED_FUNCTION,
+        _ => kind,
     }
-    if kind == LabelKind::FUNCTION {
-        return LabelKind::EXPORTED_FUNCTION;
-    }
-    kind
 }
 
 fn final_kind(kind: u32, flag: u32) -> u32
     ensures { result ≡ final_kind kind flag }
 {
-    if flag == 1 {
-        return exported_kind(kind);
-    }
-    kind
-}
-
-fn less_one(n: u32) -> u32
-    ensures { result ≡ n - 1 }
-{
-    if n < 1 {
-        return 0;
-    }
-    n - 1
+    if flag == 1 { exported_kind(kind) } else { kind }
 }
 
 fn final_number(w: Width, t: &[u32], kind: u32, number: u32) -> u32
     requires { length t.now ≡ limits.token_words }
     ensures { result ≡ final_number w t.now kind number }
 {
-    if kind == LabelKind::DATA {
-        return res_data::address_of(w, t, number);
+    match kind {
+        LabelKind::DATA => res_data::address_of(w, t, number),
+        LabelKind::IMPORT => number.saturating_sub(1) / 16,
+        _ => number.saturating_sub(1),
     }
-    if kind == LabelKind::IMPORT {
-        return less_one(number) / 16;
-    }
-    less_one(number)
 }
 
 fn final_arguments(kind: u32, number: u32) -> u32
     ensures { result ≡ final_arguments kind number }
 {
     if kind == LabelKind::IMPORT {
-        return less_one(number) % 16;
+        number.saturating_sub(1) % 16
+    } else {
+        0
     }
-    0
 }
 
 fn put_words(out: &mut [u32], j: u32, kind: u32, number: u32, arguments: u32, size: u32)
@@ -112,10 +95,8 @@ fn write_rows(w: Width, t: &[u32], y: &[u32], flags: &[u32], l: u32, out: &mut [
     requires { (length t.now ≡ limits.token_words) × (l * label_row ≤ length out.old) }
     ensures { out.new ≡ label_table w t.now y.now flags.now l out.old }
 {
-    let mut j: u32 = 0;
-    while j < l {
+    for j in 0..l {
         write_row(w, t, y, flags, j, out);
-        j += 1;
     }
 }
 
@@ -137,10 +118,8 @@ fn write_names(s: &[u8], t: &[u32], y: &[u32], l: u32, names: &mut [u8])
     requires { l * limits.name_bytes ≤ length names.old }
     ensures { names.new ≡ name_table s.now t.now y.now l names.old }
 {
-    let mut j: u32 = 0;
-    while j < l {
+    for j in 0..l {
         write_name(s, t, y, j, names);
-        j += 1;
     }
 }
 

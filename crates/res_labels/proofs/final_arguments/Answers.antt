@@ -5,6 +5,6 @@ pub returns-then-kind-eq-IMPORT : goal.returns-then-kind-eq-IMPORT
 returns-then-kind-eq-IMPORT c =
     search arguing
 
-pub returns : goal.returns
-returns c =
+pub returns-else-kind-eq-IMPORT : goal.returns-else-kind-eq-IMPORT
+returns-else-kind-eq-IMPORT c =
     search arguing

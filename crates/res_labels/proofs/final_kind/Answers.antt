@@ -7,7 +7,7 @@ unfolding final_kind
 returns-then-flag-eq1 c =
     search tests
 
-pub returns : goal.returns
+pub returns-else-flag-eq1 : goal.returns-else-flag-eq1
 unfolding final_kind
-returns c =
+returns-else-flag-eq1 c =
     search tests

@@ -1,14 +1,15 @@
+use borrow.Author.Rules.{rules}
 use Rattle.res_labels.proofs.Cases.{numbering}
 use Rattle.res_labels.proofs.final_number.Goals as goal
 
-pub returns-then-kind-eq-DATA : goal.returns-then-kind-eq-DATA
-returns-then-kind-eq-DATA c =
-    search numbering
+pub returns-in-1 : goal.returns-in-1
+returns-in-1 c =
+    search (numbering, rules)
 
-pub returns-then-kind-eq-IMPORT : goal.returns-then-kind-eq-IMPORT
-returns-then-kind-eq-IMPORT c =
-    search numbering
+pub returns-in-6 : goal.returns-in-6
+returns-in-6 c =
+    search (numbering, rules)
 
-pub returns : goal.returns
-returns c =
-    search numbering
+pub returns-in_default : goal.returns-in_default
+returns-in_default c =
+    search (numbering, rules)
