@@ -1,19 +1,16 @@
 -- One law for each way through a function of this crate.
 -- Assumes nothing.
-use mathlib.Core.Path.{◌≡◌, refl, sym, ◌∙◌, ap, ap₂}
+use mathlib.Core.Path.{◌≡◌, sym, ◌∙◌, ap}
 use mathlib.Core.Bool.{Bool, true, false}
 use mathlib.Core.List.{List}
-use Prim.Native.Nat.{ℕ, zero, suc, ◌+◌, ◌*◌, ◌-◌, ◌<◌, ◌≤◌, min}
-use native.Mathlib.Omega.{arith}
-use lib.Dec.{eqb, ltb}
+use Prim.Native.Nat.{ℕ, ◌+◌, ◌-◌, ◌<◌, ◌≤◌, min}
 use lib.ListN.{length, get_or, set}
-use borrow.Author.Tests.{eq-eqb, ne_eqb}
-use Rattle.base_prelude.specs.Choice.{if_lt, if_eq, if_true}
+use Rattle.base_prelude.specs.Choice.{if_true}
 use Rattle.base_prelude.specs.Fault.{none}
 use Rattle.base_prelude.proofs.Choice.{if_lt-yes, if_lt-no, if_eq-yes, if_eq-no}
 use Rattle.parse_lines.specs.Tokens.{token_word, key_at}
 use Rattle.prog_tables.specs.Tests.{first_from}
-use Rattle.prog_tables.specs.Statement.{Row, row_at}
+use Rattle.prog_tables.specs.Statement.{row_at}
 use Rattle.res_scope.specs.Lines.{first_token, end_token, label_token, label_kind, label_statement, label_arguments}
 use Rattle.res_scope.specs.Names.{let_here, parameter_of, label_of, meaning_of}
 use Rattle.res_scope.specs.Parts.{parts_of}

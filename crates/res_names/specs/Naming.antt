@@ -11,7 +11,7 @@ use Rattle.lang_kinds.specs.Tokens as token
 use Rattle.parse_lines.specs.Tokens.{kind_at, key_at}
 use Rattle.prog_tables.specs.Layout.{data_label, function_label, place_label, import_label}
 use Rattle.prog_tables.specs.Tests.{first_from}
-use Rattle.prog_tables.specs.Statement.{Row, row_at}
+use Rattle.prog_tables.specs.Statement.{row_at}
 use Rattle.res_scope.specs.Lines.{first_token, end_token, label_token, label_kind, label_statement, label_arguments}
 use Rattle.res_scope.specs.Names.{let_here, parameter_of, label_of, meaning_of}
 use Rattle.res_scope.specs.Parts.{no_callee, parts_of}

@@ -246,10 +246,8 @@ fn operands_part(
     ensures { naming result u.new ≡ operands_part (next - first) (same_number t.now) t.now n k.now y.now l r first (naming start u.old) }
 {
     let mut best = start;
-    let mut i = first;
-    while i < next {
+    for i in first..next {
         best = value_part(t, n, k, y, l, u, r, i, best);
-        i += 1;
     }
     best
 }
@@ -316,10 +314,8 @@ fn parameters_fault(t: &[u32], n: u32, k: &[u32], r: u32, first: u32, end: u32, 
     ensures { result ≡ parameters_fault (end - first) (same_number t.now) t.now n k.now r first start }
 {
     let mut best = start;
-    let mut q = first;
-    while q < end {
+    for q in first..end {
         best = base_prelude::least(best, parameter_fault(t, n, k, r, q));
-        q += 1;
     }
     best
 }
@@ -363,15 +359,6 @@ fn head_part(
     best
 }
 
-fn count_from(next: u32, first: u32) -> u32
-    ensures { result ≡ next - first }
-{
-    if next < first {
-        return 0;
-    }
-    next - first
-}
-
 fn body_part(
     t: &[u32],
     n: u32,
@@ -386,7 +373,7 @@ fn body_part(
 ) -> u64
     ensures { naming result u.new ≡ body_part (same_number t.now) t.now n k.now y.now l r p next (naming best u.old) }
 {
-    let count = count_from(next, p.first);
+    let count = next.saturating_sub(p.first);
     let found = callee_part(t, n, k, y, l, u, r, p.callee, count, best);
     operands_part(t, n, k, y, l, u, r, p.first, next, found)
 }
@@ -424,10 +411,8 @@ fn statements_part(
     ensures { naming result u.new ≡ statements_part c (same_number t.now) t.now n k.now y.now l 0 (naming start u.old) }
 {
     let mut best = start;
-    let mut r: u32 = 0;
-    while r < c {
+    for r in 0..c {
         best = statement_part(t, n, k, y, l, u, r, best);
-        r += 1;
     }
     best
 }
@@ -436,10 +421,8 @@ fn labels_fault(t: &[u32], n: u32, y: &[u32], l: u32) -> u64
     ensures { result ≡ labels_fault l (same_number t.now) t.now n y.now l 0 none }
 {
     let mut best = NONE;
-    let mut j: u32 = 0;
-    while j < l {
+    for j in 0..l {
         best = base_prelude::least(best, label_fault(t, n, y, l, j));
-        j += 1;
     }
     best
 }
