@@ -305,15 +305,6 @@ fn operand_number(o: Operand) -> u32
     }
 }
 
-fn count_from(next: u32, first: u32) -> u32
-    ensures { (result ≡ next - first) × (first + result < limits.word_values) }
-{
-    if next < first {
-        return 0;
-    }
-    next - first
-}
-
 fn head_of(
     t: &[u32],
     k: &[u32],
@@ -334,7 +325,7 @@ fn head_of(
     let i = first + 1;
     let o = address_of(t, k, y, l, w, z, r, kind, i);
     Head {
-        kind: kind,
+        kind,
         func: prog_tables::func_at(k, r),
         scope: prog_tables::scope_at(k, r),
         up: prog_tables::up_at(k, r),
@@ -342,7 +333,7 @@ fn head_of(
         b: b_of(k, c, r, kind),
         expr: expr_of(t, k, y, l, r, p.expr, p.callee),
         callee: callee_of(t, k, y, l, z, r, kind, p.callee),
-        count: count_from(next, p.first),
+        count: next.saturating_sub(p.first),
         form: operand_kind(o),
         address: operand_number(o),
     }
@@ -433,8 +424,7 @@ fn put_slots(
     requires { (first + count < limits.word_values) × (at + limits.parameters * 2 ≤ length out.old) }
     ensures { out.new ≡ put_words out.old at (slot_words limits.parameters (operands_from (min count limits.parameters) (same_number t.now) t.now k.now y.now l w.now z.now r first)) }
 {
-    let mut j: u32 = 0;
-    while j < Machine::PARAMETERS {
+    for j in 0..Machine::PARAMETERS {
         put_slot(
             t,
             k,
@@ -449,7 +439,6 @@ fn put_slots(
             out,
             at + j as usize * 2,
         );
-        j += 1;
     }
 }
 
@@ -474,7 +463,7 @@ fn put_parts(
     let at = r as usize * Table::STATEMENT_ROW;
     let h = head_of(t, k, y, l, w, z, c, r, kind, first, next, p);
     put_head(out, at, h);
-    let count = count_from(next, p.first);
+    let count = next.saturating_sub(p.first);
     put_slots(
         t,
         k,
@@ -525,9 +514,7 @@ pub fn write_rows(
     requires { (c ≤ limits.statements) × (c * statement_row ≤ length out.old) }
     ensures { out.new ≡ statement_table (same_number t.now) t.now k.now y.now l w.now z.now c out.old }
 {
-    let mut r: u32 = 0;
-    while r < c {
+    for r in 0..c {
         write_row(t, k, y, l, w, z, c, r, out);
-        r += 1;
     }
 }

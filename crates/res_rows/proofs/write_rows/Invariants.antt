@@ -1,12 +1,7 @@
 use Rattle.res_scope.specs.Names.{same_number}
-use Prim.Native.Nat.{◌-◌}
 use Rattle.res_rows.proofs.Tables.{Writing}
 use Rattle.res_rows.proofs.write_rows.Given as goal
 
 abbrev pub invariant-loop-r : goal.invariant-loop-r
 invariant-loop-r l =
     Writing (same_number l.t) l.t l.k l.y l.l l.w l.z l.c l.initial.out l.out l.r
-
-abbrev pub decreases-loop-r : goal.decreases-loop-r
-decreases-loop-r l =
-    l.c - l.r
