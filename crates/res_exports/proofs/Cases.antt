@@ -1,36 +1,31 @@
 -- One law for each way through a function of this crate.
 -- Assumes nothing.
-use mathlib.Core.Path.{◌≡◌, refl, sym, ◌∙◌, ap, ap₂}
+use mathlib.Core.Path.{◌≡◌, sym, ◌∙◌, ap}
 use mathlib.Core.Bool.{Bool, true, false}
 use mathlib.Core.List.{List}
-use Prim.Native.Nat.{ℕ, zero, suc, ◌+◌, ◌-◌, ◌<◌, ◌≤◌, min}
-use native.Mathlib.Omega.{arith}
-use lib.Dec.{ltb, eqb}
+use Prim.Native.Nat.{ℕ, ◌+◌, ◌<◌, ◌≤◌, min}
 use lib.ListN.{length, get_or, set}
-use Rattle.base_prelude.specs.Choice.{if_lt, if_eq, if_true}
+use Rattle.std.specs.declared.ops.ControlFlow.TheVariants.{Continue, Break}
+use Rattle.base_prelude.specs.Choice.{if_true}
 use Rattle.base_prelude.specs.Fault.{none}
-use Rattle.base_prelude.specs.Walk.{Step, go, stop}
 use Rattle.base_prelude.proofs.Choice.{if_lt-yes, if_lt-no, if_eq-yes, if_eq-no}
 use Rattle.parse_lines.specs.Tokens.{token_word, key_at}
 use Rattle.parse_lines.specs.declared.Span.{Span}
-use Rattle.prog_tables.specs.Tests.{first_from}
 use Rattle.res_scope.specs.Lines.{label_token}
 use Rattle.res_scope.specs.Names.{label_of}
-use Rattle.res_exports.specs.Exports.{is_definition, ends_search, nowhere, seek_on, sought, carries_label, carried_by, definition_from, use_fault, missing_fault, export_fault, label_at_token, import_use, import_fault, import_judged, Exported, exported, flagged, judged_by, export_part}
-use Rattle.res_exports.specs.declared.Seek.{Seek}
-use Rattle.res_exports.specs.declared.Seek.TheVariants as seek
+use Rattle.res_exports.specs.Exports.{is_definition, ends_search, seek_on, sought, carries_label, carried_by, definition_from, use_fault, missing_fault, export_fault, label_at_token, import_use, import_fault, import_judged, exported, flagged, judged_by, export_part}
 
 module _ (u : Span) (k : ℕ) (b : Bool) (d : b ≡ is_definition k) where
-  pub seek-here : b ≡ true → sought (seek.Here u) ≡ seek_on u k
+  pub seek-here : b ≡ true → sought (Break u) ≡ seek_on u k
   unfolding seek_on if_true
   seek-here h = rw (← d, h)
 
   module _ (h : b ≡ false) (c : Bool) (e : c ≡ ends_search k) where
-    pub seek-nowhere : c ≡ true → sought (seek.Here (record { first = 0; word = 0; next = 0 })) ≡ seek_on u k
+    pub seek-nowhere : c ≡ true → sought (Break (record { first = 0; word = 0; next = 0 })) ≡ seek_on u k
     unfolding seek_on if_true
     seek-nowhere g = rw (← d, h, ← e, g)
 
-    pub seek-further : c ≡ false → sought (seek.Further u.next) ≡ seek_on u k
+    pub seek-further : c ≡ false → sought (Continue u.next) ≡ seek_on u k
     unfolding seek_on if_true
     seek-further g = rw (← d, h, ← e, g)
 
@@ -50,10 +45,6 @@ module _ (same : ℕ → ℕ → Bool) (y : List ℕ) (first word i j q : ℕ) (
   carries-behind h g = rw (← e) (sym (if_lt-no _ _ h ∙ if_lt-no _ _ g))
 
 pub ruleset carrying = (carries-before, carries-within, carries-behind)
-
-pub carried-is : (same : ℕ → ℕ → Bool) (y : List ℕ) (l first word i r : ℕ) → r ≡ first_from (carries_label same y first word i) (l - 0) 0 → r ≡ carried_by same y l first word i
-unfolding carried_by
-carried-is same y l first word i r q = let e : l - 0 ≡ l = omega arith in rw e at q
 
 module _ (t : List ℕ) (n i q : ℕ) where
   pub use-none : q ≡ 0 → none ≡ use_fault t n i q
@@ -100,10 +91,6 @@ module _ (t : List ℕ) (n : ℕ) (y : List ℕ) (l : ℕ) (uses : List ℕ) (i 
   pub import-listed : (j z : ℕ) → (h ≡ 0 → ⊥) → j ≡ label_at_token y l i → z ≡ import_use t n l uses i j → z ≡ import_fault t n y l uses i
   unfolding import_fault
   import-listed j z g f d = d ∙ rw (← e, ← f) (sym (if_eq-no _ _ g))
-
-pub at-is : (y : List ℕ) (l i r : ℕ) → r ≡ first_from (λ j. eqb (label_token y j) i) (l - 0) 0 → r ≡ label_at_token y l i
-unfolding label_at_token
-at-is y l i r q = let e : l - 0 ≡ l = omega arith in rw e at q
 
 module _ (t : List ℕ) (n l : ℕ) (uses : List ℕ) (i j : ℕ) where
   pub import-used : (q z : ℕ) → j < l → q ≡ get_or uses j 0 → z ≡ use_fault t n i q → z ≡ import_use t n l uses i j

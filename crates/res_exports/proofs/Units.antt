@@ -3,27 +3,23 @@
 use mathlib.Core.Path.{◌≡◌, refl, sym, ◌∙◌, ap, ap₂, subst}
 use mathlib.Core.Bool.{Bool, true, false}
 use mathlib.Core.List.{List, []}
-use Prim.Native.Nat.{ℕ, zero, suc, ◌+◌, ◌-◌, ◌<◌, ◌≤◌}
+use Prim.Native.Nat.{ℕ, suc, ◌-◌, ◌<◌, ◌≤◌}
 use native.Mathlib.Omega.{arith}
 use lib.ListN.{length, length-set}
-use Rattle.base_prelude.specs.Choice.{if_lt, if_eq, if_true}
+use Rattle.std.specs.declared.ops.ControlFlow.{ControlFlow}
+use Rattle.std.specs.declared.ops.ControlFlow.TheVariants.{Continue, Break}
 use Rattle.base_prelude.specs.Fault.{none}
-use Rattle.base_prelude.specs.Lists.{zeros, cleared_from}
-use Rattle.base_prelude.specs.Walk.{Step, go, stop, walk}
-use Rattle.base_prelude.proofs.Choice.{either, either-eq, either_true, if_eq-yes, if_eq-no, if_true-yes}
+use Rattle.base_prelude.specs.Lists.{zeros, cleared_from, is_among}
+use Rattle.base_prelude.specs.Walk.{Step, go, stop}
+use Rattle.base_prelude.proofs.Choice.{either, either-eq, either_true, if_eq-yes, if_eq-no}
 use Rattle.base_prelude.proofs.Walk.{Runs, runs-start, runs-go, runs-stop}
 use Rattle.parse_lines.specs.Units.{unit_at}
 use Rattle.parse_lines.specs.Lines.{line_kind}
 use Rattle.parse_lines.specs.declared.Span.{Span}
 use Rattle.parse_units.proofs.Bounds.{unit-order, unit-near, unit-next, line-some}
 use Rattle.res_exports.specs.Fits.{UnitFits}
-use Rattle.res_exports.proofs.Lists.{ends_by}
 use Rattle.res_exports.specs.Exports.{is_definition, ends_search, nowhere, seek_on, seek_step, sought, definition_from, Exported, exported, World, world, exports, flagged, judged_by, import_judged, export_part, export_on, export_step, going, exports_from, exports_of}
 use Rattle.res_exports.specs.declared.Exports.{Exports}
-use Rattle.res_exports.specs.declared.Seek.{Seek}
-use Rattle.res_exports.specs.declared.Seek.TheVariants as seek
-use Rattle.res_exports.specs.declared.Going.{Going}
-use Rattle.res_exports.specs.declared.Going.TheVariants.{On, Over}
 
 module _ (t : List ℕ) (at : ℕ) (h : UnitFits t at) (u : Span) (e : u ≡ unit_at t at) where
   pub step-near : u.word ≤ 4097
@@ -41,7 +37,7 @@ module _ (t : List ℕ) (at : ℕ) (h : UnitFits t at) (u : Span) (e : u ≡ uni
 
 -- ---- a definition
 
-pub seek_is : (t : List ℕ) (at : ℕ) (u : Span) (k : ℕ) (r : Seek) → u ≡ unit_at t at → k ≡ line_kind t u.word → sought r ≡ seek_on u k → sought r ≡ seek_step t at
+pub seek_is : (t : List ℕ) (at : ℕ) (u : Span) (k : ℕ) (r : ControlFlow Span ℕ) → u ≡ unit_at t at → k ≡ line_kind t u.word → sought r ≡ seek_on u k → sought r ≡ seek_step t at
 unfolding seek_step
 seek_is t at u k r e d q = q ∙ ap₂ seek_on e (d ∙ ap (λ (v : Span). line_kind t v.word) e)
 
@@ -50,7 +46,8 @@ SeekGood t at (go b) = UnitFits t b × (at < b)
 SeekGood t at (stop u) = Unit {0}
 
 zero-ends : (k : ℕ) → k ≡ 0 → ends_search k ≡ true
-zero-ends k h = sym (ends_by k true (sym (if_eq-yes _ _ h)))
+unfolding ends_search is_among
+zero-ends k h = rw h
 
 seek-good : (t : List ℕ) (at : ℕ) → UnitFits t at → SeekGood t at (seek_step t at)
 unfolding seek_step seek_on
@@ -82,21 +79,21 @@ module _ (t : List ℕ) (from : ℕ) where
   pub seeking-fits : (at : ℕ) → Seeking t from at → UnitFits t at
   seeking-fits at h = h.fits
 
-  module _ (at : ℕ) (r : Seek) (h : Seeking t from at) (p : sought r ≡ seek_step t at) where
-    further-good : (b : ℕ) → r ≡ seek.Further b → UnitFits t b × (at < b)
+  module _ (at : ℕ) (r : ControlFlow Span ℕ) (h : Seeking t from at) (p : sought r ≡ seek_step t at) where
+    further-good : (b : ℕ) → r ≡ Continue b → UnitFits t b × (at < b)
     further-good b e = subst (SeekGood t at) (sym (ap sought (sym e) ∙ p)) (seek-good t at h.fits)
 
-    pub seeking-less : (b : ℕ) → r ≡ seek.Further b → 4097 - b < 4097 - at
+    pub seeking-less : (b : ℕ) → r ≡ Continue b → 4097 - b < 4097 - at
     seeking-less b e = let m = further-good b e in omega (arith, m.1, m.0.near)
 
-    pub seeking-more : (b : ℕ) → r ≡ seek.Further b → Seeking t from b
+    pub seeking-more : (b : ℕ) → r ≡ Continue b → Seeking t from b
     seeking-more b e =
         record {
           fits = (further-good b e).0;
           runs = runs-go _ _ _ _ _ (4097 - at) _ h.runs (sym (ap sought (sym e) ∙ p)) (omega (arith, seeking-less b e));
         }
 
-    pub seeking-done : (u : Span) → r ≡ seek.Here u → u ≡ definition_from t from
+    pub seeking-done : (u : Span) → r ≡ Break u → u ≡ definition_from t from
     seeking-done u e = runs-stop _ _ _ _ _ _ h.runs (sym (ap sought (sym e) ∙ p))
 
 pub ruleset definitions = (seeking-start, seeking-more, seeking-done)
@@ -122,12 +119,12 @@ module _ (same : ℕ → ℕ → Bool) (t : List ℕ) (n : ℕ) (y : List ℕ) (
     on-is =
         ap₂ (λ (v : Span) (i : ℕ). export_on same t n y l uses v i (world s f)) (sym pu) (sym (pk ∙ ap (λ (v : Span). line_kind t v.word) pu))
 
-    pub step-over : k ≡ 0 → going (Over s.best) f ≡ export_step same t n y l uses (world s f)
+    pub step-over : k ≡ 0 → going (Break s.best) f ≡ export_step same t n y l uses (world s f)
     unfolding export_on
     step-over h = sym (on-is ∙ if_eq-yes _ _ h)
 
     pub step-on : (best : ℕ) (g : List ℕ) → (k ≡ 0 → ⊥) → exported best g ≡ export_part same t n y l uses u k (exported s.best f)
-        → going (On (record { at = u.next; best = best })) g ≡ export_step same t n y l uses (world s f)
+        → going (Continue (record { at = u.next; best = best })) g ≡ export_step same t n y l uses (world s f)
     unfolding export_on
     step-on best g h q =
         ap (λ (z : Exported). go (world (exports u.next z.fault) z.flags)) q ∙ sym (on-is ∙ if_eq-no _ _ h)
@@ -161,27 +158,27 @@ module _ (same : ℕ → ℕ → Bool) (t : List ℕ) (n : ℕ) (y : List ℕ) (
     pub exporting-fits : (s : Exports) (f : List ℕ) → Exporting start f₀ s f → UnitFits t s.at
     exporting-fits s f h = h.fits
 
-    module _ (s : Exports) (f : List ℕ) (r : Going) (g : List ℕ) (h : Exporting start f₀ s f) (p : going r g ≡ export_step same t n y l uses (world s f)) where
-      more-good : (x : Exports) → r ≡ On x → UnitFits t x.at × (s.at < x.at) × (length g ≡ length f)
-      more-good x e = subst (StepGood s f) (sym (ap (λ (z : Going). going z g) (sym e) ∙ p)) (step-good s f h.fits)
+    module _ (s : Exports) (f : List ℕ) (r : ControlFlow ℕ Exports) (g : List ℕ) (h : Exporting start f₀ s f) (p : going r g ≡ export_step same t n y l uses (world s f)) where
+      more-good : (x : Exports) → r ≡ Continue x → UnitFits t x.at × (s.at < x.at) × (length g ≡ length f)
+      more-good x e = subst (StepGood s f) (sym (ap (λ (z : ControlFlow ℕ Exports). going z g) (sym e) ∙ p)) (step-good s f h.fits)
 
-      pub exporting-less : (x : Exports) → r ≡ On x → 4097 - x.at < 4097 - s.at
+      pub exporting-less : (x : Exports) → r ≡ Continue x → 4097 - x.at < 4097 - s.at
       exporting-less x e = let m = more-good x e in omega (arith, m.1, m.0.near)
 
-      pub exporting-more : (x : Exports) → r ≡ On x → Exporting start f₀ x g
+      pub exporting-more : (x : Exports) → r ≡ Continue x → Exporting start f₀ x g
       exporting-more x e =
           record {
             fits = (more-good x e).0;
             long = (more-good x e).2 ∙ h.long;
-            runs = runs-go _ _ _ _ _ (4097 - s.at) _ h.runs (sym (ap (λ (z : Going). going z g) (sym e) ∙ p)) (omega (arith, exporting-less x e));
+            runs = runs-go _ _ _ _ _ (4097 - s.at) _ h.runs (sym (ap (λ (z : ControlFlow ℕ Exports). going z g) (sym e) ∙ p)) (omega (arith, exporting-less x e));
           }
 
-      pub exporting-done : (best : ℕ) → r ≡ Over best → exported best g ≡ exports_from same t n y l uses (world start f₀)
-      exporting-done best e = runs-stop _ _ _ _ _ _ h.runs (sym (ap (λ (z : Going). going z g) (sym e) ∙ p))
+      pub exporting-done : (best : ℕ) → r ≡ Break best → exported best g ≡ exports_from same t n y l uses (world start f₀)
+      exporting-done best e = runs-stop _ _ _ _ _ _ h.runs (sym (ap (λ (z : ControlFlow ℕ Exports). going z g) (sym e) ∙ p))
 
-      pub exporting-same : (best : ℕ) → r ≡ Over best → length g ≡ length f₀
+      pub exporting-same : (best : ℕ) → r ≡ Break best → length g ≡ length f₀
       exporting-same best e =
-          subst (StepGood s f) (sym (ap (λ (z : Going). going z g) (sym e) ∙ p)) (step-good s f h.fits) ∙ h.long
+          subst (StepGood s f) (sym (ap (λ (z : ControlFlow ℕ Exports). going z g) (sym e) ∙ p)) (step-good s f h.fits) ∙ h.long
 
   pub ruleset exporting = (exporting-start, exporting-more, exporting-done)
 

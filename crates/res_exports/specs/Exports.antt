@@ -2,7 +2,9 @@
 -- if one is. Exporting n twice is as once." "An export stands before the first operand or target that means its label": else 17. Each at the
 -- export's name. At an import's name: "10 for a name the host didn't list, no label then; 17 also for an import after use" (02, 3).
 -- Assumes nothing.
-use Rattle.std.specs.Prelude.{ℕ, zero, suc, ◌+◌, ◌-◌, min, Bool, true, false, List, [], ◌∷◌, eqb, length, get_or, set}
+use Rattle.std.specs.Prelude.{ℕ, zero, suc, ◌+◌, min, Bool, false, List, [], ◌∷◌, eqb, length, get_or, set}
+use Rattle.std.specs.declared.ops.ControlFlow.{ControlFlow}
+use Rattle.std.specs.declared.ops.ControlFlow.TheVariants.{Continue, Break}
 use Rattle.base_prelude.specs.Choice.{if_lt, if_eq, if_true}
 use Rattle.base_prelude.specs.Fault.{none}
 use Rattle.base_prelude.specs.Lists.{zeros, is_among}
@@ -17,10 +19,6 @@ use Rattle.prog_tables.specs.Tests.{first_from}
 use Rattle.res_scope.specs.Lines.{label_token}
 use Rattle.res_scope.specs.Names.{label_of}
 use Rattle.res_exports.specs.declared.Exports.{Exports}
-use Rattle.res_exports.specs.declared.Seek.{Seek}
-use Rattle.res_exports.specs.declared.Seek.TheVariants as seek
-use Rattle.res_exports.specs.declared.Going.{Going}
-use Rattle.res_exports.specs.declared.Going.TheVariants.{On, Over}
 
 -- ---- the definition behind an export
 
@@ -49,9 +47,9 @@ unfoldable pub seek_step : List ℕ → ℕ → Step ℕ Span
 seek_step t at = seek_on (unit_at t at) (line_kind t (unit_at t at).word)
 
 -- what one step of the code's loop comes to
-abbrev pub sought : Seek → Step ℕ Span
-sought (seek.Further at) = go at
-sought (seek.Here u) = stop u
+abbrev pub sought : ControlFlow Span ℕ → Step ℕ Span
+sought (Continue at) = go at
+sought (Break u) = stop u
 
 -- the unit of the first definition from a token on, with no `section` between
 unfoldable pub definition_from : List ℕ → ℕ → Span
@@ -143,9 +141,9 @@ export_step same t n y l uses x =
     export_on same t n y l uses (unit_at t x.state.at) (line_kind t (unit_at t x.state.at).word) x
 
 -- what one step of the code's loop comes to
-abbrev pub going : Going → List ℕ → Step World Exported
-going (On s) flags = go (world s flags)
-going (Over best) flags = stop (exported best flags)
+abbrev pub going : ControlFlow ℕ Exports → List ℕ → Step World Exported
+going (Continue s) flags = go (world s flags)
+going (Break best) flags = stop (exported best flags)
 
 unfoldable pub exports_from : (ℕ → ℕ → Bool) → List ℕ → ℕ → List ℕ → ℕ → List ℕ → World → Exported
 exports_from same t n y l uses x = walk (export_step same t n y l uses) (exported none []) (suc (length t)) x

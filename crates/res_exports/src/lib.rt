@@ -11,6 +11,7 @@ ghost use Rattle.res_exports.specs.Exports.{is_definition, ends_search, seek_on,
 
 use lang_kinds::Kind;
 use parse_lines::Span;
+use std::ops::ControlFlow;
 
 // No fault: above every key.
 const NONE: u64 = 1099511627776;
@@ -22,61 +23,39 @@ pub struct Exports {
     pub best: u64,
 }
 
-// A search for a definition: it is found, or not yet.
-#[derive(Drop)]
-pub enum Seek {
-    Further(u32),
-    Here(Span),
-}
-
-// What one unit leads to.
-#[derive(Drop)]
-pub enum Going {
-    On(Exports),
-    Over(u64),
-}
-
 fn is_definition(k: u32) -> bool
     ensures { result ≡ is_definition k }
 {
-    if k == Kind::FUNCTION {
-        return true;
-    }
-    if k < Kind::BYTE {
-        return false;
-    }
-    k < Kind::END_GROUP
+    matches!(
+        k,
+        Kind::FUNCTION | Kind::BYTE | Kind::WORD | Kind::STRING | Kind::GROUP
+    )
 }
 
 fn ends_search(k: u32) -> bool
     ensures { result ≡ ends_search k }
 {
-    if k == Kind::EDGE {
-        return true;
-    }
-    if k < Kind::SECTION_DATA {
-        return false;
-    }
-    k < Kind::EXPORT
+    matches!(k, Kind::EDGE | Kind::SECTION_DATA | Kind::SECTION_FUNCTIONS)
 }
 
-fn seek_on(u: Span, k: u32) -> Seek
+// A search for a definition goes on at a token, or is over at a unit.
+fn seek_on(u: Span, k: u32) -> ControlFlow<Span, u32>
     ensures { sought result ≡ seek_on u k }
 {
     if is_definition(k) {
-        return Seek::Here(u);
+        return ControlFlow::Break(u);
     }
     if ends_search(k) {
-        return Seek::Here(Span {
+        return ControlFlow::Break(Span {
             first: 0,
             word: 0,
             next: 0,
         });
     }
-    Seek::Further(u.next)
+    ControlFlow::Continue(u.next)
 }
 
-fn seek_step(t: &[u32], at: u32) -> Seek
+fn seek_step(t: &[u32], at: u32) -> ControlFlow<Span, u32>
     requires { UnitFits t.now at }
     ensures { sought result ≡ seek_step t.now at }
 {
@@ -92,12 +71,8 @@ fn find_definition(t: &[u32], from: u32) -> Span
     let mut at = from;
     loop {
         match seek_step(t, at) {
-            Seek::Further(x) => {
-                at = x;
-            }
-            Seek::Here(u) => {
-                return u;
-            }
+            ControlFlow::Continue(x) => at = x,
+            ControlFlow::Break(u) => return u,
         }
     }
 }
@@ -118,14 +93,9 @@ fn carries_label(t: &[u32], y: &[u32], first: u32, word: u32, i: u32, j: u32) ->
 fn carried_by(t: &[u32], y: &[u32], l: u32, first: u32, word: u32, i: u32) -> u32
     ensures { result ≡ carried_by (same_number t.now) y.now l first word i }
 {
-    let mut j: u32 = 0;
-    while j < l {
-        if carries_label(t, y, first, word, i, j) {
-            return j;
-        }
-        j += 1;
-    }
-    j
+    (0..l)
+        .find(|&j| carries_label(t, y, first, word, i, j))
+        .unwrap_or(l)
 }
 
 fn use_fault(t: &[u32], n: u32, i: u32, q: u32) -> u64
@@ -158,24 +128,13 @@ fn export_fault(t: &[u32], n: u32, y: &[u32], l: u32, uses: &[u32], i: u32, j: u
     missing_fault(t, n, y, l, i)
 }
 
-fn is_label_at(y: &[u32], i: u32, j: u32) -> bool
-    ensures { result ≡ eqb (label_token y.now j) i }
-{
-    res_scope::label_token(y, j) == i
-}
-
 // The label that stands at token i, l for none.
 fn label_at(y: &[u32], l: u32, i: u32) -> u32
     ensures { result ≡ label_at_token y.now l i }
 {
-    let mut j: u32 = 0;
-    while j < l {
-        if is_label_at(y, i, j) {
-            return j;
-        }
-        j += 1;
-    }
-    j
+    (0..l)
+        .find(|&j| res_scope::label_token(y, j) == i)
+        .unwrap_or(l)
 }
 
 fn import_use(t: &[u32], n: u32, l: u32, uses: &[u32], i: u32, j: u32) -> u64
@@ -251,6 +210,7 @@ fn export_part(
     best
 }
 
+// One unit leads on to the next, or to the least fault of all.
 fn export_step(
     t: &[u32],
     n: u32,
@@ -259,20 +219,17 @@ fn export_step(
     uses: &[u32],
     flags: &mut [u32],
     s: Exports,
-) -> Going
+) -> ControlFlow<u64, Exports>
     requires { UnitFits t.now s.at }
     ensures { going result flags.new ≡ export_step (same_number t.now) t.now n y.now l uses.now (world s flags.old) }
 {
     let u = parse_lines::unit_at(t, s.at);
     let k = parse_lines::line_kind(t, u.word);
     if k == Kind::EDGE {
-        return Going::Over(s.best);
+        return ControlFlow::Break(s.best);
     }
     let best = export_part(t, n, y, l, uses, flags, u, k, s.best);
-    Going::On(Exports {
-        at: u.next,
-        best: best,
-    })
+    ControlFlow::Continue(Exports { at: u.next, best })
 }
 
 fn exports_from(
@@ -290,12 +247,8 @@ fn exports_from(
     let mut s = start;
     loop {
         match export_step(t, n, y, l, uses, flags, s) {
-            Going::On(x) => {
-                s = x;
-            }
-            Going::Over(best) => {
-                return best;
-            }
+            ControlFlow::Continue(x) => s = x,
+            ControlFlow::Break(best) => return best,
         }
     }
 }

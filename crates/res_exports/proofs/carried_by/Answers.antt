@@ -1,20 +1,13 @@
-use borrow.Author.Rules.{rules}
-use Rattle.res_scope.proofs.Searches.{upward}
-use Rattle.res_exports.proofs.Cases.{carried-is}
+use Rattle.std.proofs.Common.{rules}
+use Rattle.std.proofs.lemmas.Iterator.{first_from_Range}
+use Rattle.prog_tables.proofs.First.{FirstOf, first-is}
+use Rattle.res_scope.specs.Names.{same_number}
+use Rattle.res_exports.specs.Exports.{carries_label, carried_by}
 use Rattle.res_exports.proofs.carried_by.Goals as goal
 
-pub loop-j-init : goal.loop-j-init
-loop-j-init c =
-    search (upward, rules)
-
-pub returns-then-carries_label : goal.returns-then-carries_label
-returns-then-carries_label c =
-    search (carried-is, upward)
-
-pub loop-j-preserved : goal.loop-j-preserved
-loop-j-preserved c =
-    search upward
-
 pub returns : goal.returns
+unfolding carried_by
 returns c =
-    search (carried-is, upward)
+    let first : FirstOf (carries_label (same_number c.args.t.now) c.args.y.now c.args.first c.args.word c.args.i) 0 c.args.l c.find.result =
+    first_from_Range _ _ _ c.find.result _ _ c.find.ensures.ran (λ x q k. search rules) (λ x q k. search rules) in
+    search (first-is, rules)

@@ -1,15 +1,19 @@
-use Rattle.base_prelude.proofs.Choice.{tests}
-use Rattle.res_exports.proofs.Lists.{ends_by}
+use borrow.Author.Rules.{rules}
+use Rattle.res_exports.proofs.Lists.{ends_by, ranging}
 use Rattle.res_exports.proofs.ends_search.Goals as goal
 
-pub returns-then-k-eq-EDGE : goal.returns-then-k-eq-EDGE
-returns-then-k-eq-EDGE c =
-    search (ends_by, tests)
+pub returns-in-0 : goal.returns-in-0
+returns-in-0 c =
+    search (ends_by, ranging, rules)
 
-pub returns-then-k-lt-SECTION_DATA : goal.returns-then-k-lt-SECTION_DATA
-returns-then-k-lt-SECTION_DATA c =
-    search (ends_by, tests)
+pub returns-in-0-2 : goal.returns-in-0-2
+returns-in-0-2 c =
+    search (ends_by, ranging, rules)
 
-pub returns : goal.returns
-returns c =
-    search (ends_by, tests)
+pub returns-in_default : goal.returns-in_default
+returns-in_default c =
+    search (ends_by, ranging, rules)
+
+pub returns-in_default-2 : goal.returns-in_default-2
+returns-in_default-2 c =
+    search (ends_by, ranging, rules)

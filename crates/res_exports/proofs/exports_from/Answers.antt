@@ -18,10 +18,10 @@ pub loop-x-preserved : goal.loop-x-preserved
 loop-x-preserved c =
     search exporting
 
-pub shape_of-flags-in-Over : goal.shape_of-flags-in-Over
-shape_of-flags-in-Over c =
+pub shape_of-flags-in-Break : goal.shape_of-flags-in-Break
+shape_of-flags-in-Break c =
     search (exporting-same, rules)
 
-pub returns-in-Over : goal.returns-in-Over
-returns-in-Over c =
+pub returns-in-Break : goal.returns-in-Break
+returns-in-Break c =
     search exporting

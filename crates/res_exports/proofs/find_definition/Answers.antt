@@ -17,6 +17,6 @@ pub loop-x-preserved : goal.loop-x-preserved
 loop-x-preserved c =
     search definitions
 
-pub returns-in-Here : goal.returns-in-Here
-returns-in-Here c =
+pub returns-in-Break : goal.returns-in-Break
+returns-in-Break c =
     search definitions

@@ -1,20 +1,13 @@
-use borrow.Author.Rules.{rules}
-use Rattle.res_scope.proofs.Searches.{upward}
-use Rattle.res_exports.proofs.Cases.{at-is}
+use Rattle.std.proofs.Common.{rules, nat_eq}
+use Rattle.std.proofs.lemmas.Iterator.{first_from_Range}
+use Rattle.prog_tables.proofs.First.{FirstOf, first-is}
+use Rattle.res_scope.specs.Lines.{label_token}
+use Rattle.res_exports.specs.Exports.{label_at_token}
 use Rattle.res_exports.proofs.label_at.Goals as goal
 
-pub loop-j-init : goal.loop-j-init
-loop-j-init c =
-    search (upward, rules)
-
-pub returns-then-is_label_at : goal.returns-then-is_label_at
-returns-then-is_label_at c =
-    search (at-is, upward)
-
-pub loop-j-preserved : goal.loop-j-preserved
-loop-j-preserved c =
-    search upward
-
 pub returns : goal.returns
+unfolding label_at_token
 returns c =
-    search (at-is, upward)
+    let first : FirstOf (λ j. nat_eq (label_token c.args.y.now j) c.args.i) 0 c.args.l c.find.result =
+    first_from_Range _ _ _ c.find.result _ _ c.find.ensures.ran (λ x q k. search rules) (λ x q k. search rules) in
+    search (first-is, rules)
