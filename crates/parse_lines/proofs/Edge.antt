@@ -4,7 +4,6 @@ use mathlib.Core.Path.{◌≡◌, ◌∙◌}
 use mathlib.Core.List.{List}
 use Prim.Native.Nat.{ℕ}
 use native.Mathlib.Omega.{arith}
-use Rattle.base_prelude.specs.Choice.{if_eq}
 use Rattle.base_prelude.proofs.Choice.{if_eq-yes, if_eq-no}
 use Rattle.parse_lines.specs.Tokens.{kind_at}
 use Rattle.parse_lines.specs.Lines.{other_kind, line_kind}

@@ -1,18 +1,19 @@
 -- Reads of the token table, and the scanning loop.
 -- Assumes nothing.
-use mathlib.Core.Path.{◌≡◌, refl, sym, ◌∙◌, ap, subst}
+use mathlib.Core.Path.{◌≡◌, refl, sym, ◌∙◌, subst}
 use mathlib.Core.Bool.{Bool, true, false}
-use mathlib.Core.List.{List, [], ◌∷◌}
-use Prim.Native.Nat.{ℕ, zero, suc, ◌+◌, ◌*◌, ◌-◌, ◌≤◌, ◌<◌}
+use mathlib.Core.List.{List}
+use mathlib.Core.Logic.{◌⊎◌, inl, inr}
+use Prim.Native.Nat.{ℕ, suc, ◌+◌, ◌*◌, ◌-◌, ◌≤◌, ◌<◌}
 use native.Mathlib.Decide.{dec_lt}
 use native.Mathlib.Omega.{arith}
+use lib.Dec.{eqb}
 use lib.ListN.{length, get_or, get_or-eq_default}
-use Rattle.base_prelude.specs.Choice.{if_lt, if_eq, if_true}
-use Rattle.base_prelude.specs.Fault.{key}
-use Rattle.base_prelude.specs.Walk.{Step, go, stop, walk}
+use Rattle.base_prelude.specs.Choice.{pick, if_eq}
+use Rattle.base_prelude.specs.Walk.{go, stop}
 use Rattle.base_prelude.proofs.Choice.{tests, either, if_lt-yes, if_lt-no}
-use Rattle.base_prelude.proofs.Walk.{Runs, runs-start, runs-go, runs-stop, Kept, walk_kept, walk-go, walk-stop, Ends, walk_ends}
-use Rattle.parse_lines.specs.Tokens.{token_word, kind_at, place_at, key_at, skip_step, skip, all_from}
+use Rattle.base_prelude.proofs.Walk.{Runs, runs-start, runs-go, runs-stop, Kept, walk_kept}
+use Rattle.parse_lines.specs.Tokens.{token_word, kind_at, place_at, skip_step, skip, all_from}
 
 pub word-past : (t : List ℕ) (i f : ℕ) → length t ≤ i * 8 + f → 0 ≡ token_word t i f
 unfolding token_word
@@ -73,6 +74,9 @@ module _ (t : List ℕ) (lo hi from : ℕ) where
     pub skips-high : Skips t lo hi from i → k ≡ token_word t i 0 → lo ≤ k → hi ≤ k → i ≡ skip t lo hi from
     skips-high h p g f = runs-stop _ _ _ _ _ _ h.runs (skip-high t lo hi i (subst (λ (x : ℕ). lo ≤ x) p g) (subst (λ (x : ℕ). hi ≤ x) p f))
 
+    pub skips-out : Skips t lo hi from i → k ≡ token_word t i 0 → (k < lo) ⊎ ((lo ≤ k) × (hi ≤ k)) → i ≡ skip t lo hi from
+    skips-out h p e = elim e [ inl g ↦ skips-low h p g | inr g ↦ skips-high h p g.0 g.1 ]
+
     here : k ≡ token_word t i 0 → 1 ≤ lo → lo ≤ k → i * 8 < length t
     here p l g = let w : i * 8 + 0 < length t = token-within t i 0 (omega arith) in omega arith
 
@@ -90,16 +94,13 @@ module _ (t : List ℕ) (lo hi from : ℕ) where
 
 pub ruleset skipping = (skips-start, skips-low, skips-high, skips-more)
 
-module _ (t : List ℕ) (lo hi i next : ℕ) (j : ℕ) (p : j ≡ skip t lo hi i) where
-  pub all_yes : j ≡ next → true ≡ all_from t lo hi i next
-  unfolding all_from
-  all_yes e = rw (← p) (search tests)
-
-  pub all-no : (j ≡ next → ⊥) → false ≡ all_from t lo hi i next
-  unfolding all_from
-  all-no e = rw (← p) (search tests)
-
-pub ruleset alls = (all_yes, all-no)
+pub all-is : (t : List ℕ) (lo hi i next j : ℕ) → j ≡ skip t lo hi i → eqb j next ≡ all_from t lo hi i next
+unfolding all_from if_eq
+all-is t lo hi i next j p = rw (← p) (same (eqb j next))
+  where
+    same : (b : Bool) → b ≡ pick b true false
+    same true = refl
+    same false = refl
 
 -- a scan goes no way back, and not behind the table
 module _ (t : List ℕ) (lo hi from : ℕ) where

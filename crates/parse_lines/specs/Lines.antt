@@ -1,6 +1,6 @@
 -- What a line is, by its magic word and, for `section`, `end`, `else` and `set`, the token behind it.
 -- Assumes nothing.
-use Rattle.std.specs.Prelude.{ℕ, ◌+◌, ◌-◌, List}
+use Rattle.std.specs.Prelude.{ℕ, ◌+◌, List}
 use Rattle.base_prelude.specs.Choice.{if_lt, if_eq}
 use Rattle.lang_kinds.specs.Kinds as kind
 use Rattle.lang_kinds.specs.Tokens as token

@@ -77,16 +77,13 @@ pub fn skip_kinds(t: &[u32], lo: u32, hi: u32, from: u32) -> u32
     ensures { result ≡ skip t.now lo hi from }
 {
     let mut i = from;
+    // By index: the scan has no end to count to, it stops at the kind 0 behind the table.
     loop {
         let k = kind_at(t, i);
-        if k < lo {
+        if k < lo || hi <= k {
             return i;
         }
-        if k < hi {
-            i += 1;
-        } else {
-            return i;
-        }
+        i += 1;
     }
 }
 
@@ -95,10 +92,7 @@ pub fn all_from(t: &[u32], lo: u32, hi: u32, i: u32, next: u32) -> bool
     requires { (length t.now ≡ limits.token_words) × (1 ≤ lo) }
     ensures { result ≡ all_from t.now lo hi i next }
 {
-    if skip_kinds(t, lo, hi, i) == next {
-        return true;
-    }
-    false
+    skip_kinds(t, lo, hi, i) == next
 }
 
 fn span_from(t: &[u32], first: u32, word: u32) -> Span
@@ -106,8 +100,8 @@ fn span_from(t: &[u32], first: u32, word: u32) -> Span
     ensures { result ≡ span_from t.now first word }
 {
     Span {
-        first: first,
-        word: word,
+        first,
+        word,
         next: skip_kinds(t, Token::LABEL, Token::PAST_TOKENS, word + 1),
     }
 }
@@ -134,43 +128,30 @@ pub fn unit_at(t: &[u32], at: u32) -> Span
 fn section_kind(w: u32) -> u32
     ensures { result ≡ section_kind w }
 {
-    if w == Word::DATA {
-        return Kind::SECTION_DATA;
+    match w {
+        Word::DATA => Kind::SECTION_DATA,
+        Word::FUNCTIONS => Kind::SECTION_FUNCTIONS,
+        Word::CODE => Kind::LEFT_OUT,
+        _ => Kind::UNKNOWN,
     }
-    if w == Word::FUNCTIONS {
-        return Kind::SECTION_FUNCTIONS;
-    }
-    if w == Word::CODE {
-        return Kind::LEFT_OUT;
-    }
-    Kind::UNKNOWN
 }
 
 fn end_kind(w: u32) -> u32
     ensures { result ≡ end_kind w }
 {
-    if w == Word::FUNCTION {
-        return Kind::END_FUNCTION;
+    match w {
+        Word::FUNCTION => Kind::END_FUNCTION,
+        Word::BLOCK => Kind::END_BLOCK,
+        Word::IF => Kind::END_IF,
+        Word::GROUP => Kind::END_GROUP,
+        _ => Kind::UNKNOWN,
     }
-    if w == Word::BLOCK {
-        return Kind::END_BLOCK;
-    }
-    if w == Word::IF {
-        return Kind::END_IF;
-    }
-    if w == Word::GROUP {
-        return Kind::END_GROUP;
-    }
-    Kind::UNKNOWN
 }
 
 fn test_kind(w: u32) -> u32
     ensures { result ≡ test_kind w }
 {
-    if w < Word::IFEQ {
-        return Kind::UNKNOWN;
-    }
-    if w < Word::ADD {
+    if Word::IFEQ <= w && w < Word::ADD {
         return Kind::ELSE_IF;
     }
     Kind::UNKNOWN
@@ -191,61 +172,34 @@ fn else_kind(kind: u32, w: u32) -> u32
 fn set_kind(kind: u32) -> u32
     ensures { result ≡ set_kind kind }
 {
-    if kind == Token::AT_SYMBOL {
-        return Kind::SET_AT;
+    match kind {
+        Token::AT_SYMBOL | Token::AT_SUBSTITUTE | Token::AT_INTEGER => Kind::SET_AT,
+        _ => Kind::SET,
     }
-    if kind == Token::AT_SUBSTITUTE {
-        return Kind::SET_AT;
-    }
-    if kind == Token::AT_INTEGER {
-        return Kind::SET_AT;
-    }
-    Kind::SET
 }
 
 fn symbol_kind(w: u32, kind: u32, second: u32) -> u32
     ensures { result ≡ symbol_kind w kind second }
 {
-    if w == Word::SECTION {
-        if kind == Token::SYMBOL {
-            return section_kind(second);
-        }
-        return Kind::UNKNOWN;
+    match w {
+        Word::SECTION if kind == Token::SYMBOL => section_kind(second),
+        Word::END if kind == Token::SYMBOL => end_kind(second),
+        Word::SECTION | Word::END => Kind::UNKNOWN,
+        Word::ELSE => else_kind(kind, second),
+        Word::SET => set_kind(kind),
+        _ => lang_kinds::kind_of_word(w),
     }
-    if w == Word::END {
-        if kind == Token::SYMBOL {
-            return end_kind(second);
-        }
-        return Kind::UNKNOWN;
-    }
-    if w == Word::ELSE {
-        return else_kind(kind, second);
-    }
-    if w == Word::SET {
-        return set_kind(kind);
-    }
-    lang_kinds::kind_of_word(w)
 }
 
 fn other_kind(kind: u32, w: u32) -> u32
     ensures { result ≡ other_kind kind w }
 {
-    if kind == Token::SOURCE_END {
-        return Kind::EDGE;
+    match kind {
+        Token::SOURCE_END => Kind::EDGE,
+        Token::SUBSTITUTE | Token::AT_SUBSTITUTE if w == Substitutes::SAVED_FRAME_SIZE =>
+            Kind::LEFT_OUT,
+        _ => Kind::UNKNOWN,
     }
-    if kind == Token::SUBSTITUTE {
-        if w == Substitutes::SAVED_FRAME_SIZE {
-            return Kind::LEFT_OUT;
-        }
-        return Kind::UNKNOWN;
-    }
-    if kind == Token::AT_SUBSTITUTE {
-        if w == Substitutes::SAVED_FRAME_SIZE {
-            return Kind::LEFT_OUT;
-        }
-        return Kind::UNKNOWN;
-    }
-    Kind::UNKNOWN
 }
 
 // The kind of the line whose magic word is a token.

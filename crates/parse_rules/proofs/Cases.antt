@@ -1,11 +1,9 @@
 -- One law for each way through a rule.
 -- Assumes nothing.
-use mathlib.Core.Path.{◌≡◌, refl, sym, ◌∙◌, ap, ap₂, subst}
+use mathlib.Core.Path.{◌≡◌}
 use mathlib.Core.Bool.{Bool, true, false}
-use mathlib.Core.List.{List, [], ◌∷◌}
-use Prim.Native.Nat.{ℕ, zero, suc, ◌+◌, ◌-◌, ◌≤◌, ◌<◌, min}
-use native.Mathlib.Omega.{arith}
-use Rattle.base_prelude.specs.Choice.{if_lt, if_eq, if_true}
+use mathlib.Core.List.{List}
+use Prim.Native.Nat.{ℕ, ◌+◌, ◌≤◌, ◌<◌, min}
 use Rattle.base_prelude.specs.Fault.{none}
 use Rattle.base_prelude.proofs.Choice.{tests}
 use Rattle.base_limits.specs.declared.Width.{Width}
@@ -13,8 +11,7 @@ use Rattle.lang_words.specs.Words.{most_operands}
 use Rattle.parse_lines.specs.Tokens.{token_word, key_at}
 use Rattle.parse_shapes.specs.Shapes.{is_name, is_operator, is_listed, shape_fits}
 use Rattle.parse_lines.specs.declared.Span.{Span}
-use Rattle.parse_rules.proofs.Own.{own-by}
-use Rattle.parse_rules.specs.Rules.{shape_rule, left_rule, is_head, head_at, own_word, name_key, substitute_key, token_key, past_most, list_rule, reserved_label, label_limit, label_key, labelled, label_step}
+use Rattle.parse_rules.specs.Rules.{shape_rule, left_rule, is_head, head_at, name_key, substitute_key, token_key, past_most, list_rule, reserved_label, label_limit, label_key, labelled, label_step}
 use Rattle.parse_rules.specs.declared.Labelled.{Labelled}
 
 module _ (w : Width) (t : List ℕ) (n : ℕ) (u : Span) (k : ℕ) where
@@ -78,54 +75,14 @@ module _ (t : List ℕ) (i : ℕ) where
 
 pub ruleset heads = (head-no, head-call, head-operator, head-here, head-none)
 
-module _ (t : List ℕ) (u : Span) (k : ℕ) where
-  pub own-2 : k ≡ 2 → u.word + 1 ≡ own_word t u k
-  own-2 e = own-by t u k _ (search tests depth 16)
-
-  pub own-4 : (k ≡ 2 → ⊥) → k ≡ 4 → u.word + 1 ≡ own_word t u k
-  own-4 a e = own-by t u k _ (search tests depth 16)
-
-  pub own-22 : (k ≡ 2 → ⊥) → (k ≡ 4 → ⊥) → k ≡ 22 → u.word + 1 ≡ own_word t u k
-  own-22 a b e = own-by t u k _ (search tests depth 16)
-
-  pub own-33 : (k ≡ 2 → ⊥) → (k ≡ 4 → ⊥) → (k ≡ 22 → ⊥) → k ≡ 33 → u.word + 1 ≡ own_word t u k
-  own-33 a b c e = own-by t u k _ (search tests depth 16)
-
-  pub own-21 : (k ≡ 2 → ⊥) → (k ≡ 4 → ⊥) → (k ≡ 22 → ⊥) → (k ≡ 33 → ⊥) → k ≡ 21 → u.word + 1 ≡ own_word t u k
-  own-21 a b c d e = own-by t u k _ (search tests depth 16)
-
-  module _ (a : k ≡ 2 → ⊥) (b : k ≡ 4 → ⊥) (c : k ≡ 22 → ⊥) (d : k ≡ 33 → ⊥) (e : k ≡ 21 → ⊥) where
-    pub own-return : (r : ℕ) → k ≡ 13 → r ≡ head_at t (u.word + 1) → r ≡ own_word t u k
-    own-return r f q = own-by t u k _ (rw (← q) (search tests depth 16))
-
-    pub own-low : (k ≡ 13 → ⊥) → k < 5 → 0 ≡ own_word t u k
-    own-low f h = own-by t u k _ (search tests depth 16)
-
-    pub own-let : (r : ℕ) → (k ≡ 13 → ⊥) → 5 ≤ k → k < 8 → r ≡ head_at t (u.word + 2) → r ≡ own_word t u k
-    own-let r f h g q = own-by t u k _ (rw (← q) (search tests depth 16))
-
-    pub own-none : (k ≡ 13 → ⊥) → 5 ≤ k → 8 ≤ k → 0 ≡ own_word t u k
-    own-none f h g = own-by t u k _ (search tests depth 16)
-
-pub ruleset owns = (own-2, own-4, own-22, own-33, own-21, own-return, own-low, own-let, own-none)
-
 module _ (t : List ℕ) (n own i : ℕ) where
   pub name-own : i ≡ own → none ≡ name_key t n own i
   unfolding name_key
   name-own e = search tests
 
-  module _ (w : ℕ) (e : i ≡ own → ⊥) (p : w ≡ token_word t i 5) where
-    pub name_free : w < 1 → none ≡ name_key t n own i
-    unfolding name_key
-    name_free h = rw (← p) (search tests)
-
-    pub name-reserved : (r : ℕ) → 1 ≤ w → w < 52 → r ≡ key_at t n i 8 → r ≡ name_key t n own i
-    unfolding name_key
-    name-reserved r h g q = rw (← p, ← q) (search tests)
-
-    pub name-section : 1 ≤ w → 52 ≤ w → none ≡ name_key t n own i
-    unfolding name_key
-    name-section h g = rw (← p) (search tests)
+  pub name-other : (r : ℕ) → (i ≡ own → ⊥) → r ≡ reserved_label t n i → r ≡ name_key t n own i
+  unfolding name_key reserved_label
+  name-other r e p = search tests
 
   module _ (k : ℕ) (p : k ≡ token_word t i 0) where
     pub key-symbol : (r : ℕ) → k ≡ 3 → r ≡ name_key t n own i → r ≡ token_key t n own i
@@ -148,7 +105,7 @@ module _ (t : List ℕ) (n own i : ℕ) where
     unfolding token_key
     key-none e f g h = rw (← p) (search tests)
 
-pub ruleset names = (name-own, name_free, name-reserved, name-section)
+pub ruleset names = (name-own, name-other)
 
 pub ruleset keys = (key-symbol, key-at-symbol, key-substitute, key-at-substitute, key-none)
 

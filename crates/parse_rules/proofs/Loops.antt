@@ -1,6 +1,6 @@
 -- The loops over a unit's tokens and labels.
 -- Assumes nothing.
-use mathlib.Core.Path.{◌≡◌, refl, sym, ◌∙◌, ap, subst}
+use mathlib.Core.Path.{◌≡◌, refl, sym, ◌∙◌, ap}
 use mathlib.Core.Bool.{Bool, true, false}
 use mathlib.Core.List.{List, [], ◌∷◌}
 use lib.Dec.{T, leb, leb→le}
@@ -8,10 +8,9 @@ use Rattle.base_prelude.specs.Choice.{pick}
 use Rattle.base_prelude.proofs.Table.{and, and_left, and_right}
 use Rattle.lang_words.specs.Words.{Entry, words, first_of, is_number, entry_of, most_operands}
 use Prim.Native.Nat.{ℕ, zero, suc, ◌+◌, ◌-◌, ◌≤◌, ◌<◌, min}
-use native.Mathlib.Nat.{min-eq_right, min-eq_left, min-le_left, min-le_right, le-min, le_trans}
+use native.Mathlib.Nat.{min-eq_right, min-eq_left, min-le_right, le_trans}
 use native.Mathlib.Omega.{arith}
 use Rattle.base_prelude.specs.Fault.{none}
-use Rattle.base_prelude.specs.Choice.{if_eq}
 use Rattle.base_prelude.proofs.Choice.{either-eq}
 use Rattle.parse_rules.specs.Rules.{token_key, tokens_least, label_step, labels_from, labelled}
 use Rattle.parse_rules.specs.declared.Labelled.{Labelled}
@@ -60,8 +59,8 @@ module _ (t : List ℕ) (n own from next : ℕ) where
   pub tokening-start : Tokening t n own from next none from
   tokening-start = record { low = omega arith; scans = scanning-start t n own from next }
 
-  pub tokening-more : (best best' i : ℕ) → Tokening t n own from next best i → i < next → best' ≡ min best (token_key t n own i) → Tokening t n own from next best' (i + 1)
-  tokening-more best best' i h l e = record { low = omega (arith, h.low); scans = scanning-more t n own from next best best' i h.scans l e }
+  pub tokening-more : (best best' k i : ℕ) → Tokening t n own from next best i → i < next → k ≡ token_key t n own i → best' ≡ min best k → Tokening t n own from next best' (i + 1)
+  tokening-more best best' k i h l p e = record { low = omega (arith, h.low); scans = scanning-more t n own from next best best' i h.scans l (e ∙ ap (min best) p) }
 
   pub tokening-done : (best i : ℕ) → Tokening t n own from next best i → next ≤ i → best ≡ tokens_least (next - from) t n own from
   tokening-done best i h l = scanning-done t n own from next best i h.scans h.low l

@@ -25,19 +25,16 @@ pub fn shape_rule(w: Width, t: &[u32], n: u32, u: Span, k: u32) -> u64
     requires { (length t.now ≡ limits.token_words) × (u.word < limits.greatest_word - 3) }
     ensures { result ≡ shape_rule w t.now n u k }
 {
-    if k == Kind::EDGE {
-        return 1099511627776;
+    match k {
+        Kind::EDGE | Kind::LEFT_OUT => 1099511627776,
+        Kind::UNKNOWN => parse_lines::key_at(t, n, u.word, 7),
+        _ => {
+            if parse_shapes::shape_fits(w, t, u, k) {
+                return 1099511627776;
+            }
+            parse_lines::key_at(t, n, u.word, 7)
+        }
     }
-    if k == Kind::LEFT_OUT {
-        return 1099511627776;
-    }
-    if k == Kind::UNKNOWN {
-        return parse_lines::key_at(t, n, u.word, 7);
-    }
-    if parse_shapes::shape_fits(w, t, u, k) {
-        return 1099511627776;
-    }
-    parse_lines::key_at(t, n, u.word, 7)
 }
 
 // 9: a left-out word, in any shape and place.
@@ -53,14 +50,8 @@ pub fn left_rule(t: &[u32], n: u32, u: Span, k: u32) -> u64
 fn is_head(t: &[u32], i: u32) -> bool
     ensures { result ≡ is_head t.now i }
 {
-    if parse_shapes::is_name(t, i) {
-        let w = parse_lines::word_at(t, i);
-        if w == Word::CALL {
-            return true;
-        }
-        return parse_shapes::is_operator(w);
-    }
-    false
+    let w = parse_lines::word_at(t, i);
+    parse_shapes::is_name(t, i) && (w == Word::CALL || parse_shapes::is_operator(w))
 }
 
 fn head_at(t: &[u32], i: u32) -> u32
@@ -77,48 +68,23 @@ fn own_word(t: &[u32], u: Span, k: u32) -> u32
     requires { u.word < limits.greatest_word - 3 }
     ensures { result ≡ own_word t.now u k }
 {
-    if k == Kind::END_FUNCTION {
-        return u.word + 1;
+    match k {
+        Kind::END_FUNCTION | Kind::END_BLOCK | Kind::END_IF | Kind::END_GROUP | Kind::ELSE_IF =>
+            u.word + 1,
+        Kind::RETURN => head_at(t, u.word + 1),
+        Kind::LET | Kind::SET | Kind::SET_AT => head_at(t, u.word + 2),
+        _ => 0,
     }
-    if k == Kind::END_BLOCK {
-        return u.word + 1;
-    }
-    if k == Kind::END_IF {
-        return u.word + 1;
-    }
-    if k == Kind::END_GROUP {
-        return u.word + 1;
-    }
-    if k == Kind::ELSE_IF {
-        return u.word + 1;
-    }
-    if k == Kind::RETURN {
-        return head_at(t, u.word + 1);
-    }
-    if k < Kind::LET {
-        return 0;
-    }
-    if k < Kind::SET_BYTE {
-        return head_at(t, u.word + 2);
-    }
-    0
 }
 
-// 8: a reserved word as a name.
+// 8: a reserved word as a name, if it is not in its own place.
 fn name_key(t: &[u32], n: u32, own: u32, i: u32) -> u64
     ensures { result ≡ name_key t.now n own i }
 {
     if i == own {
         return 1099511627776;
     }
-    let w = parse_lines::word_at(t, i);
-    if w < Word::SECTION {
-        return 1099511627776;
-    }
-    if w < Word::PAST_WORDS {
-        return parse_lines::key_at(t, n, i, 8);
-    }
-    1099511627776
+    reserved_label(t, n, i)
 }
 
 // 7 and 9: substitutes that stand for nothing.
@@ -126,41 +92,21 @@ fn substitute_key(t: &[u32], n: u32, i: u32) -> u64
     ensures { result ≡ substitute_key t.now n i }
 {
     let w = parse_lines::word_at(t, i);
-    if w == Substitutes::BITS_PER_WORD {
-        return 1099511627776;
+    match w {
+        Substitutes::BITS_PER_WORD | Substitutes::BYTES_PER_WORD => 1099511627776,
+        Substitutes::SAVED_FRAME_SIZE => parse_lines::key_at(t, n, i, 9),
+        _ => parse_lines::key_at(t, n, i, 7),
     }
-    if w == Substitutes::BYTES_PER_WORD {
-        return 1099511627776;
-    }
-    if w == Substitutes::SAVED_FRAME_SIZE {
-        return parse_lines::key_at(t, n, i, 9);
-    }
-    parse_lines::key_at(t, n, i, 7)
 }
 
 fn token_key(t: &[u32], n: u32, own: u32, i: u32) -> u64
     ensures { result ≡ token_key t.now n own i }
 {
-    let k = parse_lines::kind_at(t, i);
-    if k == Token::SYMBOL {
-        return name_key(t, n, own, i);
+    match parse_lines::kind_at(t, i) {
+        Token::SYMBOL | Token::AT_SYMBOL => name_key(t, n, own, i),
+        Token::SUBSTITUTE | Token::AT_SUBSTITUTE => substitute_key(t, n, i),
+        _ => 1099511627776,
     }
-    if k == Token::AT_SYMBOL {
-        return name_key(t, n, own, i);
-    }
-    if k == Token::SUBSTITUTE {
-        return substitute_key(t, n, i);
-    }
-    if k == Token::AT_SUBSTITUTE {
-        return substitute_key(t, n, i);
-    }
-    1099511627776
-}
-
-fn with_token(best: u64, t: &[u32], n: u32, own: u32, i: u32) -> u64
-    ensures { result ≡ min best (token_key t.now n own i) }
-{
-    base_prelude::least(best, token_key(t, n, own, i))
 }
 
 // The least over the tokens from one to before another.
@@ -168,10 +114,8 @@ fn tokens_least(t: &[u32], n: u32, own: u32, from: u32, next: u32) -> u64
     ensures { result ≡ tokens_least (next - from) t.now n own from }
 {
     let mut best: u64 = 1099511627776;
-    let mut i = from;
-    while i < next {
-        best = with_token(best, t, n, own, i);
-        i += 1;
+    for i in from..next {
+        best = best.min(token_key(t, n, own, i));
     }
     best
 }
@@ -205,14 +149,12 @@ pub fn list_rule(t: &[u32], n: u32, u: Span, k: u32) -> u64
     1099511627776
 }
 
+// 8: a reserved word.
 fn reserved_label(t: &[u32], n: u32, i: u32) -> u64
     ensures { result ≡ reserved_label t.now n i }
 {
     let w = parse_lines::word_at(t, i);
-    if w < Word::SECTION {
-        return 1099511627776;
-    }
-    if w < Word::PAST_WORDS {
+    if Word::SECTION <= w && w < Word::PAST_WORDS {
         return parse_lines::key_at(t, n, i, 8);
     }
     1099511627776
@@ -231,7 +173,7 @@ pub fn label_limit(t: &[u32], n: u32, i: u32, c: u32) -> u64
 fn label_key(t: &[u32], n: u32, i: u32, c: u32) -> u64
     ensures { result ≡ label_key t.now n i c }
 {
-    base_prelude::least(reserved_label(t, n, i), label_limit(t, n, i, c))
+    reserved_label(t, n, i).min(label_limit(t, n, i, c))
 }
 
 fn label_step(t: &[u32], n: u32, i: u32, x: Labelled) -> Labelled
@@ -240,7 +182,7 @@ fn label_step(t: &[u32], n: u32, i: u32, x: Labelled) -> Labelled
 {
     if parse_lines::kind_at(t, i) == Token::LABEL {
         return Labelled {
-            fault: base_prelude::least(x.fault, label_key(t, n, i, x.count)),
+            fault: x.fault.min(label_key(t, n, i, x.count)),
             count: x.count + 1,
         };
     }
@@ -255,10 +197,8 @@ fn labels_from(t: &[u32], n: u32, first: u32, end: u32, c: u32) -> Labelled
         fault: 1099511627776,
         count: c,
     };
-    let mut i = first;
-    while i < end {
+    for i in first..end {
         x = label_step(t, n, i, x);
-        i += 1;
     }
     x
 }

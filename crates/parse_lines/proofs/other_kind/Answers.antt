@@ -1,33 +1,24 @@
 use Rattle.base_prelude.proofs.Choice.{tests}
-use Rattle.parse_lines.specs.Lines.{section_kind, end_kind, test_kind, set_kind, other_kind}
+use borrow.Author.Rules.{rules}
+use Rattle.parse_lines.specs.Lines.{other_kind}
 use Rattle.parse_lines.proofs.other_kind.Goals as goal
 
-pub returns-then-kind-eq-SOURCE_END : goal.returns-then-kind-eq-SOURCE_END
-unfolding section_kind end_kind test_kind set_kind other_kind
-returns-then-kind-eq-SOURCE_END c =
-    search tests depth 16
+pub returns-in-0 : goal.returns-in-0
+unfolding other_kind
+returns-in-0 c =
+    search (tests, rules) depth 16
 
-pub returns-then-w-eq-SAVED_FRAME_SIZE : goal.returns-then-w-eq-SAVED_FRAME_SIZE
-unfolding section_kind end_kind test_kind set_kind other_kind
-returns-then-w-eq-SAVED_FRAME_SIZE c =
-    search tests depth 16
+pub returns-in-4 : goal.returns-in-4
+unfolding other_kind
+returns-in-4 c =
+    search (tests, rules) depth 16
 
-pub returns-then-kind-eq-SUBSTITUTE : goal.returns-then-kind-eq-SUBSTITUTE
-unfolding section_kind end_kind test_kind set_kind other_kind
-returns-then-kind-eq-SUBSTITUTE c =
-    search tests depth 16
+pub returns-in_default : goal.returns-in_default
+unfolding other_kind
+returns-in_default c =
+    search (tests, rules) depth 16
 
-pub returns-then-w-eq-SAVED_FRAME_SIZE-2 : goal.returns-then-w-eq-SAVED_FRAME_SIZE-2
-unfolding section_kind end_kind test_kind set_kind other_kind
-returns-then-w-eq-SAVED_FRAME_SIZE-2 c =
-    search tests depth 16
-
-pub returns-then-kind-eq-AT_SUBSTITUTE : goal.returns-then-kind-eq-AT_SUBSTITUTE
-unfolding section_kind end_kind test_kind set_kind other_kind
-returns-then-kind-eq-AT_SUBSTITUTE c =
-    search tests depth 16
-
-pub returns : goal.returns
-unfolding section_kind end_kind test_kind set_kind other_kind
-returns c =
-    search tests depth 16
+pub returns-in_default-2 : goal.returns-in_default-2
+unfolding other_kind
+returns-in_default-2 c =
+    search (tests, rules) depth 16

@@ -1,23 +1,24 @@
 use Rattle.base_prelude.proofs.Choice.{tests}
-use Rattle.parse_lines.specs.Lines.{section_kind, end_kind, test_kind, set_kind, other_kind}
+use borrow.Author.Rules.{rules}
+use Rattle.parse_lines.specs.Lines.{section_kind}
 use Rattle.parse_lines.proofs.section_kind.Goals as goal
 
-pub returns-then-w-eq-DATA : goal.returns-then-w-eq-DATA
-unfolding section_kind end_kind test_kind set_kind other_kind
-returns-then-w-eq-DATA c =
-    search tests depth 16
+pub returns-in-52 : goal.returns-in-52
+unfolding section_kind
+returns-in-52 c =
+    search (tests, rules) depth 16
 
-pub returns-then-w-eq-FUNCTIONS : goal.returns-then-w-eq-FUNCTIONS
-unfolding section_kind end_kind test_kind set_kind other_kind
-returns-then-w-eq-FUNCTIONS c =
-    search tests depth 16
+pub returns-in-53 : goal.returns-in-53
+unfolding section_kind
+returns-in-53 c =
+    search (tests, rules) depth 16
 
-pub returns-then-w-eq-CODE : goal.returns-then-w-eq-CODE
-unfolding section_kind end_kind test_kind set_kind other_kind
-returns-then-w-eq-CODE c =
-    search tests depth 16
+pub returns-in-54 : goal.returns-in-54
+unfolding section_kind
+returns-in-54 c =
+    search (tests, rules) depth 16
 
-pub returns : goal.returns
-unfolding section_kind end_kind test_kind set_kind other_kind
-returns c =
-    search tests depth 16
+pub returns-in_default : goal.returns-in_default
+unfolding section_kind
+returns-in_default c =
+    search (tests, rules) depth 16

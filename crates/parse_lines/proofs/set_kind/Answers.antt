@@ -1,23 +1,24 @@
 use Rattle.base_prelude.proofs.Choice.{tests}
-use Rattle.parse_lines.specs.Lines.{section_kind, end_kind, test_kind, set_kind, other_kind}
+use borrow.Author.Rules.{rules}
+use Rattle.parse_lines.specs.Lines.{set_kind}
 use Rattle.parse_lines.proofs.set_kind.Goals as goal
 
-pub returns-then-kind-eq-AT_SYMBOL : goal.returns-then-kind-eq-AT_SYMBOL
-unfolding section_kind end_kind test_kind set_kind other_kind
-returns-then-kind-eq-AT_SYMBOL c =
-    search tests depth 16
+pub returns-in_default : goal.returns-in_default
+unfolding set_kind
+returns-in_default c =
+    search (tests, rules) depth 16
 
-pub returns-then-kind-eq-AT_SUBSTITUTE : goal.returns-then-kind-eq-AT_SUBSTITUTE
-unfolding section_kind end_kind test_kind set_kind other_kind
-returns-then-kind-eq-AT_SUBSTITUTE c =
-    search tests depth 16
+pub returns-in_default-2 : goal.returns-in_default-2
+unfolding set_kind
+returns-in_default-2 c =
+    search (tests, rules) depth 16
 
-pub returns-then-kind-eq-AT_INTEGER : goal.returns-then-kind-eq-AT_INTEGER
-unfolding section_kind end_kind test_kind set_kind other_kind
-returns-then-kind-eq-AT_INTEGER c =
-    search tests depth 16
+pub returns-in-5 : goal.returns-in-5
+unfolding set_kind
+returns-in-5 c =
+    search (tests, rules) depth 16
 
-pub returns : goal.returns
-unfolding section_kind end_kind test_kind set_kind other_kind
-returns c =
-    search tests depth 16
+pub returns-in-5-2 : goal.returns-in-5-2
+unfolding set_kind
+returns-in-5-2 c =
+    search (tests, rules) depth 16

@@ -1,30 +1,31 @@
 use Rattle.parse_lines.proofs.Cases.{symbolic}
+use borrow.Author.Rules.{rules}
 use Rattle.parse_lines.proofs.symbol_kind.Goals as goal
 
-pub returns-then-kind-eq-SYMBOL : goal.returns-then-kind-eq-SYMBOL
-returns-then-kind-eq-SYMBOL c =
-    search symbolic
+pub returns-in-1 : goal.returns-in-1
+returns-in-1 c =
+    search (symbolic, rules)
 
-pub returns-then-w-eq-SECTION : goal.returns-then-w-eq-SECTION
-returns-then-w-eq-SECTION c =
-    search symbolic
+pub returns-in-11 : goal.returns-in-11
+returns-in-11 c =
+    search (symbolic, rules)
 
-pub returns-then-kind-eq-SYMBOL-2 : goal.returns-then-kind-eq-SYMBOL-2
-returns-then-kind-eq-SYMBOL-2 c =
-    search symbolic
+pub returns-in-12 : goal.returns-in-12
+returns-in-12 c =
+    search (symbolic, rules)
 
-pub returns-then-w-eq-END : goal.returns-then-w-eq-END
-returns-then-w-eq-END c =
-    search symbolic
+pub returns-in-18 : goal.returns-in-18
+returns-in-18 c =
+    search (symbolic, rules)
 
-pub returns-then-w-eq-ELSE : goal.returns-then-w-eq-ELSE
-returns-then-w-eq-ELSE c =
-    search symbolic
+pub returns-in_default : goal.returns-in_default
+returns-in_default c =
+    search (symbolic, rules)
 
-pub returns-then-w-eq-SET : goal.returns-then-w-eq-SET
-returns-then-w-eq-SET c =
-    search symbolic
+pub returns-in-1-2 : goal.returns-in-1-2
+returns-in-1-2 c =
+    search (symbolic, rules)
 
-pub returns : goal.returns
-returns c =
-    search symbolic
+pub returns-in-1-2-2 : goal.returns-in-1-2-2
+returns-in-1-2-2 c =
+    search (symbolic, rules)

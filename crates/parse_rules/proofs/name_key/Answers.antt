@@ -5,14 +5,6 @@ pub returns-then-i-own : goal.returns-then-i-own
 returns-then-i-own c =
     search names
 
-pub returns-then-w-lt-SECTION : goal.returns-then-w-lt-SECTION
-returns-then-w-lt-SECTION c =
-    search names
-
-pub returns-then-w-lt-PAST_WORDS : goal.returns-then-w-lt-PAST_WORDS
-returns-then-w-lt-PAST_WORDS c =
-    search names
-
 pub returns : goal.returns
 returns c =
     search names

@@ -1,18 +1,15 @@
 use Rattle.parse_rules.proofs.Cases.{stands}
+use borrow.Author.Rules.{rules}
 use Rattle.parse_rules.proofs.substitute_key.Goals as goal
 
-pub returns-then-w-eq-BITS_PER_WORD : goal.returns-then-w-eq-BITS_PER_WORD
-returns-then-w-eq-BITS_PER_WORD c =
-    search stands
+pub returns-in-3 : goal.returns-in-3
+returns-in-3 c =
+    search (stands, rules)
 
-pub returns-then-w-eq-BYTES_PER_WORD : goal.returns-then-w-eq-BYTES_PER_WORD
-returns-then-w-eq-BYTES_PER_WORD c =
-    search stands
+pub returns-in-1 : goal.returns-in-1
+returns-in-1 c =
+    search (stands, rules)
 
-pub returns-then-w-eq-SAVED_FRAME_SIZE : goal.returns-then-w-eq-SAVED_FRAME_SIZE
-returns-then-w-eq-SAVED_FRAME_SIZE c =
-    search stands
-
-pub returns : goal.returns
-returns c =
-    search stands
+pub returns-in_default : goal.returns-in_default
+returns-in_default c =
+    search (stands, rules)

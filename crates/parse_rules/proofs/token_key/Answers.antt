@@ -1,22 +1,15 @@
 use Rattle.parse_rules.proofs.Cases.{keys}
+use borrow.Author.Rules.{rules}
 use Rattle.parse_rules.proofs.token_key.Goals as goal
 
-pub returns-then-k-eq-SYMBOL : goal.returns-then-k-eq-SYMBOL
-returns-then-k-eq-SYMBOL c =
-    search keys
+pub returns-in-3 : goal.returns-in-3
+returns-in-3 c =
+    search (keys, rules)
 
-pub returns-then-k-eq-AT_SYMBOL : goal.returns-then-k-eq-AT_SYMBOL
-returns-then-k-eq-AT_SYMBOL c =
-    search keys
+pub returns-in-4 : goal.returns-in-4
+returns-in-4 c =
+    search (keys, rules)
 
-pub returns-then-k-eq-SUBSTITUTE : goal.returns-then-k-eq-SUBSTITUTE
-returns-then-k-eq-SUBSTITUTE c =
-    search keys
-
-pub returns-then-k-eq-AT_SUBSTITUTE : goal.returns-then-k-eq-AT_SUBSTITUTE
-returns-then-k-eq-AT_SUBSTITUTE c =
-    search keys
-
-pub returns : goal.returns
-returns c =
-    search keys
+pub returns-in_default : goal.returns-in_default
+returns-in_default c =
+    search (keys, rules)
