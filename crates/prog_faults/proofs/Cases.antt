@@ -3,22 +3,22 @@
 use mathlib.Core.Path.{◌≡◌, refl, sym, ◌∙◌, ap}
 use mathlib.Core.Bool.{Bool, true, false}
 use mathlib.Core.List.{List, [], ◌∷◌}
-use Prim.Native.Nat.{ℕ, zero, suc, ◌+◌, ◌-◌, ◌*◌, ◌<◌, ◌≤◌, min}
+use Prim.Native.Nat.{ℕ, zero, suc, ◌+◌, ◌*◌, ◌<◌, ◌≤◌, min}
 use native.Mathlib.Nat.{not-suc-le-zero, le_of_suc-le-suc, zero-lt-suc}
-use native.Mathlib.Decide.{ℕ_discrete}
 use native.Mathlib.Omega.{arith}
 use lib.ListN.{length, get_or, take}
 use borrow.Author.Tests.{eq-eqb, ne_eqb, lt-ltb, le-ltb, le-leb, lt-leb}
 use lib.Dec.{eqb, ltb, leb}
 use Rattle.base_prelude.specs.Choice.{if_true, if_eq}
-use Rattle.prog_tables.specs.Tests.{one_of, some, some_of}
+use Rattle.prog_tables.specs.Tests.{one_of, some_of, some_below}
 use Rattle.prog_tables.specs.Statement.{Row, has_expression, is_test, is_operator, is_call_row, is_call, is_import, is_call_expression, used_by, operand_at, slots, row_from, row_at}
 use Rattle.prog_tables.specs.Nesting.{is_listed, has_target}
 use Rattle.prog_tables.specs.Program.{Program, lent_program}
-use Rattle.prog_tables.specs.Faults.{expression_listed, expression_fault, in_function, size_at, operand_fault, address_listed, kind_fault, target_fault, function_fault, import_fault, callee_fault, size_fault, own_word, has_word, word_fault, operands_fault, address_fault, row_fault}
+use Rattle.prog_tables.specs.Faults.{expression_listed, expression_fault, in_function, size_at, operand_fault, address_listed, kind_fault, target_fault, function_fault, import_fault, callee_fault, size_fault, own_word, has_word, word_fault, operands_fault, address_fault}
 use Rattle.prog_tables.specs.declared.Operand.{Operand}
 use Rattle.prog_tables.specs.declared.Operand.TheVariants.{Unlisted}
 use Rattle.prog_tables.proofs.Each.{one-true}
+use Rattle.prog_tables.proofs.Scans.{passes-below, none-below}
 use Rattle.prog_tables.proofs.CallRows.{call-bare}
 
 module _ (k : ℕ) (b : Bool) (d : b ≡ is_test k) where
@@ -290,41 +290,17 @@ operand_at_row t n i = operand_at t (n * 27 + 11 + i * 2)
 abbrev used_at : List ℕ → ℕ → ℕ
 used_at t n = used_by (row_at t n).kind (row_at t n).expr (row_at t n).count
 
-pub record Passing (t : List ℕ) (s d n m i : ℕ) : Type 0 where
-  pub below : i ≤ m
-  pub few : m ≤ 8
-  pub none : (j : ℕ) → j < i → operand_fault s d (operand_at_row t n j) ≡ false
-
-pub passing-start : (t : List ℕ) (s d n m : ℕ) → m ≡ min (used_at t n) 8 → Passing t s d n m 0
-passing-start t s d n m e = record { below = omega arith; few = omega arith; none = λ j h. absurd (not-suc-le-zero h) }
-
-pub passing-more : (t : List ℕ) (s d n m i : ℕ) (b : Bool) → Passing t s d n m i → i < m → b ≡ operand_fault s d (operand_at_row t n i) → b ≡ false
-    → Passing t s d n m (i + 1)
-passing-more t s d n m i b h l e q =
-    record {
-      below = omega arith;
-      few = h.few;
-      none = λ j g. elim (ℕ_discrete j i) [
-        | yes o ↦ ap (λ (x : ℕ). operand_fault s d (operand_at_row t n x)) o ∙ (sym e ∙ q)
-        | no o ↦ h.none j (omega arith)
-      ];
-    }
-
-module _ (t : List ℕ) (c : ℕ) (l : List ℕ) (lc s d n m i : ℕ) (e : m ≡ min (used_at t n) 8) (r : s ≡ size_at (row_at t) c n) (h : Passing t s d n m i) where
-  pub passing-found : (b : Bool) → i < m → b ≡ operand_fault s d (operand_at_row t n i) → b ≡ true → true ≡ operands_fault (lent_program t c l lc d) n
+module _ (t : List ℕ) (c : ℕ) (l : List ℕ) (lc s d n m : ℕ) (e : m ≡ min (used_at t n) 8) (r : s ≡ size_at (row_at t) c n) where
+  pub slots-broken : (b : Bool) → b ≡ some_below (λ i. operand_fault s d (operand_at_row t n i)) m → b ≡ operands_fault (lent_program t c l lc d) n
   unfolding operands_fault row_at row_from
-  passing-found b l q w =
+  slots-broken true q =
+      let w = passes-below (λ i. operand_fault s d (operand_at_row t n i)) m (sym q) in
       rw (← r)
       (sym
-      (some_of_lem (operand_fault s d) (slots t (n * 27)) (used_at t n) i (omega (arith, e, l)) (omega (arith, h.few, l, slots-long t (n * 27)))
-      (ap (operand_fault s d) (slot_at t (n * 27) i (omega (arith, h.few, l))) ∙ (sym q ∙ w))))
-
-  pub passing-done : m ≤ i → false ≡ operands_fault (lent_program t c l lc d) n
-  unfolding operands_fault row_at row_from
-  passing-done l =
+      (some_of_lem (operand_fault s d) (slots t (n * 27)) (used_at t n) w.0 (omega (arith, e, w.1)) (omega (arith, e, w.1, slots-long t (n * 27)))
+      (ap (operand_fault s d) (slot_at t (n * 27) w.0 (omega (arith, e, w.1))) ∙ w.2)))
+  slots-broken false q =
       rw (← r)
       (sym
       (none_of (operand_fault s d) (slots t (n * 27)) (used_at t n)
-      (λ j g k. ap (operand_fault s d) (slot_at t (n * 27) j (omega (arith, k, slots-long t (n * 27)))) ∙ h.none j (omega (arith, e, g, k, slots-long t (n * 27), h.below, l)))))
-
-pub ruleset passing = (passing-start, passing-more, passing-found, passing-done)
+      (λ j g k. ap (operand_fault s d) (slot_at t (n * 27) j (omega (arith, k, slots-long t (n * 27)))) ∙ none-below (λ i. operand_fault s d (operand_at_row t n i)) m j (sym q) (omega (arith, e, g, k, slots-long t (n * 27))))))

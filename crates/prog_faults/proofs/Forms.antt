@@ -1,22 +1,20 @@
 -- What a row of each kind can be broken in: the other causes do not hold.
 -- Assumes nothing.
 use mathlib.Core.Path.{◌≡◌, refl, sym, ◌∙◌, ap}
-use mathlib.Core.Bool.{Bool, true, false, not}
+use mathlib.Core.Bool.{Bool, true, false}
 use mathlib.Core.List.{List, [], ◌∷◌}
-use Prim.Native.Nat.{ℕ, ◌+◌, ◌*◌, ◌<◌, ◌≤◌}
+use Prim.Native.Nat.{ℕ, ◌<◌, ◌≤◌}
 use native.Mathlib.Omega.{arith}
 use lib.Dec.{eqb, ltb}
-use lib.ListN.{take}
-use borrow.Author.Tests.{eq-eqb, ne_eqb, le-ltb, lt-ltb, ltb-true, ltb-false}
+use borrow.Author.Tests.{ne_eqb, le-ltb, lt-ltb, ltb-false}
 use native.Mathlib.Decide.{ℕ_discrete}
 use lib.Arith.{lt_of_le-ne}
 use Rattle.base_prelude.specs.Choice.{if_lt, if_eq, if_true}
-use Rattle.base_prelude.proofs.Choice.{true-false, either}
-use Rattle.prog_tables.specs.Tests.{both, one_of, some, some_of}
-use Rattle.prog_tables.specs.Statement.{Row, has_expression, is_test, is_call_row, used_by, slots, row_from, row_at}
+use Rattle.prog_tables.specs.Tests.{one_of, some, some_of}
+use Rattle.prog_tables.specs.Statement.{has_expression, is_test, is_call_row, used_by, row_from, row_at}
 use Rattle.prog_tables.specs.Nesting.{is_listed, has_target}
 use Rattle.prog_tables.specs.Program.{Program, lent_program}
-use Rattle.prog_tables.specs.Faults.{operand_fault, kind_fault, target_fault, function_fault, import_fault, callee_fault, size_fault, has_word, word_fault, operands_fault, address_fault, row_fault, size_at}
+use Rattle.prog_tables.specs.Faults.{kind_fault, target_fault, function_fault, import_fault, callee_fault, size_fault, has_word, word_fault, operands_fault, address_fault, row_fault}
 use Rattle.prog_tables.proofs.Each.{one-false, one-no, one-rest}
 use Rattle.prog_tables.proofs.Ranges.{test-least, test-most}
 use Rattle.prog_tables.proofs.CallRows.{bare-call, bare-import}

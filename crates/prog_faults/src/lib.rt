@@ -286,25 +286,13 @@ fn word_fault(t: &[u32], c: u32, l: &[u32], lc: u32, d: u32, n: u32) -> bool
     false
 }
 
-// The lesser of two numbers.
-fn fewer(a: u32, b: u32) -> u32
-    ensures { result ≡ min a b }
-{
-    if a < b { a } else { b }
-}
-
 // The operands that a row has, at most as many as its slots.
 fn operands_at(t: &[u32], n: u32) -> u32
     ensures { result ≡ min (used_by (row_at t.now n).kind (row_at t.now n).expr (row_at t.now n).count) 8 }
 {
-    fewer(
-        prog_tables::used_by(
-            prog_tables::kind_at(t, n),
-            prog_tables::expression_at(t, n),
-            prog_tables::count_at(t, n),
-        ),
-        8,
-    )
+    let k = prog_tables::kind_at(t, n);
+    let e = prog_tables::expression_at(t, n);
+    prog_tables::used_by(k, e, prog_tables::count_at(t, n)).min(8)
 }
 
 // Whether the operand in slot i of a row is broken.
@@ -321,14 +309,7 @@ fn operands_fault(t: &[u32], c: u32, l: &[u32], lc: u32, d: u32, n: u32) -> bool
 {
     let m = operands_at(t, n);
     let size = size_at(t, c, n);
-    let mut i: u32 = 0;
-    while i < m {
-        if slot_fault(t, size, d, n, i) {
-            return true;
-        }
-        i += 1;
-    }
-    false
+    (0..m).any(|i| slot_fault(t, size, d, n, i))
 }
 
 // A broken address operand.

@@ -1,14 +1,16 @@
 -- One law for each way through the lookup, and its loop.
 -- Assumes nothing.
 use mathlib.Core.Path.{◌≡◌, ◌∙◌, ap}
-use mathlib.Core.Bool.{Bool, true, false}
+use mathlib.Core.Bool.{Bool, false}
 use mathlib.Core.List.{List}
-use Prim.Native.Nat.{ℕ, suc, ◌+◌, ◌-◌, ◌*◌, ◌≤◌, ◌<◌}
-use native.Mathlib.Numerals.{add-one}
+use Prim.Native.Nat.{ℕ, ◌+◌, ◌-◌, ◌*◌, ◌≤◌, ◌<◌}
 use native.Mathlib.Omega.{arith}
 use lib.ListN.{length, get_or, take, drop}
 use borrow.Author.Tests.{lt-leb, le-leb}
+use Rattle.std.specs.Option.{unwrap_or}
+use Rattle.std.specs.declared.option.Option.{Option}
 use Rattle.base_prelude.specs.Lists.{same_list}
+use Rattle.prog_tables.proofs.First.{FirstOf, first-is}
 use Rattle.prog_tables.specs.Tests.{all, first_from}
 use Rattle.prog_tables.specs.Hosts.{entries_of, entry_left, entry_named, host_of}
 use Rattle.prog_hosts.specs.Lent.{host_list}
@@ -49,36 +51,12 @@ module _ (words names : List ℕ) (i : ℕ) (name : List ℕ) (size : ℕ) (e : 
 
 pub ruleset naming = (named-empty, named-long, named-cut, named-many, named-compared)
 
--- ---- the loop of `find_host`
+-- ---- the search of `find_host`
 
-pub record Finding (words names name : List ℕ) (n i : ℕ) : Type 0 where
-  pub count : n ≡ entries_of (host_list words names)
-  pub within : i ≤ n
-  pub rest : first_from (λ j. entry_named (host_list words names) j name) (n - i) i ≡ host_of (host_list words names) name
-
-pub finding-start : (words names name : List ℕ) (n : ℕ) → n ≡ entries_of (host_list words names) → Finding words names name n 0
+pub host-first : (words names name : List ℕ) (n : ℕ) (o : Option ℕ) → n ≡ entries_of (host_list words names)
+    → FirstOf (λ i. entry_named (host_list words names) i name) 0 n o → unwrap_or o n ≡ host_of (host_list words names) name
 unfolding host_of
-finding-start words names name n e =
+host-first words names name n o e h =
     let z : n - 0 ≡ entries_of (host_list words names) = omega (arith, e) in
-    record { count = e; within = omega arith; rest = ap (λ (m : ℕ). first_from (λ j. entry_named (host_list words names) j name) m 0) z }
-
-module _ (words names name : List ℕ) (n i : ℕ) (h : Finding words names name n i) where
-  pub finding-low : i < n → i < 268435456
-  finding-low g = omega (arith, h.count, entries-low words names)
-
-  pub finding-done : n ≤ i → i ≡ host_of (host_list words names) name
-  unfolding first_from
-  finding-done g = let z : n - i ≡ 0 = omega arith in rw z at h.rest
-
-  module _ (b : Bool) (g : i < n) (e : b ≡ entry_named (host_list words names) i name) where
-    pub finding-more : b ≡ false → Finding words names name n (i + 1)
-    unfolding first_from
-    finding-more q =
-        let z : n - i ≡ suc (n - (i + 1)) = omega arith in
-        record { count = h.count; within = omega arith; rest = rw (add-one i) (rw (z, ← e, q, add-one i) at h.rest) }
-
-    pub finding-found : b ≡ true → i ≡ host_of (host_list words names) name
-    unfolding first_from
-    finding-found q = let z : n - i ≡ suc (n - (i + 1)) = omega arith in rw (z, ← e, q) at h.rest
-
-pub ruleset finding = (finding-start, finding-more, finding-found, finding-done)
+    first-is (λ i. entry_named (host_list words names) i name) 0 n o (omega arith) h
+    ∙ ap (λ (m : ℕ). first_from (λ i. entry_named (host_list words names) i name) m 0) z

@@ -14,7 +14,7 @@ use Rattle.prog_tables.specs.Label.{Tables, label_at}
 use Rattle.prog_tables.specs.Program.{program_from}
 use Rattle.prog_tables.specs.Hosts.{Hosts, entries_of, host_of, label_hosted, hosted}
 use Rattle.prog_names.proofs.Part.{part-name}
-use Rattle.prog_names.proofs.Loops.{last-true}
+use Rattle.prog_tables.proofs.Each.{last-true}
 use Rattle.prog_hosts.specs.Lent.{host_list}
 use Rattle.prog_hosts.proofs.Cases.{entries-low}
 

@@ -1,7 +1,7 @@
 // The host's list: which entry a name means, and the imported names of tables against it.
 #![tactic(auto)]
 
-ghost use Rattle.std.specs.Prelude.{◌≡◌, ◌+◌, ◌*◌, ◌<◌, get_or};
+ghost use Rattle.std.specs.Prelude.{◌≡◌, ◌+◌, ◌*◌, ◌≤◌, ◌<◌, get_or};
 ghost use Rattle.prog_tables.specs.Layout.{host_row, host_entries};
 ghost use Rattle.prog_tables.specs.Tests.{all_below};
 ghost use Rattle.prog_tables.specs.Label.{label_at};
@@ -13,14 +13,11 @@ use prog_tables::{LabelKind, Table};
 
 // The entries that are looked at; half an entry is none.
 pub fn entries(hosts: &[u32], names: &[u8]) -> usize
-    ensures { result ≡ entries_of (host_list hosts.now names.now) }
+    ensures value { result ≡ entries_of (host_list hosts.now names.now) }
+    ensures upper_bound { result ≤ host_entries }
 {
     let n = hosts.len() / Table::HOST_ROW;
-    if n < Table::HOST_ENTRIES {
-        n
-    } else {
-        Table::HOST_ENTRIES
-    }
+    n.min(Table::HOST_ENTRIES)
 }
 
 // The arguments of entry i.
@@ -59,14 +56,9 @@ pub fn find_host(hosts: &[u32], names: &[u8], name: &[u8]) -> usize
     ensures { result ≡ host_of (host_list hosts.now names.now) name.now }
 {
     let n = entries(hosts, names);
-    let mut i: usize = 0;
-    while i < n {
-        if is_named(hosts, names, i, name) {
-            return i;
-        }
-        i += 1;
-    }
-    i
+    (0..n)
+        .find(|&i| is_named(hosts, names, i, name))
+        .unwrap_or(n)
 }
 
 // The number of the name of label i in the list.
@@ -102,13 +94,5 @@ fn is_label_hosted(hosts: &[u32], host_names: &[u8], l: &[u32], names: &[u8], i:
 pub fn is_hosted(hosts: &[u32], host_names: &[u8], l: &[u32], k: u32, names: &[u8]) -> bool
     ensures { result ≡ all_below (λ n. label_hosted (host_list hosts.now host_names.now) (label_at l.now names.now n)) k }
 {
-    let mut i: u32 = 0;
-    while i < k {
-        if is_label_hosted(hosts, host_names, l, names, i) {
-            i += 1;
-        } else {
-            return false;
-        }
-    }
-    true
+    (0..k).all(|i| is_label_hosted(hosts, host_names, l, names, i))
 }

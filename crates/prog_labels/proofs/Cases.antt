@@ -17,7 +17,7 @@ use Rattle.prog_tables.specs.Program.{Program, lent_program}
 use Rattle.prog_tables.specs.Nesting.{follows_jump}
 use Rattle.prog_tables.specs.WellFormed.{names, name_good, name_new, label_tests, label_good}
 use Rattle.prog_names.proofs.Part.{part-name}
-use Rattle.prog_names.proofs.Loops.{last-true}
+use Rattle.prog_tables.proofs.Each.{last-true}
 use Rattle.prog_labels.specs.Labels.{tabled, place_named, row_named}
 
 -- ---- what a label names

@@ -97,14 +97,7 @@ fn is_named(l: &[u32], names: &[u8], name: &[u8], i: u32) -> bool
 fn is_taken(l: &[u32], names: &[u8], name: &[u8], n: u32) -> bool
     ensures { result ≡ some_below (λ i. same_list (label_at l.now names.now i).name name.now) n }
 {
-    let mut i: u32 = 0;
-    while i < n {
-        if is_named(l, names, name, i) {
-            return true;
-        }
-        i += 1;
-    }
-    false
+    (0..n).any(|i| is_named(l, names, name, i))
 }
 
 // Whether no label before n has its name.
@@ -136,13 +129,5 @@ fn is_label_good(t: &[u32], c: u32, l: &[u32], k: u32, names: &[u8], d: u32, n: 
 pub fn labels_good(t: &[u32], c: u32, l: &[u32], k: u32, names: &[u8], d: u32) -> bool
     ensures { result ≡ all_below (label_good (tabled t.now c l.now k names.now d)) k }
 {
-    let mut i: u32 = 0;
-    while i < k {
-        if is_label_good(t, c, l, k, names, d, i) {
-            i += 1;
-        } else {
-            return false;
-        }
-    }
-    true
+    (0..k).all(|i| is_label_good(t, c, l, k, names, d, i))
 }

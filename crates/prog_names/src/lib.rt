@@ -8,13 +8,6 @@ ghost use Rattle.prog_tables.specs.Label.{label_at};
 use base_limits::Machine;
 use prog_tables::{LabelRow, Table};
 
-// The lesser of two numbers.
-fn lesser(a: usize, b: usize) -> usize
-    ensures { result ≡ min a b }
-{
-    if a < b { a } else { b }
-}
-
 // The bytes of a label's name.
 pub fn size_at(l: &[u32], i: u32) -> u32
     ensures { result ≡ (label_at l.now [] i).size }
@@ -26,7 +19,7 @@ pub fn size_at(l: &[u32], i: u32) -> u32
 pub fn name_from(names: &[u8], i: u32) -> usize
     ensures { result ≡ min (i * name_bytes) (length names.now) }
 {
-    lesser(i as usize * Machine::NAME_BYTES, names.len())
+    (i as usize * Machine::NAME_BYTES).min(names.len())
 }
 
 // The place behind it.
@@ -34,8 +27,5 @@ pub fn name_to(l: &[u32], names: &[u8], i: u32) -> usize
     ensures { result ≡ min (i * name_bytes + (label_at l.now [] i).size) (length names.now) }
 {
     let size = size_at(l, i);
-    lesser(
-        i as usize * Machine::NAME_BYTES + size as usize,
-        names.len(),
-    )
+    (i as usize * Machine::NAME_BYTES + size as usize).min(names.len())
 }

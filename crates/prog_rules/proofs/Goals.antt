@@ -11,7 +11,7 @@ use Rattle.prog_tables.specs.Statement.{Row, is_call, is_import}
 use Rattle.prog_tables.specs.Label.{Label, is_function_label}
 use Rattle.prog_tables.specs.Program.{Program}
 use Rattle.prog_tables.specs.WellFormed.{shallow, aimed, labelled, jumps, function_calls, import_calls, calls, forward_calls, shaped}
-use Rattle.prog_names.proofs.Loops.{last-true}
+use Rattle.prog_tables.proofs.Each.{last-true}
 use Rattle.prog_rules.specs.Rules.{rule_tests, ways_ruled, calls_ruled, is_callee, is_imported}
 use Rattle.prog_rules.proofs.Nesting.{both-six}
 

@@ -13,7 +13,7 @@ use Rattle.lang_kinds.specs.declared.Range.{Range}
 use Rattle.prog_tables.specs.Tests.{both, given, all, all_below}
 use Rattle.prog_tables.specs.Statement.{Row, row_at, is_test}
 use Rattle.prog_tables.specs.Nesting.{behind, open_before, ground_in, func_in, scope_in, up_in, is_listed, may_stand, follows_jump, stands, all_closed}
-use Rattle.prog_names.proofs.Loops.{last-true}
+use Rattle.prog_tables.proofs.Each.{last-true}
 use Rattle.prog_rules.specs.Rules.{stands_there, fields_stand}
 
 -- ---- what is open before a row

@@ -12,9 +12,8 @@ use Rattle.prog_tables.specs.Statement.{Row, has_expression, is_test, used_by}
 use Rattle.prog_tables.specs.Label.{Label, is_function_label}
 use Rattle.prog_tables.specs.Nesting.{depth_of, has_target, target_of}
 use Rattle.prog_tables.specs.Faults.{expression_fault}
-use Rattle.prog_tables.specs.WellFormed.{shallow, aimed, labelled, has_operands, shaped}
+use Rattle.prog_tables.specs.WellFormed.{shallow, aimed, has_operands, shaped}
 use Rattle.prog_rules.specs.Rules.{bears}
-use Rattle.prog_names.proofs.Loops.{Seeking, seeking-found, seeking-done}
 
 -- ---- depth
 
@@ -103,17 +102,6 @@ module _ (g : ℕ → Label) (v i x : ℕ) (e : x ≡ (g i).kind) where
   function-not b q h = rw (← e, ← q, h)
 
 pub ruleset bearing = (place_is, place-not, inner-is, inner-not, function-is, function-not)
-
-module _ (g : ℕ → Label) (p : ℕ → Bool) (v c i : ℕ) (h : Seeking (bears g p v) c i) where
-  pub labelled-found : (b : Bool) → i < c → b ≡ bears g p v i → b ≡ true → true ≡ labelled g c p v
-  unfolding labelled bears
-  labelled-found b l e q = seeking-found (bears g p v) c i h b l e q
-
-  pub labelled-none : c ≤ i → false ≡ labelled g c p v
-  unfolding labelled bears
-  labelled-none l = seeking-done (bears g p v) c i h l
-
-pub ruleset labelling = (labelled-found, labelled-none)
 
 -- ---- shapes
 

@@ -166,15 +166,7 @@ pub fn stands(t: &[u32], n: u32) -> bool
 fn all_stand(t: &[u32], c: u32) -> bool
     ensures { result ≡ all_below (stands (row_at t.now)) c }
 {
-    let mut i: u32 = 0;
-    while i < c {
-        if stands(t, i) {
-            i += 1;
-        } else {
-            return false;
-        }
-    }
-    true
+    (0..c).all(|i| stands(t, i))
 }
 
 // Whether c rows are nested: nothing is open behind the last, and each stands.
@@ -280,42 +272,21 @@ fn is_inner(l: &[u32], v: u32, i: u32) -> bool
 fn has_place(l: &[u32], k: u32, v: u32) -> bool
     ensures { result ≡ labelled (label_at l.now []) k (λ x. eqb x place_label) v }
 {
-    let mut i: u32 = 0;
-    while i < k {
-        if is_place(l, v, i) {
-            return true;
-        }
-        i += 1;
-    }
-    false
+    (0..k).any(|i| is_place(l, v, i))
 }
 
 // Whether one of k labels is that of function v, exported or not.
 fn has_function(l: &[u32], k: u32, v: u32) -> bool
     ensures { result ≡ labelled (label_at l.now []) k is_function_label v }
 {
-    let mut i: u32 = 0;
-    while i < k {
-        if is_function(l, v, i) {
-            return true;
-        }
-        i += 1;
-    }
-    false
+    (0..k).any(|i| is_function(l, v, i))
 }
 
 // Whether one of k labels is that of function v, which is not exported.
 fn has_inner(l: &[u32], k: u32, v: u32) -> bool
     ensures { result ≡ labelled (label_at l.now []) k (λ x. eqb x function_label) v }
 {
-    let mut i: u32 = 0;
-    while i < k {
-        if is_inner(l, v, i) {
-            return true;
-        }
-        i += 1;
-    }
-    false
+    (0..k).any(|i| is_inner(l, v, i))
 }
 
 // ---- jumps and calls
@@ -515,15 +486,7 @@ pub fn row_rules(t: &[u32], c: u32, l: &[u32], k: u32, d: u32, n: u32) -> bool
 pub fn all_shallow(t: &[u32], c: u32) -> bool
     ensures { result ≡ all_below (shallow (row_at t.now)) c }
 {
-    let mut i: u32 = 0;
-    while i < c {
-        if is_shallow(t, i) {
-            i += 1;
-        } else {
-            return false;
-        }
-    }
-    true
+    (0..c).all(|i| is_shallow(t, i))
 }
 
 // Whether each of c rows keeps the rules that need no frame word.
@@ -531,13 +494,5 @@ pub fn all_rules(t: &[u32], c: u32, l: &[u32], k: u32, d: u32) -> bool
     requires { c ≤ statements }
     ensures { result ≡ all_below (ruled (lent_program t.now c l.now k d)) c }
 {
-    let mut i: u32 = 0;
-    while i < c {
-        if row_rules(t, c, l, k, d, i) {
-            i += 1;
-        } else {
-            return false;
-        }
-    }
-    true
+    (0..c).all(|i| row_rules(t, c, l, k, d, i))
 }

@@ -3,47 +3,47 @@
 use mathlib.Core.Path.{◌≡◌, refl, sym, ◌∙◌, ap, subst}
 use mathlib.Core.Bool.{Bool, true, false}
 use mathlib.Core.List.{List, [], ◌∷◌}
-use Prim.Native.Nat.{ℕ, zero, suc, ◌+◌, ◌-◌, ◌*◌, ◌<◌, ◌≤◌}
+use Prim.Native.Nat.{ℕ, zero, suc, ◌+◌, ◌-◌, ◌*◌, ◌<◌, ◌≤◌, min}
 use native.Mathlib.Nat.{zero-add, not-suc-le-zero, le_of_suc-le-suc, zero-lt-suc}
 use native.Mathlib.Numerals.{add-one}
-use native.Mathlib.Decide.{ℕ_discrete}
 use native.Mathlib.Omega.{arith}
 use borrow.Author.Tests.{eq-eqb, ne_eqb}
 use lib.ListN.{length, get_or, take, length-replicate}
 use Rattle.base_prelude.specs.Choice.{if_eq}
 use Rattle.base_prelude.specs.Lists.{zeros}
-use Rattle.prog_tables.specs.Tests.{both, all_of, all_below, some_below}
+use Rattle.prog_tables.specs.Tests.{both, all_of, all_below}
 use Rattle.prog_tables.specs.Statement.{Row, used_by, operand_at, slots, row_from, row_at}
-use Rattle.prog_tables.specs.Label.{Label, label_at, is_data}
+use Rattle.prog_tables.specs.Label.{label_at}
 use Rattle.prog_tables.specs.Program.{lent_program}
 use Rattle.prog_tables.specs.Nesting.{stands}
 use Rattle.prog_tables.specs.Frames.{is_in, lets_before}
-use Rattle.prog_tables.specs.WellFormed.{labelled, shallow}
+use Rattle.prog_tables.specs.WellFormed.{shallow}
 use Rattle.prog_tables.specs.declared.Operand.{Operand}
 use Rattle.prog_tables.specs.declared.Operand.TheVariants.{Unlisted}
-use Rattle.prog_tables.proofs.Each.{some_at, below_at, both_false}
+use Rattle.prog_tables.proofs.Each.{below_at, both_false}
+use Rattle.prog_tables.proofs.Scans.{fails-below}
 use Rattle.prog_faults.proofs.Cases.{slot_at, slots-long}
 use Rattle.prog_chains.specs.FrameTests.{frame_good}
-use Rattle.prog_chains.specs.Counted.{noted, let_counts, holds, chain_holds, chain_lets, is_data_at, operand_held, operands_held, row_held}
+use Rattle.prog_chains.specs.Counted.{noted, let_counts, holds, chain_holds, chain_lets, operand_held, operands_held, row_held}
 use Rattle.prog_chains.proofs.Numbers.{count-few, below-not, below_more}
 use Rattle.prog_chains.proofs.Chains.{Counts, depth_low, frame-of, counts-are}
 use Rattle.prog_chains.proofs.Rows.{row_same}
 
 -- ---- `is_on_chain`: what is left of the chain gives the whole answer
 
-pub record Climbing (f : ℕ → Row) (x : List ℕ) (w inner s fuel : ℕ) : Type 0 where
-  pub rest : chain_holds f x w fuel s ≡ chain_holds f x w 17 inner
+pub record Climbing (f : ℕ → Row) (x : List ℕ) (w inner s i : ℕ) : Type 0 where
+  pub rest : chain_holds f x w (17 - i) s ≡ chain_holds f x w 17 inner
 
-pub climbing-start : (f : ℕ → Row) (x : List ℕ) (w inner : ℕ) → Climbing f x w inner inner 17
+pub climbing-start : (f : ℕ → Row) (x : List ℕ) (w inner : ℕ) → Climbing f x w inner inner 0
 climbing-start f x w inner = record { rest = refl }
 
-module _ (f : ℕ → Row) (x : List ℕ) (w inner s fuel : ℕ) (h : Climbing f x w inner s fuel) (b : Bool) (d : b ≡ holds f x w s) where
-  pub climbing-last : fuel ≤ 0 → b ≡ chain_holds f x w 17 inner
+module _ (f : ℕ → Row) (x : List ℕ) (w inner s i : ℕ) (h : Climbing f x w inner s i) (b : Bool) (d : b ≡ holds f x w s) where
+  pub climbing-last : 17 ≤ i → b ≡ chain_holds f x w 17 inner
   unfolding chain_holds
-  climbing-last l = let z : fuel ≡ 0 = omega arith in d ∙ (rw z at h.rest)
+  climbing-last l = let z : 17 - i ≡ 0 = omega arith in d ∙ (rw z at h.rest)
 
-  module _ (l : 0 < fuel) where
-    one : fuel ≡ suc (fuel - 1)
+  module _ (l : i < 17) where
+    one : 17 - i ≡ suc (17 - (i + 1))
     one = omega arith
 
     pub climbing-found : b ≡ true → true ≡ chain_holds f x w 17 inner
@@ -55,68 +55,42 @@ module _ (f : ℕ → Row) (x : List ℕ) (w inner s fuel : ℕ) (h : Climbing f
       unfolding chain_holds if_eq
       climbing-out r = rw (one, ← d, q, ← e, ne_eqb _ _ r) at h.rest
 
-      pub climbing-more : (o : ℕ) → k ≡ 3 → o ≡ (f s).scope → Climbing f x w inner o (fuel - 1)
+      pub climbing-more : (o : ℕ) → k ≡ 3 → o ≡ (f s).scope → Climbing f x w inner o (i + 1)
       unfolding chain_holds if_eq
-      climbing-more o r i = record { rest = rw (one, ← d, q, ← e, eq-eqb _ _ r, ← i) at h.rest }
+      climbing-more o r g = record { rest = rw (one, ← d, q, ← e, eq-eqb _ _ r, ← g) at h.rest }
 
 pub ruleset climbing = (climbing-start, climbing-last, climbing-found, climbing-out, climbing-more)
 
 -- ---- `chain_lets`
 
-pub record Summing (f : ℕ → Row) (x : List ℕ) (inner s sum fuel : ℕ) : Type 0 where
-  pub rest : sum + chain_lets f x fuel s ≡ chain_lets f x 17 inner
-  pub few : sum ≤ (17 - fuel) * 4294967295
-  pub left : fuel ≤ 17
+pub record Summing (f : ℕ → Row) (x : List ℕ) (inner s sum i : ℕ) : Type 0 where
+  pub rest : sum + chain_lets f x (17 - i) s ≡ chain_lets f x 17 inner
+  pub few : sum ≤ i * 4294967295
+  pub within : i ≤ 17
 
-pub summing_start : (f : ℕ → Row) (x : List ℕ) (inner : ℕ) → Summing f x inner inner 0 17
-summing_start f x inner = record { rest = zero-add (chain_lets f x 17 inner); few = omega arith; left = omega arith }
+pub summing_start : (f : ℕ → Row) (x : List ℕ) (inner : ℕ) → Summing f x inner inner 0 0
+summing_start f x inner = record { rest = zero-add (chain_lets f x 17 inner); few = omega arith; within = omega arith }
 
-module _ (f : ℕ → Row) (x : List ℕ) (inner s sum fuel : ℕ) (h : Summing f x inner s sum fuel) (m : ℕ) (d : m ≡ get_or x s 0) where
-  pub summing-last : fuel ≤ 0 → sum + m ≡ chain_lets f x 17 inner
+module _ (f : ℕ → Row) (x : List ℕ) (inner s sum i : ℕ) (h : Summing f x inner s sum i) (m : ℕ) (d : m ≡ get_or x s 0) where
+  pub summing-last : 17 ≤ i → sum + m ≡ chain_lets f x 17 inner
   unfolding chain_lets
-  summing-last l = let z : fuel ≡ 0 = omega arith in rw d (rw z at h.rest)
+  summing-last l = let z : 17 - i ≡ 0 = omega arith in rw d (rw z at h.rest)
 
-  module _ (l : 0 < fuel) (k : ℕ) (e : k ≡ (f s).kind) where
-    one_less : fuel ≡ suc (fuel - 1)
+  module _ (l : i < 17) (k : ℕ) (e : k ≡ (f s).kind) where
+    one_less : 17 - i ≡ suc (17 - (i + 1))
     one_less = omega arith
 
     pub summing-out : (k ≡ 3 → ⊥) → sum + m ≡ chain_lets f x 17 inner
     unfolding chain_lets if_eq
     summing-out r = let z : sum + (m + 0) ≡ chain_lets f x 17 inner = rw (one_less, ← d, ← e, ne_eqb _ _ r) at h.rest in omega arith
 
-    pub summing-more : (o : ℕ) → m ≤ 4294967295 → k ≡ 3 → o ≡ (f s).scope → Summing f x inner o (sum + m) (fuel - 1)
+    pub summing-more : (o : ℕ) → m ≤ 4294967295 → k ≡ 3 → o ≡ (f s).scope → Summing f x inner o (sum + m) (i + 1)
     unfolding chain_lets if_eq
-    summing-more o g r i =
-        let z : sum + (m + chain_lets f x (fuel - 1) o) ≡ chain_lets f x 17 inner = rw (one_less, ← d, ← e, eq-eqb _ _ r, ← i) at h.rest in
-        record { rest = omega arith; few = omega (arith, h.few, h.left); left = omega (arith, h.left) }
+    summing-more o g r t =
+        let z : sum + (m + chain_lets f x (17 - (i + 1)) o) ≡ chain_lets f x 17 inner = rw (one_less, ← d, ← e, eq-eqb _ _ r, ← t) at h.rest in
+        record { rest = omega arith; few = omega (arith, h.few); within = omega arith }
 
 pub ruleset summing = (summing_start, summing-last, summing-out, summing-more)
-
--- ---- `is_address`
-
-pub record Searching (p : ℕ → Bool) (k i : ℕ) : Type 0 where
-  pub within : i ≤ k
-  pub none : some_below p i ≡ false
-
-pub searching-start : (p : ℕ → Bool) (k : ℕ) → Searching p k 0
-unfolding some_below
-searching-start p k = record { within = omega arith; none = refl }
-
-module _ (g : ℕ → Label) (v k i : ℕ) (h : Searching (is_data_at g v) k i) where
-  module _ (b : Bool) (l : i < k) (e : b ≡ is_data_at g v i) where
-    pub searching-more : b ≡ false → Searching (is_data_at g v) k (i + 1)
-    unfolding some_below
-    searching-more q = record { within = omega arith; none = rw (add-one i, ← e, q) h.none }
-
-    pub searching-found : b ≡ true → true ≡ labelled g k is_data v
-    unfolding labelled is_data_at
-    searching-found q = sym (some_at (is_data_at g v) k i l (sym e ∙ q))
-
-  pub searching-done : k ≤ i → false ≡ labelled g k is_data v
-  unfolding labelled is_data_at
-  searching-done l = let z : i ≡ k = omega (arith, h.within) in sym (rw z at h.none)
-
-pub ruleset searching = (searching-start, searching-more, searching-found, searching-done)
 
 -- ---- `operands_held`
 
@@ -142,48 +116,24 @@ all-not p (x ∷ xs) (suc m) (suc i) h l e =
 abbrev operand_at_row : List ℕ → ℕ → ℕ → Operand
 operand_at_row t n i = operand_at t (n * 27 + 11 + i * 2)
 
-pub record Passing (p : Operand → Bool) (t : List ℕ) (n i : ℕ) : Type 0 where
-  pub below : i ≤ 8
-  pub held : (j : ℕ) → j < i → p (operand_at_row t n j) ≡ true
+abbrev held_at : List ℕ → List ℕ → ℕ → List ℕ → ℕ → ℕ → Bool
+held_at t l k x n i = operand_held (row_at t) (label_at l []) k x n (operand_at_row t n i)
 
-pub passing-start : (p : Operand → Bool) (t : List ℕ) (n : ℕ) → Passing p t n 0
-passing-start p t n = record { below = omega arith; held = λ j h. absurd (not-suc-le-zero h) }
-
-pub passing-more : (p : Operand → Bool) (t : List ℕ) (n i : ℕ) (b : Bool) → Passing p t n i → i < 8 → b ≡ p (operand_at_row t n i) → b ≡ true → Passing p t n (i + 1)
-passing-more p t n i b h l e q =
-    record {
-      below = omega arith;
-      held = λ j g. elim (ℕ_discrete j i) [
-        | yes o ↦ ap (λ (x : ℕ). p (operand_at_row t n x)) o ∙ (sym e ∙ q)
-        | no o ↦ h.held j (omega arith)
-      ];
-    }
-
-module _ (t l : List ℕ) (k : ℕ) (x : List ℕ) (n i j a z m : ℕ) (ej : j ≡ (row_at t n).kind) (ea : a ≡ (row_at t n).expr) (ez : z ≡ (row_at t n).count) (em : m ≡ used_by j a z) (h : Passing (operand_held (row_at t) (label_at l []) k x n) t n i) where
+module _ (t l : List ℕ) (k : ℕ) (x : List ℕ) (n j a z m : ℕ) (ej : j ≡ (row_at t n).kind) (ea : a ≡ (row_at t n).expr) (ez : z ≡ (row_at t n).count) (em : m ≡ used_by j a z) where
   used : used_by (row_at t n).kind (row_at t n).expr (row_at t n).count ≡ m
   used = sym (em ∙ rw (ej, ea, ez))
 
-  pub passing-not : (b : Bool) → i < 8 → i < m → b ≡ operand_held (row_at t) (label_at l []) k x n (operand_at_row t n i) → b ≡ false → false ≡ operands_held (row_at t) (label_at l []) k x n
+  pub held_all : (u : ℕ) (r : Bool) → u ≡ min m 8 → r ≡ all_below (held_at t l k x n) u → r ≡ operands_held (row_at t) (label_at l []) k x n
   unfolding operands_held row_at row_from
-  passing-not b g r e q =
-      sym
-      (all-not (operand_held (row_at t) (label_at l []) k x n) (slots t (n * 27)) (used_by (row_at t n).kind (row_at t n).expr (row_at t n).count) i (omega (arith, used)) (omega (arith, slots-long t (n * 27)))
-      (ap (operand_held (row_at t) (label_at l []) k x n) (slot_at t (n * 27) i g) ∙ (sym e ∙ q)))
-
-  done : ((o : ℕ) → o < m → o < 8 → o < i) → true ≡ operands_held (row_at t) (label_at l []) k x n
-  unfolding operands_held row_at row_from
-  done all =
+  held_all u true d e =
       sym
       (all_held (operand_held (row_at t) (label_at l []) k x n) (slots t (n * 27)) (used_by (row_at t n).kind (row_at t n).expr (row_at t n).count)
-      (λ o g u. ap (operand_held (row_at t) (label_at l []) k x n) (slot_at t (n * 27) o (omega (arith, u, slots-long t (n * 27)))) ∙ h.held o (all o (omega (arith, used)) (omega (arith, u, slots-long t (n * 27))))))
-
-  pub passing-used : m ≤ i → true ≡ operands_held (row_at t) (label_at l []) k x n
-  passing-used g = done (λ o u w. omega arith)
-
-  pub passing-full : 8 ≤ i → true ≡ operands_held (row_at t) (label_at l []) k x n
-  passing-full g = done (λ o u w. omega arith)
-
-pub ruleset passing = (passing-start, passing-more, passing-not, passing-used, passing-full)
+      (λ o g w. ap (operand_held (row_at t) (label_at l []) k x n) (slot_at t (n * 27) o (omega (arith, w, slots-long t (n * 27)))) ∙ below_at (held_at t l k x n) u o (sym e) (omega (arith, d, used, g, w, slots-long t (n * 27)))))
+  held_all u false d e =
+      let r = fails-below (held_at t l k x n) u (sym e) in
+      sym
+      (all-not (operand_held (row_at t) (label_at l []) k x n) (slots t (n * 27)) (used_by (row_at t n).kind (row_at t n).expr (row_at t n).count) r.0 (omega (arith, d, used, r.1)) (omega (arith, d, r.1, slots-long t (n * 27)))
+      (ap (operand_held (row_at t) (label_at l []) k x n) (slot_at t (n * 27) r.0 (omega (arith, d, r.1))) ∙ r.2))
 
 -- ---- rows that stand: the lets counted so far
 

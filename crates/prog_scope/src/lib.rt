@@ -49,10 +49,8 @@ fn count_lets(t: &[u32], c: u32, y: &mut [u32])
     requires { (c ≤ statements) × (all_below (stands (row_at t.now)) c ≡ true) × (y.old ≡ zeros statements) }
     ensures { y.new ≡ let_counts (row_at t.now) c }
 {
-    let mut n: u32 = 0;
-    while n < c {
+    for n in 0..c {
         note_let(t, n, y);
-        n += 1;
     }
 }
 
@@ -105,8 +103,7 @@ fn is_on_chain(t: &[u32], x: &[u32], w: u32, inner: u32) -> bool
     ensures { result ≡ chain_holds (row_at t.now) x.now w frame_depth inner }
 {
     let mut s = inner;
-    let mut fuel: u32 = Table::FRAME_DEPTH;
-    while 0 < fuel {
+    for _ in 0..Table::FRAME_DEPTH {
         if is_held(t, x, w, s) {
             return true;
         }
@@ -115,7 +112,6 @@ fn is_on_chain(t: &[u32], x: &[u32], w: u32, inner: u32) -> bool
             return false;
         }
         s = prog_tables::scope_at(t, s);
-        fuel -= 1;
     }
     is_held(t, x, w, s)
 }
@@ -126,8 +122,7 @@ fn chain_lets(t: &[u32], x: &[u32], inner: u32) -> u64
 {
     let mut s = inner;
     let mut sum: u64 = 0;
-    let mut fuel: u32 = Table::FRAME_DEPTH;
-    while 0 < fuel {
+    for _ in 0..Table::FRAME_DEPTH {
         let m = lets_of(x, s);
         sum += m as u64;
         let k = prog_tables::kind_at(t, s);
@@ -135,7 +130,6 @@ fn chain_lets(t: &[u32], x: &[u32], inner: u32) -> u64
             return sum;
         }
         s = prog_tables::scope_at(t, s);
-        fuel -= 1;
     }
     let m = lets_of(x, s);
     sum + m as u64
@@ -202,14 +196,7 @@ fn is_data_at(l: &[u32], i: u32, v: u32) -> bool
 fn is_address(l: &[u32], k: u32, v: u32) -> bool
     ensures { result ≡ labelled (label_at l.now []) k is_data v }
 {
-    let mut i: u32 = 0;
-    while i < k {
-        if is_data_at(l, i, v) {
-            return true;
-        }
-        i += 1;
-    }
-    false
+    (0..k).any(|i| is_data_at(l, i, v))
 }
 
 // Whether an operand may stand at a row.
@@ -243,18 +230,7 @@ fn operands_held(t: &[u32], l: &[u32], k: u32, x: &[u32], n: u32) -> bool
     let e = prog_tables::expression_at(t, n);
     let a = prog_tables::count_at(t, n);
     let m = prog_tables::used_by(j, e, a);
-    let mut i: u32 = 0;
-    while i < Machine::PARAMETERS {
-        if m <= i {
-            return true;
-        }
-        if slot_held(t, l, k, x, n, i) {
-            i += 1;
-        } else {
-            return false;
-        }
-    }
-    true
+    (0..m.min(Machine::PARAMETERS)).all(|i| slot_held(t, l, k, x, n, i))
 }
 
 // ---- the tests of a row
@@ -391,14 +367,11 @@ fn rows_held(t: &[u32], c: u32, l: &[u32], k: u32, d: u32, x: &mut [u32], y: &[u
     requires { (c ≤ statements) × (all_below (stands (row_at t.now)) c ≡ true) × (all_below (shallow (row_at t.now)) c ≡ true) × (x.old ≡ zeros statements) × (y.now ≡ let_counts (row_at t.now) c) }
     ensures { result ≡ all_below (frame_good (lent_program t.now c l.now k d)) c }
 {
-    let mut n: u32 = 0;
-    while n < c {
-        if row_held(t, c, l, k, x, y, n) {
-            note_let(t, n, x);
-            n += 1;
-        } else {
+    for n in 0..c {
+        if !row_held(t, c, l, k, x, y, n) {
             return false;
         }
+        note_let(t, n, x);
     }
     true
 }

@@ -32,6 +32,11 @@ pub both_false : (p : Bool) → both p false ≡ false
 both_false true = refl
 both_false false = refl
 
+-- the last of tests alone
+pub last-true : (b : Bool) → b ≡ both b true
+last-true true = refl
+last-true false = refl
+
 pub one-true : (p : Bool) → one_of p true ≡ true
 one-true true = refl
 one-true false = refl

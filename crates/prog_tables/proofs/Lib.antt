@@ -1,5 +1,6 @@
 pub mod Each
 pub mod First
+pub mod Scans
 pub mod Ranges
 pub mod Cases
 pub mod Rows

@@ -1,13 +1,8 @@
+use borrow.Author.Rules.{rules}
 use Rattle.prog_tables.specs.Hosts.{entries_of}
-use native.Mathlib.Omega.{arith}
 use Rattle.prog_hosts.proofs.entries.Goals as goal
 
-pub returns-then-n-lt-HOST_ENTRIES : goal.returns-then-n-lt-HOST_ENTRIES
+pub returns : goal.returns
 unfolding entries_of
-returns-then-n-lt-HOST_ENTRIES c =
-    omega arith
-
-pub returns-else-n-lt-HOST_ENTRIES : goal.returns-else-n-lt-HOST_ENTRIES
-unfolding entries_of
-returns-else-n-lt-HOST_ENTRIES c =
-    omega arith
+returns c =
+    search rules

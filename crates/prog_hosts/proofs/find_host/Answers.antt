@@ -1,23 +1,13 @@
-use borrow.Author.Rules.{rules}
-use Rattle.prog_hosts.proofs.Cases.{finding, finding-low}
+use Rattle.std.proofs.Common.{rules}
+use Rattle.std.proofs.lemmas.Iterator.{first_from_Range}
+use Rattle.prog_tables.specs.Hosts.{entry_named}
+use Rattle.prog_tables.proofs.First.{FirstOf}
+use Rattle.prog_hosts.specs.Lent.{host_list}
+use Rattle.prog_hosts.proofs.Cases.{host-first}
 use Rattle.prog_hosts.proofs.find_host.Goals as goal
-
-pub loop-i-init : goal.loop-i-init
-loop-i-init c =
-    search finding
-
-pub is_named-requires : goal.is_named-requires
-is_named-requires c =
-    search (finding-low, rules)
-
-pub returns-then-is_named : goal.returns-then-is_named
-returns-then-is_named c =
-    search finding
-
-pub loop-i-preserved : goal.loop-i-preserved
-loop-i-preserved c =
-    search finding
 
 pub returns : goal.returns
 returns c =
-    search finding
+    let first : FirstOf (λ i. entry_named (host_list c.args.hosts.now c.args.names.now) i c.args.name.now) 0 c.entries-n.result c.find.result =
+    first_from_Range _ _ _ c.find.result _ _ c.find.ensures.ran (λ x q k. search rules) (λ x q k. search rules) in
+    search (host-first, rules)

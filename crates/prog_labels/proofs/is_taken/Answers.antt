@@ -1,18 +1,10 @@
-use Rattle.prog_names.proofs.Loops.{seeking}
+use borrow.Author.Rules.{rules}
+use mathlib.Core.Path.{refl}
+use Rattle.prog_tables.proofs.Scans.{any_of}
+use Rattle.base_prelude.specs.Lists.{same_list}
+use Rattle.prog_tables.specs.Label.{label_at}
 use Rattle.prog_labels.proofs.is_taken.Goals as goal
-
-pub loop-i-init : goal.loop-i-init
-loop-i-init c =
-    search seeking
-
-pub returns-then-is_named : goal.returns-then-is_named
-returns-then-is_named c =
-    search seeking
-
-pub loop-i-preserved : goal.loop-i-preserved
-loop-i-preserved c =
-    search seeking
 
 pub returns : goal.returns
 returns c =
-    search seeking
+    any_of (λ i. same_list (label_at c.args.l.now c.args.names.now i).name c.args.name.now) c.args.n _ _ _ _ refl c.any.ensures.ran (λ x b q h. search rules)

@@ -1,18 +1,10 @@
-use Rattle.prog_names.proofs.Loops.{passing}
+use borrow.Author.Rules.{rules}
+use mathlib.Core.Path.{refl}
+use Rattle.prog_tables.proofs.Scans.{every}
+use Rattle.prog_tables.specs.WellFormed.{label_good}
+use Rattle.prog_labels.specs.Labels.{tabled}
 use Rattle.prog_labels.proofs.labels_good.Goals as goal
-
-pub loop-i-init : goal.loop-i-init
-loop-i-init c =
-    search passing
-
-pub loop-i-preserved : goal.loop-i-preserved
-loop-i-preserved c =
-    search passing
-
-pub returns-else-is_label_good : goal.returns-else-is_label_good
-returns-else-is_label_good c =
-    search passing
 
 pub returns : goal.returns
 returns c =
-    search passing
+    every (label_good (tabled c.args.t.now c.args.c c.args.l.now c.args.k c.args.names.now c.args.d)) c.args.k _ _ _ _ refl c.all.ensures.ran (λ x b q h. search rules)

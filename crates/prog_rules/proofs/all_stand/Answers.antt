@@ -1,18 +1,10 @@
-use Rattle.prog_names.proofs.Loops.{passing}
+use borrow.Author.Rules.{rules}
+use mathlib.Core.Path.{refl}
+use Rattle.prog_tables.proofs.Scans.{every}
+use Rattle.prog_tables.specs.Statement.{row_at}
+use Rattle.prog_tables.specs.Nesting.{stands}
 use Rattle.prog_rules.proofs.all_stand.Goals as goal
-
-pub loop-i-init : goal.loop-i-init
-loop-i-init c =
-    search passing
-
-pub loop-i-preserved : goal.loop-i-preserved
-loop-i-preserved c =
-    search passing
-
-pub returns-else-stands : goal.returns-else-stands
-returns-else-stands c =
-    search passing
 
 pub returns : goal.returns
 returns c =
-    search passing
+    every (stands (row_at c.args.t.now)) c.args.c _ _ _ _ refl c.all.ensures.ran (λ x b q h. search rules)

@@ -1,19 +1,14 @@
-use Rattle.prog_names.proofs.Loops.{seeking}
-use Rattle.prog_rules.proofs.Rows.{labelling}
+use borrow.Author.Rules.{rules}
+use mathlib.Core.Path.{refl}
+use Rattle.prog_tables.proofs.Scans.{any_of}
+use mathlib.Core.List.{[]}
+use Rattle.prog_tables.specs.Label.{label_at}
+use Rattle.prog_tables.specs.WellFormed.{labelled}
+use Rattle.prog_rules.specs.Rules.{bears}
+use lib.Dec.{eqb}
 use Rattle.prog_rules.proofs.has_place.Goals as goal
 
-pub loop-i-init : goal.loop-i-init
-loop-i-init c =
-    search (seeking, labelling)
-
-pub returns-then-is_place : goal.returns-then-is_place
-returns-then-is_place c =
-    search (seeking, labelling)
-
-pub loop-i-preserved : goal.loop-i-preserved
-loop-i-preserved c =
-    search (seeking, labelling)
-
 pub returns : goal.returns
+unfolding labelled bears
 returns c =
-    search (seeking, labelling)
+    any_of (bears (label_at c.args.l.now []) (λ x. eqb x 5) c.args.v) c.args.k _ _ _ _ refl c.any.ensures.ran (λ x b q h. search rules)

@@ -1,11 +1,6 @@
 use Rattle.prog_scope.proofs.Loops.{Noting}
-use Prim.Native.Nat.{◌-◌}
 use Rattle.prog_scope.proofs.count_lets.Given as goal
 
 abbrev pub invariant-loop-n : goal.invariant-loop-n
 invariant-loop-n l =
     Noting l.t l.c l.y l.n
-
-abbrev pub decreases-loop-n : goal.decreases-loop-n
-decreases-loop-n l =
-    l.c - l.n

@@ -2,8 +2,8 @@ use borrow.Author.Rules.{rules}
 use Rattle.prog_scope.proofs.Loops.{climbing}
 use Rattle.prog_scope.proofs.is_on_chain.Goals as goal
 
-pub loop-fuel-init : goal.loop-fuel-init
-loop-fuel-init c =
+pub loop-init : goal.loop-init
+loop-init c =
     search (climbing, rules)
 
 pub returns-then-is_held : goal.returns-then-is_held
@@ -14,8 +14,8 @@ pub returns-then-k-ne-BLOCK : goal.returns-then-k-ne-BLOCK
 returns-then-k-ne-BLOCK c =
     search (climbing, rules)
 
-pub loop-fuel-preserved : goal.loop-fuel-preserved
-loop-fuel-preserved c =
+pub loop-preserved : goal.loop-preserved
+loop-preserved c =
     search (climbing, rules)
 
 pub returns : goal.returns

@@ -13,14 +13,10 @@ note_let-requires c =
 pub loop-n-preserved : goal.loop-n-preserved
 loop-n-preserved c =
     holding-more c.args.t.now c.args.c c.args.l.now c.args.k c.args.d c.loop-n.x c.args.y.now c.loop-n.n c.loop-n.invariant c.loop-n-test.true
-    c.row_held.result c.row_held.ensures _ c.if-row_held.true c.note_let.ensures
+    c.row_held.result c.row_held.ensures _ c.if-not-row_held.false c.note_let.ensures
 
-pub shape_of-x-else-row_held : goal.shape_of-x-else-row_held
-shape_of-x-else-row_held c =
-    search holding-long
-
-pub returns-else-row_held : goal.returns-else-row_held
-returns-else-row_held c =
+pub returns-then-not-row_held : goal.returns-then-not-row_held
+returns-then-not-row_held c =
     search (holding, rules)
 
 pub shape_of-x : goal.shape_of-x
