@@ -3,16 +3,16 @@
 use mathlib.Core.Path.{◌≡◌, refl, sym, ◌∙◌, ap}
 use mathlib.Core.Bool.{Bool, true, false}
 use mathlib.Core.List.{List, [], ◌∷◌}
-use Prim.Native.Nat.{ℕ, ◌+◌, ◌≤◌, ◌<◌}
+use Prim.Native.Nat.{ℕ, ◌≤◌, ◌<◌}
 use native.Mathlib.Decide.{dec_lt}
 use native.Mathlib.Omega.{arith}
 use lib.Dec.{T, ltb}
 use borrow.Author.Tests.{ltb-true, le-ltb}
-use Rattle.base_prelude.specs.Choice.{pick, if_lt, if_eq, if_true}
+use Rattle.base_prelude.specs.Choice.{if_lt, if_eq}
 use Rattle.base_prelude.proofs.Choice.{if_lt-no, if_eq-no}
 use Rattle.base_prelude.proofs.Table.{and, and_left, and_right, Each, each_at, under, under_at, agree, agree-is}
 use Rattle.parse_lines.specs.declared.Span.{Span}
-use Rattle.parse_shapes.specs.Shapes.{Shape, NoShape, Production, shapes, shape_in, shape_of, is_shaped, form_fits, ends_in_list, is_listed}
+use Rattle.parse_shapes.specs.Shapes.{NoShape, Production, shapes, shape_in, shape_of, is_shaped, form_fits, ends_in_list, is_listed}
 use Rattle.parse_shapes.specs.Forms.{later_fits, statement_fits, other_fits, ranged_form}
 
 -- ---- numbers that are no kind

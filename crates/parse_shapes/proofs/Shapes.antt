@@ -1,13 +1,11 @@
 -- One law for each way through the functions on shapes.
 -- Assumes nothing.
-use mathlib.Core.Path.{◌≡◌, refl, sym, ◌∙◌, ap, ap₂, subst}
+use mathlib.Core.Path.{◌≡◌, refl, sym, ◌∙◌, ap}
 use mathlib.Core.Bool.{Bool, true, false}
-use mathlib.Core.List.{List, [], ◌∷◌}
-use Prim.Native.Nat.{ℕ, zero, suc, ◌+◌, ◌*◌, ◌-◌, ◌^◌, ◌≤◌, ◌<◌}
-use native.Mathlib.Omega.{arith}
-use lib.Dec.{ltb}
-use lib.ListN.{length}
-use Rattle.base_prelude.specs.Choice.{if_lt, if_eq, if_true}
+use mathlib.Core.List.{List}
+use Prim.Native.Nat.{ℕ, ◌+◌, ◌-◌, ◌^◌, ◌≤◌, ◌<◌}
+use lib.Dec.{eqb, ltb}
+use Rattle.base_prelude.specs.Choice.{pick, if_eq, if_true}
 use Rattle.base_prelude.proofs.Choice.{tests, if_eq-yes, if_eq-no, if_true-yes, if_true-no, if_lt-yes, if_lt-no}
 use Rattle.base_limits.specs.Width.{bits_of}
 use Rattle.base_limits.specs.declared.Width.{Width}
@@ -19,14 +17,14 @@ use Rattle.parse_shapes.specs.Forms.{later_fits, statement_fits, other_fits, ran
 use Rattle.parse_shapes.proofs.Forms.{form-by}
 use Rattle.parse_lines.specs.declared.Span.{Span}
 
-module _ (t : List ℕ) (i k : ℕ) (p : k ≡ token_word t i 0) where
-  pub name-yes : k ≡ 3 → true ≡ is_name t i
-  unfolding is_name
-  name-yes e = rw (← p) (search tests)
+as-test : (b : Bool) → b ≡ pick b true false
+as-test true = refl
+as-test false = refl
 
-  pub name-no : (k ≡ 3 → ⊥) → false ≡ is_name t i
-  unfolding is_name
-  name-no e = rw (← p) (search tests)
+module _ (t : List ℕ) (i k : ℕ) (p : k ≡ token_word t i 0) where
+  pub name-is : eqb k 3 ≡ is_name t i
+  unfolding is_name if_eq
+  name-is = rw (← p) (as-test (eqb k 3))
 
   pub integer-plain : k ≡ 7 → true ≡ is_integer t i
   unfolding is_integer
@@ -40,13 +38,9 @@ module _ (t : List ℕ) (i k : ℕ) (p : k ≡ token_word t i 0) where
   unfolding is_integer
   integer-no e f = rw (← p) (search tests)
 
-  pub string-yes : k ≡ 9 → true ≡ is_string t i
-  unfolding is_string
-  string-yes e = rw (← p) (search tests)
-
-  pub string-no : (k ≡ 9 → ⊥) → false ≡ is_string t i
-  unfolding is_string
-  string-no e = rw (← p) (search tests)
+  pub string-is : eqb k 9 ≡ is_string t i
+  unfolding is_string if_eq
+  string-is = rw (← p) (as-test (eqb k 9))
 
   pub known-integer : k ≡ 7 → true ≡ is_known t i
   unfolding is_known
@@ -70,7 +64,7 @@ module _ (t : List ℕ) (i k : ℕ) (p : k ≡ token_word t i 0) where
     known-other g h = rw (← p, ← q) (search tests)
 
 pub ruleset kinds-are =
-    (name-yes, name-no, integer-plain, integer-substitute, integer-no, string-yes, string-no, known-integer, known-no, known-bits, known_bytes, known-other)
+    (name-is, integer-plain, integer-substitute, integer-no, string-is, known-integer, known-no, known-bits, known_bytes, known-other)
 
 module _ (t : List ℕ) (i next : ℕ) (b : Bool) (p : b ≡ is_name t i) where
   pub call-named : (r : Bool) → b ≡ true → r ≡ operands_from t (i + 1) next → r ≡ call_from t i next

@@ -17,32 +17,22 @@ use parse_lines::Span;
 pub fn is_name(t: &[u32], i: u32) -> bool
     ensures { result ≡ is_name t.now i }
 {
-    if parse_lines::kind_at(t, i) == Token::SYMBOL {
-        return true;
-    }
-    false
+    parse_lines::kind_at(t, i) == Token::SYMBOL
 }
 
 fn is_integer(t: &[u32], i: u32) -> bool
     ensures { result ≡ is_integer t.now i }
 {
-    let k = parse_lines::kind_at(t, i);
-    if k == Token::INTEGER {
-        return true;
-    }
-    if k == Token::SUBSTITUTE {
-        return true;
-    }
-    false
+    matches!(
+        parse_lines::kind_at(t, i),
+        Token::INTEGER | Token::SUBSTITUTE
+    )
 }
 
 fn is_string(t: &[u32], i: u32) -> bool
     ensures { result ≡ is_string t.now i }
 {
-    if parse_lines::kind_at(t, i) == Token::STRING {
-        return true;
-    }
-    false
+    parse_lines::kind_at(t, i) == Token::STRING
 }
 
 fn operands_from(t: &[u32], i: u32, next: u32) -> bool
@@ -57,53 +47,36 @@ fn call_from(t: &[u32], i: u32, next: u32) -> bool
     requires { (length t.now ≡ limits.token_words) × (i < limits.greatest_word) }
     ensures { result ≡ call_from t.now i next }
 {
-    if is_name(t, i) {
-        return operands_from(t, i + 1, next);
-    }
-    false
+    is_name(t, i) && operands_from(t, i + 1, next)
 }
 
 // An operator's word.
 pub fn is_operator(w: u32) -> bool
     ensures { result ≡ is_operator w }
 {
-    if w < Word::ADD {
-        return false;
-    }
-    if w < Word::PAST_WORDS {
-        return true;
-    }
-    false
+    Word::ADD <= w && w < Word::PAST_WORDS
 }
 
 // The number of tokens from i to before next.
 fn tokens_between(i: u32, next: u32) -> u32
     ensures { result ≡ next - i }
 {
-    if i < next {
-        return next - i;
-    }
-    0
+    next.saturating_sub(i)
 }
 
 fn operator_from(t: &[u32], i: u32, next: u32) -> bool
     requires { (length t.now ≡ limits.token_words) × (i < limits.greatest_word) }
     ensures { result ≡ operator_from t.now i next }
 {
-    if tokens_between(i + 1, next) == lang_words::least_operands(parse_lines::word_at(t, i)) {
-        return operands_from(t, i + 1, next);
-    }
-    false
+    tokens_between(i + 1, next) == lang_words::least_operands(parse_lines::word_at(t, i))
+        && operands_from(t, i + 1, next)
 }
 
 fn operand_at(t: &[u32], i: u32, next: u32) -> bool
     requires { (length t.now ≡ limits.token_words) × (i < limits.greatest_word) }
     ensures { result ≡ operand_at t.now i next }
 {
-    if next == i + 1 {
-        return operands_from(t, i, next);
-    }
-    false
+    next == i + 1 && operands_from(t, i, next)
 }
 
 fn symbol_from(t: &[u32], i: u32, next: u32) -> bool
@@ -135,22 +108,16 @@ fn expression_from(t: &[u32], i: u32, next: u32) -> bool
 pub fn is_listed(k: u32) -> bool
     ensures { result ≡ is_listed k }
 {
-    if k == Kind::FUNCTION {
-        return true;
-    }
-    if k < Kind::LET {
-        return false;
-    }
-    if k < Kind::SET_BYTE {
-        return true;
-    }
-    if k < Kind::CALL {
-        return false;
-    }
-    if k < Kind::IFEQ {
-        return true;
-    }
-    false
+    matches!(
+        k,
+        Kind::FUNCTION
+            | Kind::LET
+            | Kind::SET
+            | Kind::SET_AT
+            | Kind::CALL
+            | Kind::TAIL_CALL
+            | Kind::RETURN
+    )
 }
 
 // The tokens behind the magic word.
@@ -167,16 +134,7 @@ fn count_fits(t: &[u32], u: Span, k: u32) -> bool
 {
     let n = operand_count(u);
     let w = parse_lines::word_at(t, u.word);
-    if n < lang_words::least_operands(w) {
-        return false;
-    }
-    if is_listed(k) {
-        return true;
-    }
-    if lang_words::most_operands(w) < n {
-        return false;
-    }
-    true
+    lang_words::least_operands(w) <= n && (is_listed(k) || n <= lang_words::most_operands(w))
 }
 
 // let and set: a name, then an expression.
@@ -184,30 +142,21 @@ fn named_expression(t: &[u32], word: u32, next: u32) -> bool
     requires { (length t.now ≡ limits.token_words) × (word < limits.greatest_word - 3) }
     ensures { result ≡ if_true (is_name t.now (word + 1)) (expression_from t.now (word + 2) next) false }
 {
-    if is_name(t, word + 1) {
-        return expression_from(t, word + 2, next);
-    }
-    false
+    is_name(t, word + 1) && expression_from(t, word + 2, next)
 }
 
 fn return_fits(t: &[u32], u: Span) -> bool
     requires { (length t.now ≡ limits.token_words) × (u.word < limits.greatest_word - 3) }
     ensures { result ≡ if_eq (operand_count u) 0 true (expression_from t.now (u.word + 1) u.next) }
 {
-    if operand_count(u) == 0 {
-        return true;
-    }
-    expression_from(t, u.word + 1, u.next)
+    operand_count(u) == 0 || expression_from(t, u.word + 1, u.next)
 }
 
 fn else_if_fits(t: &[u32], u: Span) -> bool
     requires { (length t.now ≡ limits.token_words) × (u.word < limits.greatest_word - 3) }
     ensures { result ≡ if_eq (operand_count u) 3 (operands_from t.now (u.word + 2) u.next) false }
 {
-    if operand_count(u) == 3 {
-        return operands_from(t, u.word + 2, u.next);
-    }
-    false
+    operand_count(u) == 3 && operands_from(t, u.word + 2, u.next)
 }
 
 fn later_fits(t: &[u32], u: Span, k: u32) -> bool
@@ -258,35 +207,20 @@ fn align_form(t: &[u32], u: Span) -> bool
     requires { u.word < limits.greatest_word - 3 }
     ensures { result ≡ if_eq (operand_count u) 0 true (is_integer t.now (u.word + 1)) }
 {
-    if operand_count(u) == 0 {
-        return true;
-    }
-    is_integer(t, u.word + 1)
+    operand_count(u) == 0 || is_integer(t, u.word + 1)
 }
 
 fn other_fits(t: &[u32], u: Span, k: u32) -> bool
     requires { u.word < limits.greatest_word - 3 }
     ensures { result ≡ other_fits t.now u k }
 {
-    if k == Kind::EXPORT {
-        return is_name(t, u.word + 1);
+    match k {
+        Kind::EXPORT | Kind::IMPORT_LINE => is_name(t, u.word + 1),
+        Kind::ALIGN => align_form(t, u),
+        Kind::BYTE | Kind::WORD => is_integer(t, u.word + 1),
+        Kind::STRING => is_string(t, u.word + 1),
+        _ => k < Kind::LEFT_OUT,
     }
-    if k == Kind::ALIGN {
-        return align_form(t, u);
-    }
-    if k == Kind::BYTE {
-        return is_integer(t, u.word + 1);
-    }
-    if k == Kind::WORD {
-        return is_integer(t, u.word + 1);
-    }
-    if k == Kind::STRING {
-        return is_string(t, u.word + 1);
-    }
-    if k == Kind::IMPORT_LINE {
-        return is_name(t, u.word + 1);
-    }
-    k < Kind::LEFT_OUT
 }
 
 fn form_fits(t: &[u32], u: Span, k: u32) -> bool
@@ -303,21 +237,14 @@ fn form_fits(t: &[u32], u: Span, k: u32) -> bool
 fn is_known(t: &[u32], i: u32) -> bool
     ensures { result ≡ is_known t.now i }
 {
-    let k = parse_lines::kind_at(t, i);
-    if k == Token::INTEGER {
-        return true;
+    match parse_lines::kind_at(t, i) {
+        Token::INTEGER => true,
+        Token::SUBSTITUTE => matches!(
+            parse_lines::word_at(t, i),
+            Substitutes::BITS_PER_WORD | Substitutes::BYTES_PER_WORD
+        ),
+        _ => false,
     }
-    if k == Token::SUBSTITUTE {
-        let w = parse_lines::word_at(t, i);
-        if w == Substitutes::BITS_PER_WORD {
-            return true;
-        }
-        if w == Substitutes::BYTES_PER_WORD {
-            return true;
-        }
-        return false;
-    }
-    false
 }
 
 // 128 below zero as a word.
@@ -333,41 +260,27 @@ fn lowest_byte(w: Width) -> u32
 fn byte_fits(w: Width, v: u32) -> bool
     ensures { result ≡ byte_fits w v }
 {
-    if v < 256 {
-        return true;
-    }
-    if v < lowest_byte(w) {
-        return false;
-    }
-    true
+    v < 256 || lowest_byte(w) <= v
 }
 
 fn align_fits(v: u32) -> bool
     ensures { result ≡ align_fits v }
 {
-    if v < 1 {
-        return false;
-    }
-    if Machine::ALIGNMENT < v {
-        return false;
-    }
-    true
+    1 <= v && v <= Machine::ALIGNMENT
 }
 
 fn range_fits(w: Width, t: &[u32], u: Span, k: u32) -> bool
     requires { u.word < limits.greatest_word - 3 }
     ensures { result ≡ range_fits w t.now u k }
 {
-    if is_known(t, u.word + 1) {
-        if k == Kind::BYTE {
-            return byte_fits(w, parse_lines::value_at(t, u.word + 1));
-        }
-        if k == Kind::ALIGN {
-            return align_fits(parse_lines::value_at(t, u.word + 1));
-        }
+    if !is_known(t, u.word + 1) {
         return true;
     }
-    true
+    match k {
+        Kind::BYTE => byte_fits(w, parse_lines::value_at(t, u.word + 1)),
+        Kind::ALIGN => align_fits(parse_lines::value_at(t, u.word + 1)),
+        _ => true,
+    }
 }
 
 // A line of a known kind in right shape.
@@ -375,11 +288,5 @@ pub fn shape_fits(w: Width, t: &[u32], u: Span, k: u32) -> bool
     requires { (length t.now ≡ limits.token_words) × (u.word < limits.greatest_word - 3) }
     ensures { result ≡ shape_fits w t.now u k }
 {
-    if count_fits(t, u, k) {
-        if form_fits(t, u, k) {
-            return range_fits(w, t, u, k);
-        }
-        return false;
-    }
-    false
+    count_fits(t, u, k) && form_fits(t, u, k) && range_fits(w, t, u, k)
 }

@@ -1,14 +1,11 @@
 use Rattle.parse_shapes.proofs.Shapes.{ranges}
+use borrow.Author.Rules.{rules}
 use Rattle.parse_shapes.proofs.byte_fits.Goals as goal
 
 pub returns-then-v-lt256 : goal.returns-then-v-lt256
 returns-then-v-lt256 c =
-    search ranges
+    search (ranges, rules)
 
-pub returns-then-v-lowest_byte : goal.returns-then-v-lowest_byte
-returns-then-v-lowest_byte c =
-    search ranges
-
-pub returns : goal.returns
-returns c =
-    search ranges
+pub returns-else-v-lt256 : goal.returns-else-v-lt256
+returns-else-v-lt256 c =
+    search (ranges, rules)

@@ -1,14 +1,11 @@
 use Rattle.parse_shapes.proofs.Shapes.{kinds-are}
+use borrow.Author.Rules.{rules}
 use Rattle.parse_shapes.proofs.is_integer.Goals as goal
 
-pub returns-then-k-eq-INTEGER : goal.returns-then-k-eq-INTEGER
-returns-then-k-eq-INTEGER c =
-    search kinds-are
+pub returns-in-7 : goal.returns-in-7
+returns-in-7 c =
+    search (kinds-are, rules)
 
-pub returns-then-k-eq-SUBSTITUTE : goal.returns-then-k-eq-SUBSTITUTE
-returns-then-k-eq-SUBSTITUTE c =
-    search kinds-are
-
-pub returns : goal.returns
-returns c =
-    search kinds-are
+pub returns-in_default : goal.returns-in_default
+returns-in_default c =
+    search (kinds-are, rules)

@@ -1,22 +1,23 @@
 use Rattle.parse_shapes.proofs.Shapes.{kinds-are}
+use borrow.Author.Rules.{rules}
 use Rattle.parse_shapes.proofs.is_known.Goals as goal
 
-pub returns-then-k-eq-INTEGER : goal.returns-then-k-eq-INTEGER
-returns-then-k-eq-INTEGER c =
-    search kinds-are
+pub returns-in-7 : goal.returns-in-7
+returns-in-7 c =
+    search (kinds-are, rules)
 
-pub returns-then-w-eq-BITS_PER_WORD : goal.returns-then-w-eq-BITS_PER_WORD
-returns-then-w-eq-BITS_PER_WORD c =
-    search kinds-are
+pub returns-in-1 : goal.returns-in-1
+returns-in-1 c =
+    search (kinds-are, rules)
 
-pub returns-then-w-eq-BYTES_PER_WORD : goal.returns-then-w-eq-BYTES_PER_WORD
-returns-then-w-eq-BYTES_PER_WORD c =
-    search kinds-are
+pub returns-in_default-matches : goal.returns-in_default-matches
+returns-in_default-matches c =
+    search (kinds-are, rules)
 
-pub returns-then-k-eq-SUBSTITUTE : goal.returns-then-k-eq-SUBSTITUTE
-returns-then-k-eq-SUBSTITUTE c =
-    search kinds-are
+pub returns-in_default-matches-2 : goal.returns-in_default-matches-2
+returns-in_default-matches-2 c =
+    search (kinds-are, rules)
 
-pub returns : goal.returns
-returns c =
-    search kinds-are
+pub returns-in_default : goal.returns-in_default
+returns-in_default c =
+    search (kinds-are, rules)

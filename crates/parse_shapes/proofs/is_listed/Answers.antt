@@ -1,27 +1,28 @@
 use Rattle.base_prelude.proofs.Choice.{tests}
+use borrow.Author.Rules.{rules}
 use Rattle.parse_shapes.proofs.Forms.{listed_by}
 use Rattle.parse_shapes.proofs.is_listed.Goals as goal
 
-pub returns-then-k-eq-FUNCTION : goal.returns-then-k-eq-FUNCTION
-returns-then-k-eq-FUNCTION c =
-    search (listed_by, tests) depth 16
+pub returns-in_default : goal.returns-in_default
+returns-in_default c =
+    listed_by _ _ (search (tests, rules) depth 16)
 
-pub returns-then-k-lt-LET : goal.returns-then-k-lt-LET
-returns-then-k-lt-LET c =
-    search (listed_by, tests) depth 16
+pub returns-in_default-2 : goal.returns-in_default-2
+returns-in_default-2 c =
+    listed_by _ _ (search (tests, rules) depth 16)
 
-pub returns-then-k-lt-SET_BYTE : goal.returns-then-k-lt-SET_BYTE
-returns-then-k-lt-SET_BYTE c =
-    search (listed_by, tests) depth 16
+pub returns-in_default-3 : goal.returns-in_default-3
+returns-in_default-3 c =
+    listed_by _ _ (search (tests, rules) depth 16)
 
-pub returns-then-k-lt-CALL : goal.returns-then-k-lt-CALL
-returns-then-k-lt-CALL c =
-    search (listed_by, tests) depth 16
+pub returns-in-1 : goal.returns-in-1
+returns-in-1 c =
+    listed_by _ _ (search (tests, rules) depth 16)
 
-pub returns-then-k-lt-IFEQ : goal.returns-then-k-lt-IFEQ
-returns-then-k-lt-IFEQ c =
-    search (listed_by, tests) depth 16
+pub returns-in-1-2 : goal.returns-in-1-2
+returns-in-1-2 c =
+    listed_by _ _ (search (tests, rules) depth 16)
 
-pub returns : goal.returns
-returns c =
-    search (listed_by, tests) depth 16
+pub returns-in-1-3 : goal.returns-in-1-3
+returns-in-1-3 c =
+    listed_by _ _ (search (tests, rules) depth 16)

@@ -1,18 +1,14 @@
 use Rattle.base_prelude.proofs.Choice.{tests}
-use Rattle.parse_shapes.specs.Shapes.{is_operator, is_listed, align_fits}
+use borrow.Author.Rules.{rules}
+use Rattle.parse_shapes.specs.Shapes.{is_operator}
 use Rattle.parse_shapes.proofs.is_operator.Goals as goal
 
-pub returns-then-w-lt-ADD : goal.returns-then-w-lt-ADD
-unfolding is_operator is_listed align_fits
-returns-then-w-lt-ADD c =
-    search tests depth 16
+pub returns-then-w-ge-ADD : goal.returns-then-w-ge-ADD
+unfolding is_operator
+returns-then-w-ge-ADD c =
+    search (tests, rules)
 
-pub returns-then-w-lt-PAST_WORDS : goal.returns-then-w-lt-PAST_WORDS
-unfolding is_operator is_listed align_fits
-returns-then-w-lt-PAST_WORDS c =
-    search tests depth 16
-
-pub returns : goal.returns
-unfolding is_operator is_listed align_fits
-returns c =
-    search tests depth 16
+pub returns-else-w-ge-ADD : goal.returns-else-w-ge-ADD
+unfolding is_operator
+returns-else-w-ge-ADD c =
+    search (tests, rules)

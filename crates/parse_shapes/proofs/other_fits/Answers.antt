@@ -1,30 +1,23 @@
 use Rattle.parse_shapes.proofs.Shapes.{others}
+use borrow.Author.Rules.{rules}
 use Rattle.parse_shapes.proofs.other_fits.Goals as goal
 
-pub returns-then-k-eq-EXPORT : goal.returns-then-k-eq-EXPORT
-returns-then-k-eq-EXPORT c =
-    search others
+pub returns-in-27 : goal.returns-in-27
+returns-in-27 c =
+    search (others, rules)
 
-pub returns-then-k-eq-ALIGN : goal.returns-then-k-eq-ALIGN
-returns-then-k-eq-ALIGN c =
-    search others
+pub returns-in-28 : goal.returns-in-28
+returns-in-28 c =
+    search (others, rules)
 
-pub returns-then-k-eq-BYTE : goal.returns-then-k-eq-BYTE
-returns-then-k-eq-BYTE c =
-    search others
+pub returns-in-31 : goal.returns-in-31
+returns-in-31 c =
+    search (others, rules)
 
-pub returns-then-k-eq-WORD : goal.returns-then-k-eq-WORD
-returns-then-k-eq-WORD c =
-    search others
+pub returns-in-29 : goal.returns-in-29
+returns-in-29 c =
+    search (others, rules)
 
-pub returns-then-k-eq-STRING : goal.returns-then-k-eq-STRING
-returns-then-k-eq-STRING c =
-    search others
-
-pub returns-then-k-eq-IMPORT_LINE : goal.returns-then-k-eq-IMPORT_LINE
-returns-then-k-eq-IMPORT_LINE c =
-    search others
-
-pub returns : goal.returns
-returns c =
-    search others
+pub returns-in_default : goal.returns-in_default
+returns-in_default c =
+    search (others, rules)
