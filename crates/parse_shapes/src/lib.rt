@@ -13,6 +13,9 @@ use lang_kinds::{Kind, Token};
 use lang_words::{Substitutes, Word};
 use parse_lines::Span;
 
+// A test's word and its two operands.
+const TEST_TOKENS: u32 = 3;
+
 // A plain symbol.
 pub fn is_name(t: &[u32], i: u32) -> bool
     ensures { result ≡ is_name t.now i }
@@ -156,7 +159,7 @@ fn else_if_fits(t: &[u32], u: Span) -> bool
     requires { (length t.now ≡ limits.token_words) × (u.word < limits.greatest_word - 3) }
     ensures { result ≡ if_eq (operand_count u) 3 (operands_from t.now (u.word + 2) u.next) false }
 {
-    operand_count(u) == 3 && operands_from(t, u.word + 2, u.next)
+    operand_count(u) == TEST_TOKENS && operands_from(t, u.word + 2, u.next)
 }
 
 fn later_fits(t: &[u32], u: Span, k: u32) -> bool
