@@ -16,8 +16,7 @@ use Rattle.res_skeleton.specs.Skeleton.{skeleton_of}
 use Rattle.res_names.specs.Naming.{Naming, naming, names_of}
 use Rattle.res_exports.specs.Exports.{Exported, exported, exports_of}
 use Rattle.res_data.specs.Sizes.{measure_of}
-use Rattle.res_data.specs.declared.Measured.{Measured}
-use Rattle.res_data.specs.declared.Measured.TheVariants.{Length, Big}
+use Rattle.std.specs.Prelude.{Result, Ok, Err}
 use Rattle.parse_verdict.proofs.Counts.{accepted-counts}
 use Rattle.check_judge.specs.Judge.{known, Judged, refusal, fine, size_group, names_with, names_judged, fault_group, name_group, outline_group, line_group}
 
@@ -50,16 +49,16 @@ module _ (w : Width) (same : ℕ → ℕ → Bool) (m n : ℕ) (t : List ℕ) (r
     unfolding fault_group
     names-refused o = sym (named ∙ if_lt-yes _ _ o)
 
-    module _ (o : none ≤ fault) (z : Measured) (u : z ≡ measure_of w t 4098) where
+    module _ (o : none ≤ fault) (z : Result ℕ ℕ) (u : z ≡ measure_of w t 4098) where
       sized : line_group w same m n t ≡ size_group m (known n t c k l y f) z
       unfolding fault_group
       sized = named ∙ if_lt-no _ _ o ∙ ap (size_group m (known n t c k l y f)) (sym u)
 
-      pub size-fine : (size : ℕ) → z ≡ Length size → fine (known n t c k l y f) size ≡ line_group w same m n t
+      pub size-fine : (size : ℕ) → z ≡ Ok size → fine (known n t c k l y f) size ≡ line_group w same m n t
       unfolding size_group
       size-fine size v = sym (sized ∙ ap (size_group m (known n t c k l y f)) v)
 
-      pub size-big : (i place : ℕ) → z ≡ Big i → place ≡ place_at t m i → refusal 15 place ≡ line_group w same m n t
+      pub size-big : (i place : ℕ) → z ≡ Err i → place ≡ place_at t m i → refusal 15 place ≡ line_group w same m n t
       unfolding size_group
       size-big i place v q = ap (refusal 15) q ∙ sym (sized ∙ ap (size_group m (known n t c k l y f)) v)
 

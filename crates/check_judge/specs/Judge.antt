@@ -17,8 +17,7 @@ use Rattle.res_skeleton.specs.Skeleton.{skeleton_of}
 use Rattle.res_names.specs.Naming.{Naming, names_of}
 use Rattle.res_exports.specs.Exports.{Exported, exported, exports_of}
 use Rattle.res_data.specs.Sizes.{length_of}
-use Rattle.res_data.specs.declared.Measured.{Measured}
-use Rattle.res_data.specs.declared.Measured.TheVariants.{Length, Big}
+use Rattle.std.specs.Prelude.{Result, Ok, Err}
 use Rattle.res_text.specs.Same.{same_text}
 use Rattle.res_hosts.specs.Marks.{hosted_tokens}
 
@@ -47,9 +46,9 @@ pub data Judged : Type 0 where
 -- ---- the groups, last to first; m is the number of the source's bytes, `same` says whether two tokens have one name
 
 -- 15
-unfoldable pub size_group : ℕ → Known → Measured → Judged
-size_group m p (Length size) = fine p size
-size_group m p (Big i) = refusal 15 (place_at p.t m i)
+unfoldable pub size_group : ℕ → Known → Result ℕ ℕ → Judged
+size_group m p (Ok size) = fine p size
+size_group m p (Err i) = refusal 15 (place_at p.t m i)
 
 -- 10 to 13 and 17: the least fault of all names, and which labels are exported
 unfoldable pub names_with : (ℕ → ℕ → Bool) → List ℕ → ℕ → List ℕ → ℕ → Naming → Exported

@@ -28,7 +28,6 @@ use Rattle.res_frame_words.specs.Framing.{words_of}
 use Rattle.res_rows.specs.Rows.{statement_table}
 use Rattle.res_labels.specs.Labelling.{flag_at, final_kind, label_table, name_table}
 use Rattle.res_data.specs.Sizes.{length_of}
-use Rattle.res_data.specs.declared.Measured.TheVariants.{Length}
 use Rattle.res_data.proofs.Laws.{measure-low}
 use Rattle.res_text.specs.Same.{same_text}
 use Rattle.check_judge.proofs.Hosted.{table-long}
