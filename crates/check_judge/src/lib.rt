@@ -13,7 +13,6 @@ ghost use Rattle.check_judge.specs.Judged.{judged};
 use base_limits::{Machine, Width};
 use parse_outline::{Outline, Parsed};
 use prog_tables::Table;
-use res_data::Measured;
 
 // The numbers of tokens, statements, labels and data bytes.
 #[derive(Clone, Copy)]
@@ -91,13 +90,13 @@ fn judge_tokens(
                 };
             }
             match res_data::measure(w, t, 4098) {
-                Measured::Length(size) => Judgement::Fine(Counts {
+                Ok(size) => Judgement::Fine(Counts {
                     tokens: n,
                     statements: c,
                     labels: l,
-                    size: size,
+                    size,
                 }),
-                Measured::Big(i) => Judgement::Refused {
+                Err(i) => Judgement::Refused {
                     number: 15,
                     place: parse_lines::place_at(t, m, i) as usize,
                 },

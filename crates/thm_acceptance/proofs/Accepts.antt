@@ -32,6 +32,7 @@ use Rattle.res_skeleton.specs.Skeleton.{skeleton_of}
 use Rattle.res_names.specs.Naming.{Naming, names_of}
 use Rattle.res_exports.specs.Exports.{Exported, exports_of}
 use Rattle.res_data.specs.Sizes.{length_of, length_in, big_in, big_rule}
+use Rattle.std.specs.Prelude as prelude
 use Rattle.std.specs.Prelude.{Ok, Err}
 use Rattle.res_text.specs.Same.{same_text}
 use Rattle.parse_verdict.specs.Verdict.{Clean, all_faults, verdict_of, key_of, Rising}
@@ -111,7 +112,7 @@ module _ (w : Width) (s : List ℕ) (b : Lent) where
   refusal_is number place = refl
 
   -- 15
-  size_is : (p : Known) (m : Result ℕ ℕ) → ((i : ℕ) → place_at p.t (length s) i < 4294967296)
+  size_is : (p : Known) (m : prelude.Result ℕ ℕ) → ((i : ℕ) → place_at p.t (length s) i < 4294967296)
       → said w s b (size_group (length s) p m)
       ≡ judge ((big_in p.t (length s) m ∷ []) ∷ (room_rule b p.n p.c p.l (length_in m) ∷ []) ∷ []) (Accepted p.n p.c p.l (length_in m))
   unfolding size_group big_in length_in key_at

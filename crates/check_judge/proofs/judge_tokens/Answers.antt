@@ -15,10 +15,10 @@ pub returns-in-Refused : goal.returns-in-Refused
 returns-in-Refused c =
     search token-ways
 
-pub returns-in-Length : goal.returns-in-Length
-returns-in-Length c =
-    size-fine _ _ _ _ _ _ _ _ c.in-Accepted.ensures _ _ _ refl c.make_skeleton.ensures _ _ c.names_fault-fault.ensures c.if-fault-lt-NONE.false _ c.in-Length.ensures _ refl
+pub returns-in-Ok : goal.returns-in-Ok
+returns-in-Ok c =
+    size-fine _ _ _ _ _ _ _ _ c.in-Accepted.ensures _ _ _ refl c.make_skeleton.ensures _ _ c.names_fault-fault.ensures c.if-fault-lt-NONE.false _ c.in-Ok.ensures _ refl
 
-pub returns-in-Big : goal.returns-in-Big
-returns-in-Big c =
+pub returns-in-Err : goal.returns-in-Err
+returns-in-Err c =
     search token-ways
