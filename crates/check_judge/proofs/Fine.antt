@@ -14,8 +14,9 @@ use Rattle.prog_tables.specs.Hosts.{Hosts}
 use Rattle.lex_source.specs.Lex.{Outcome, accepted, refused, lex_of}
 use Rattle.lex_source.proofs.Laws.{accepted-good}
 use Rattle.parse_outline.specs.Outline.{outline_of}
-use Rattle.parse_outline.specs.declared.Parsed.{Parsed}
-use Rattle.parse_outline.specs.declared.Parsed.TheVariants.{Accepted, Refused}
+use Rattle.std.proofs.Common.{Ok, Err}
+use Rattle.parse_outline.specs.Parsed.{Parsed}
+use Rattle.parse_outline.specs.Parsed as parsed
 use Rattle.res_skeleton.specs.Skeleton.{skeleton_of}
 use Rattle.res_exports.specs.Exports.{Exported}
 use Rattle.res_data.specs.Sizes.{length_of}
@@ -60,7 +61,7 @@ pub record Passed (w : Width) (h : Hosts) (s : List ℕ) (p : Known) (size : ℕ
   pub c : ℕ
   pub l : ℕ
   pub lexes : lex_of w s ≡ accepted tokens
-  pub outlines : (outline_of w (hosted_table h s tokens) (length s)).answer ≡ Accepted c l
+  pub outlines : (outline_of w (hosted_table h s tokens) (length s)).answer ≡ parsed.accepted c l
   pub names : none ≤ (names_in w h s tokens c l).fault
   pub sized : length_of w (hosted_table h s tokens) ≡ Ok size
   pub is : p ≡ known_in w h s tokens c l
@@ -70,10 +71,10 @@ module _ (w : Width) (h : Hosts) (s : List ℕ) (p : Known) (size : ℕ) where
       → outline_group w (same_text s (hosted_table h s ts)) (length s) (length ts) (hosted_table h s ts) a (outline_of w (hosted_table h s ts) (length s)).rows (outline_of w (hosted_table h s ts) (length s)).labels ≡ fine p size
       → Passed w h s p size
   unfolding outline_group name_group
-  outline-passed ts e (Accepted c l) a g =
-      let v = fault-fine w (length s) (length ts) (hosted_table h s ts) c _ l _ (names_in w h s ts c l) p size g in
-      record { tokens = ts; c = c; l = l; lexes = e; outlines = a; names = v.0; sized = v.1; is = v.2 }
-  outline-passed ts e (Refused number place) a g = not-fine number place p size g
+  outline-passed ts e (Ok o) a g =
+      let v = fault-fine w (length s) (length ts) (hosted_table h s ts) o.statements _ o.labels _ (names_in w h s ts o.statements o.labels) p size g in
+      record { tokens = ts; c = o.statements; l = o.labels; lexes = e; outlines = a; names = v.0; sized = v.1; is = v.2 }
+  outline-passed ts e (Err r) a g = not-fine r.number r.place p size g
 
   token-passed : (o : Outcome) → lex_of w s ≡ o → token_group w h s o ≡ fine p size → Passed w h s p size
   unfolding token_group line_group

@@ -1,7 +1,7 @@
 -- Every rule but 16: "Check order: 1; 2 to 6 with 14 for tokens; 7, 8, 9 and other 14; 10 to 13 and 17; 15; 16. In each group the lowest place,
 -- then the lowest number." A group that finds no fault hands on to the next; none sees how long the lent buffers are.
 -- Assumes nothing.
-use Rattle.std.specs.Prelude.{ℕ, min, Bool, List, length}
+use Rattle.std.specs.Prelude.{ℕ, min, Bool, List, length, Ok, Err}
 use Rattle.base_prelude.specs.Choice.{if_lt}
 use Rattle.base_prelude.specs.Fault.{none, key_number, key_place}
 use Rattle.base_limits.specs.declared.Width.{Width}
@@ -11,8 +11,7 @@ use Rattle.lex_source.specs.Rows.{token_table}
 use Rattle.prog_tables.specs.Hosts.{Hosts}
 use Rattle.parse_lines.specs.Tokens.{place_at}
 use Rattle.parse_outline.specs.Outline.{outline_of}
-use Rattle.parse_outline.specs.declared.Parsed.{Parsed}
-use Rattle.parse_outline.specs.declared.Parsed.TheVariants.{Accepted, Refused}
+use Rattle.parse_outline.specs.Parsed.{Parsed}
 use Rattle.res_skeleton.specs.Skeleton.{skeleton_of}
 use Rattle.res_names.specs.Naming.{Naming, names_of}
 use Rattle.res_exports.specs.Exports.{Exported, exported, exports_of}
@@ -67,8 +66,8 @@ name_group w same m n t c k l y = fault_group w m n t c k l y (names_judged same
 
 -- 7, 8, 9 and other 14
 unfoldable pub outline_group : Width → (ℕ → ℕ → Bool) → ℕ → ℕ → List ℕ → Parsed → List ℕ → List ℕ → Judged
-outline_group w same m n t (Accepted c l) x y = name_group w same m n t c (skeleton_of x c) l y
-outline_group w same m n t (Refused number place) x y = refusal number place
+outline_group w same m n t (Ok o) x y = name_group w same m n t o.statements (skeleton_of x o.statements) o.labels y
+outline_group w same m n t (Err r) x y = refusal r.number r.place
 
 unfoldable pub line_group : Width → (ℕ → ℕ → Bool) → ℕ → ℕ → List ℕ → Judged
 line_group w same m n t = outline_group w same m n t (outline_of w t m).answer (outline_of w t m).rows (outline_of w t m).labels
