@@ -25,7 +25,12 @@ fn page_of(
             app_page::accepted_page(p.statements, p.labels, p.size, table, names, rows, out)
         }
         Err(r) => {
-            app_page::refused_page(s, r.number, (r.place as u64 % Machine::WORD_VALUES) as u32, out)
+            app_page::refused_page(
+                s,
+                r.number,
+                (r.place as u64 % Machine::WORD_VALUES) as u32,
+                out,
+            )
         }
     }
 }

@@ -64,7 +64,6 @@ module _ (w : Width) (same : ℕ → ℕ → Bool) (m n : ℕ) (t : List ℕ) (r
       unfolding size_group
       size-big i place v q = ap (refusal 15) q ∙ sym (sized ∙ ap (size_group m (known n t p.statements k p.labels y f)) v)
 
-
 -- what a skeleton asks
 pub lines-few : (w : Width) (m : ℕ) (p : RowCounts) (t x y : List ℕ) (r : Parsed) → r ≡ Ok p → parsed r x y ≡ outline_of w t m → length t ≡ 32768 → p.statements ≤ 1024
 lines-few w m p t x y r e h long = (accepted-counts w t m p.statements p.labels long (ap (λ (o : Outlined). o.answer) (sym h) ∙ e)).0

@@ -6,9 +6,8 @@ ghost use Rattle.res_hosts.specs.Marks.{host_list};
 ghost use Rattle.check_fill.specs.Fill.{lent};
 ghost use Rattle.check_source.specs.Check.{filled, refuse, has_room, check_of};
 
-pub use check_judge::Counts;
-
 use base_limits::{Machine, Refusal, Width};
+pub use check_judge::Counts;
 use parse_outline::Outline;
 use prog_tables::Table;
 

@@ -11,11 +11,10 @@ ghost use Rattle.parse_outline.specs.Fits.{MarksFit};
 ghost use Rattle.parse_outline.specs.Parsed.{refusal_of};
 ghost use Rattle.parse_outline.specs.Outline.{answer_of, parsed, outline_of};
 
-pub use parse_units::Outline;
-
 use base_limits::{Machine, Refusal, Width};
 use lang_kinds::{Ground, Kind, Token};
 use parse_lines::Span;
+pub use parse_units::Outline;
 use parse_units::Totals;
 use prog_tables::{LabelKind, OutlineLabel};
 

@@ -572,13 +572,7 @@ fn step_unit(
     ControlFlow::Continue(step_on(t, n, rows, u, k, s))
 }
 
-fn parse_from(
-    w: Width,
-    t: &[u32],
-    n: u32,
-    rows: &mut [u32],
-    start: State,
-) -> Result<Totals, u64>
+fn parse_from(w: Width, t: &[u32], n: u32, rows: &mut [u32], start: State) -> Result<Totals, u64>
     requires { UnitStepFits t.now rows.old start × (start.labels ≤ start.at) }
     ensures { parse_result result rows.new ≡ parse_from w t.now n (world start rows.old) }
 {
