@@ -10,7 +10,6 @@ use Rattle.base_prelude.proofs.Choice.{if_lt-yes, if_lt-no}
 use Rattle.base_limits.specs.declared.Width.{Width}
 use Rattle.parse_lines.specs.Tokens.{place_at}
 use Rattle.parse_outline.specs.Outline.{Outlined, parsed, outline_of}
-use Rattle.std.proofs.Common.{Ok, Err}
 use Rattle.base_limits.specs.declared.Refusal.{Refusal}
 use Rattle.parse_outline.specs.Parsed.{Parsed}
 use Rattle.parse_outline.specs.declared.RowCounts.{RowCounts}

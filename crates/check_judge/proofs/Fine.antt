@@ -14,7 +14,6 @@ use Rattle.prog_tables.specs.Hosts.{Hosts}
 use Rattle.lex_source.specs.Lex.{Outcome, accepted, refused, lex_of}
 use Rattle.lex_source.proofs.Laws.{accepted-good}
 use Rattle.parse_outline.specs.Outline.{outline_of}
-use Rattle.std.proofs.Common.{Ok, Err}
 use Rattle.parse_outline.specs.Parsed.{Parsed}
 use Rattle.parse_outline.specs.Parsed as parsed
 use Rattle.res_skeleton.specs.Skeleton.{skeleton_of}

@@ -1,7 +1,7 @@
 -- Every rule but 16: "Check order: 1; 2 to 6 with 14 for tokens; 7, 8, 9 and other 14; 10 to 13 and 17; 15; 16. In each group the lowest place,
 -- then the lowest number." A group that finds no fault hands on to the next; none sees how long the lent buffers are.
 -- Assumes nothing.
-use Rattle.std.specs.Prelude.{ℕ, min, Bool, List, length, Ok, Err}
+use Rattle.std.specs.Prelude.{ℕ, min, Bool, List, length}
 use Rattle.base_prelude.specs.Choice.{if_lt}
 use Rattle.base_prelude.specs.Fault.{none, key_number, key_place}
 use Rattle.base_limits.specs.declared.Width.{Width}

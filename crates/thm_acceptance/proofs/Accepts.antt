@@ -21,7 +21,6 @@ use Rattle.lex_source.specs.Lex.{Outcome, accepted, refused, lex_of}
 use Rattle.lex_source.specs.Rows.{token_table}
 use Rattle.lex_source.specs.Rows as rows
 use Rattle.parse_units.specs.Parse.{Result, parse_of}
-use Rattle.std.proofs.Common.{Ok, Err}
 use Rattle.parse_units.specs.Verdict.{Verdict}
 use Rattle.parse_outline.specs.Labels.{label_rows}
 use Rattle.parse_outline.specs.Outline.{Outlined, outline_of}
