@@ -1,6 +1,6 @@
 -- Lists of numbers: whether two are the same, whether a number stands in one, and a table cleared from a place on.
 -- Assumes nothing.
-use Rattle.std.specs.Prelude.{ℕ, ◌+◌, ◌-◌, Bool, true, false, List, [], ◌∷◌, ◌++◌, eqb, length, take, drop, replicate}
+use Rattle.std.specs.Prelude.{ℕ, ◌-◌, Bool, true, false, List, [], ◌∷◌, ◌++◌, eqb, length, take, drop, replicate}
 use Rattle.base_prelude.specs.Choice.{pick}
 
 -- all elements agree, and there are as many

@@ -1,15 +1,13 @@
-use lib.ListN.{get_or-eq_default}
+use Rattle.std.proofs.Common.{◌∙◌, arith}
 use Rattle.base_prelude.specs.Bytes.{byte_at}
-use Rattle.base_prelude.proofs.Bytes.{get_d-within}
-use mathlib.Core.Path.{sym, ◌∙◌}
 use Rattle.base_prelude.proofs.byte_at.Goals as goal
 
-pub returns-then-i-s : goal.returns-then-i-s
+pub returns-in-Some : goal.returns-in-Some
 unfolding byte_at
-returns-then-i-s c =
-    c.wide.ensures.0 ∙ get_d-within c.args.s.now c.args.i 0 256 c.if-i-s.true
+returns-in-Some c =
+    c.from.ensures ∙ c.in-Some.ensures.lookup.3.1 256
 
-pub returns-else-i-s : goal.returns-else-i-s
+pub returns-in-None : goal.returns-in-None
 unfolding byte_at
-returns-else-i-s c =
-    sym (get_or-eq_default c.args.s.now 256 c.if-i-s.false)
+returns-in-None c =
+    c.in-None.ensures.lookup.4 (omega arith) 256

@@ -1,14 +1,6 @@
-use Rattle.base_prelude.proofs.Lists.{clearing}
+use Rattle.base_prelude.proofs.Lists.{zeroed-part}
 use Rattle.base_prelude.proofs.clear_from.Goals as goal
-
-pub loop-i-init : goal.loop-i-init
-loop-i-init c =
-    search clearing
-
-pub loop-i-preserved : goal.loop-i-preserved
-loop-i-preserved c =
-    search clearing
 
 pub returns : goal.returns
 returns c =
-    search clearing
+    zeroed-part c.args.t.now c.args.from c.fill.new.self c.requires (c.fill.ensures.after (λ y e. e))
