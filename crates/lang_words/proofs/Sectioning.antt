@@ -6,7 +6,6 @@ use mathlib.Core.List.{List}
 use Prim.Native.Nat.{ℕ}
 use Rattle.base_prelude.specs.Lists.{same_list}
 use Rattle.base_prelude.proofs.Choice.{is-yes, is-no}
-use Rattle.base_prelude.specs.Choice.{if_eq}
 use Rattle.base_prelude.proofs.Choice.{is_eq, is_ne}
 use Rattle.lang_words.specs.Numbers as word
 use Rattle.lang_words.specs.Words.{number_of}

@@ -268,22 +268,6 @@ pub fn word_number(k: usize) -> u32
     NUMBERS[k]
 }
 
-// A letter of the table.
-fn letter(i: usize) -> u32
-    requires { i < 283 }
-    ensures { result ≡ letter_at i }
-{
-    base_prelude::wide(LETTERS[i])
-}
-
-// Whether a byte of a name is a letter of the table.
-fn agrees(name: &[u8], start: usize, j: usize) -> bool
-    requires { start + j < 283 }
-    ensures { result ≡ eqb (byte_at name.now j) (letter_at (start + j)) }
-{
-    base_prelude::byte_at(name, j) == letter(start + j)
-}
-
 // The table as a local value: a loop reads its rows.
 fn table() -> [Row; 51]
     ensures { result ≡ rows }
@@ -291,39 +275,22 @@ fn table() -> [Row; 51]
     ROWS
 }
 
-// Whether a name is the word of a row. The lengths are compared first.
+// Whether a name is the word of a row.
 fn is_word(name: &[u8], row: Row) -> bool
     requires { row.0 + row.1 ≤ 283 }
     ensures { result ≡ same_list name.now (spelled row.0 row.1) }
 {
-    let start = row.0;
-    let size = row.1;
-    if name.len() != size {
-        return false;
-    }
-    let mut j: usize = 0;
-    while j < size {
-        if agrees(name, start, j) {
-            j += 1;
-        } else {
-            return false;
-        }
-    }
-    true
+    name == &LETTERS[row.0..row.0 + row.1]
 }
 
 // The number of a word, 0 for any other name.
 pub fn lookup(name: &[u8]) -> u32
     ensures { result ≡ number_of name.now }
 {
-    let rows = table();
-    let mut k: usize = 0;
-    while k < 51 {
-        let row = rows[k];
-        if is_word(name, row) {
+    for row in &table() {
+        if is_word(name, *row) {
             return row.2;
         }
-        k += 1;
     }
     0
 }
@@ -332,14 +299,10 @@ pub fn lookup(name: &[u8]) -> u32
 fn row_of(number: u32) -> Row
     ensures { (result.3 ≡ least_operands number) × (result.4 ≡ most_operands number) }
 {
-    let rows = table();
-    let mut k: usize = 0;
-    while k < 51 {
-        let row = rows[k];
+    for row in &table() {
         if row.2 == number {
-            return row;
+            return *row;
         }
-        k += 1;
     }
     Row(0, 0, 0, 0, 0)
 }

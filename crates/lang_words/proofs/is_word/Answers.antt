@@ -1,22 +1,10 @@
-use Rattle.lang_words.proofs.Matching.{matching}
+use Rattle.std.proofs.Common.{◌∙◌, refl}
+use Rattle.lang_words.specs.Words.{words}
+use Rattle.lang_words.specs.Table.{all_letters}
+use Rattle.lang_words.proofs.Matching.{part-spelled}
 use Rattle.lang_words.proofs.is_word.Goals as goal
 
-pub returns-then-name-size : goal.returns-then-name-size
-returns-then-name-size c =
-    search matching
-
-pub loop-j-init : goal.loop-j-init
-loop-j-init c =
-    search matching
-
-pub loop-j-preserved : goal.loop-j-preserved
-loop-j-preserved c =
-    search matching
-
-pub returns-else-agrees : goal.returns-else-agrees
-returns-else-agrees c =
-    search matching
-
 pub returns : goal.returns
+unfolding words all_letters
 returns c =
-    search matching
+    c.eq.ensures ∙ part-spelled _ c.args.name.now c.args.row.0 c.args.row.1 refl

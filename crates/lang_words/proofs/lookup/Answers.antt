@@ -1,8 +1,8 @@
 use Rattle.lang_words.proofs.Searching.{named-fits, naming}
 use Rattle.lang_words.proofs.lookup.Goals as goal
 
-pub loop-k-init : goal.loop-k-init
-loop-k-init c =
+pub loop-row-init : goal.loop-row-init
+loop-row-init c =
     search naming
 
 pub is_word-requires : goal.is_word-requires
@@ -13,8 +13,8 @@ pub returns-then-is_word : goal.returns-then-is_word
 returns-then-is_word c =
     search naming
 
-pub loop-k-preserved : goal.loop-k-preserved
-loop-k-preserved c =
+pub loop-row-preserved : goal.loop-row-preserved
+loop-row-preserved c =
     search naming
 
 pub returns : goal.returns

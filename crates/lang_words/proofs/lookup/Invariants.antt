@@ -1,12 +1,7 @@
-use Prim.Native.Nat.{◌-◌}
 use Rattle.lang_words.specs.Words.{is_spelled}
 use Rattle.lang_words.proofs.Searching.{Searching}
 use Rattle.lang_words.proofs.lookup.Given as goal
 
-abbrev pub invariant-loop-k : goal.invariant-loop-k
-invariant-loop-k l =
-    Searching l.rows (is_spelled l.name) l.k
-
-abbrev pub decreases-loop-k : goal.decreases-loop-k
-decreases-loop-k l =
-    51 - l.k
+abbrev pub invariant-loop-row : goal.invariant-loop-row
+invariant-loop-row l =
+    Searching l.row-items (is_spelled l.name) l.row-index
