@@ -1,9 +1,8 @@
 -- How many rows a line makes.
 -- Assumes nothing.
 use mathlib.Core.Path.{◌≡◌, refl}
-use Prim.Native.Nat.{ℕ, ◌≤◌, ◌<◌}
+use Prim.Native.Nat.{ℕ, ◌≤◌}
 use native.Mathlib.Omega.{arith}
-use Rattle.base_prelude.specs.Choice.{if_lt, if_eq}
 use Rattle.base_prelude.proofs.Choice.{either, either-eq}
 use Rattle.lang_kinds.specs.Nesting.{rows_of}
 

@@ -1,17 +1,16 @@
 -- The ranges that the code tests say what the table of specs/Standing says.
 -- Assumes nothing.
-use mathlib.Core.Path.{◌≡◌, refl, sym, ◌∙◌, ap, subst}
+use mathlib.Core.Path.{◌≡◌, refl, sym, ◌∙◌, ap}
 use mathlib.Core.Bool.{Bool, true, false}
-use mathlib.Core.List.{List, [], ◌∷◌}
 use Prim.Native.Nat.{ℕ, ◌≤◌, ◌<◌}
 use native.Mathlib.Decide.{dec_lt}
 use native.Mathlib.Omega.{arith}
-use lib.Dec.{T, ltb, leb, eqb}
-use borrow.Author.Tests.{lt-ltb, le-ltb, ltb-true, ltb-false}
-use Rattle.base_prelude.specs.Choice.{pick, if_lt, if_eq}
+use lib.Dec.{T, ltb}
+use borrow.Author.Tests.{ltb-true}
+use Rattle.base_prelude.specs.Choice.{if_lt, if_eq}
 use Rattle.base_prelude.specs.Lists.{is_among}
-use Rattle.base_prelude.proofs.Choice.{either, either-eq, if_lt-yes, if_lt-no, if_eq-no, true-false}
-use Rattle.base_prelude.proofs.Table.{and, under, under_at, agree, agree-is, low, among-past}
+use Rattle.base_prelude.proofs.Choice.{either, if_lt-yes, if_lt-no, if_eq-no, true-false}
+use Rattle.base_prelude.proofs.Table.{under, under_at, agree, agree-is, low, among-past}
 use Rattle.lang_kinds.specs.Nesting.{statement_in, refused_in, stands_in}
 use Rattle.lang_kinds.specs.Standing.{Ground, BeforeSections, FunctionsSection, DataSection, Group, InFunction, InBlock, InTestArm, InElseArm, NoGround, ground_numbered, lines_on, stands_on}
 use Rattle.lang_kinds.specs.declared.Range.{Range}

@@ -1,7 +1,7 @@
 -- Where a line may stand, what it opens and closes.
 -- Assumes nothing.
 use Rattle.std.specs.Prelude.{ℕ, suc, List, [], ◌∷◌, get_or, Bool, true, false}
-use Rattle.base_prelude.specs.Choice.{if_lt, if_eq, if_true}
+use Rattle.base_prelude.specs.Choice.{if_lt, if_eq}
 use Rattle.lang_kinds.specs.Kinds as kind
 use Rattle.lang_kinds.specs.Grounds as ground
 use Rattle.lang_kinds.specs.declared.Range.{Range}

@@ -355,171 +355,110 @@ pub fn all_token_words() -> TokenRows
 fn between(lo: u32, hi: u32) -> Range
     ensures { result ≡ record { lo = lo; hi = hi } }
 {
-    Range { lo: lo, hi: hi }
+    Range { lo, hi }
 }
 
 // Ends, tests and other statements.
+#[tactic(auto, using(base_prelude::proofs::Choice::tests), unfolding(crate::specs::Nesting::statement_in))]
 fn statement_range(k: u32) -> Range
     ensures { result ≡ statement_in k }
 {
-    if k == Kind::FUNCTION {
-        return between(Ground::FUNCTIONS_SECTION, Ground::DATA_SECTION);
+    match k {
+        Kind::FUNCTION => between(Ground::FUNCTIONS_SECTION, Ground::DATA_SECTION),
+        Kind::END_FUNCTION => between(Ground::IN_FUNCTION, Ground::IN_BLOCK),
+        Kind::END_BLOCK => between(Ground::IN_BLOCK, Ground::IN_TEST_ARM),
+        Kind::LET => between(Ground::IN_FUNCTION, Ground::IN_TEST_ARM),
+        Kind::EDGE..=Kind::IFNE => between(Ground::IN_FUNCTION, Ground::PAST_GROUNDS),
+        Kind::ELSE | Kind::ELSE_IF => between(Ground::IN_TEST_ARM, Ground::IN_ELSE_ARM),
+        Kind::END_IF => between(Ground::IN_TEST_ARM, Ground::PAST_GROUNDS),
+        _ => between(Ground::BEFORE_SECTIONS, Ground::BEFORE_SECTIONS),
     }
-    if k == Kind::END_FUNCTION {
-        return between(Ground::IN_FUNCTION, Ground::IN_BLOCK);
-    }
-    if k == Kind::END_BLOCK {
-        return between(Ground::IN_BLOCK, Ground::IN_TEST_ARM);
-    }
-    if k == Kind::LET {
-        return between(Ground::IN_FUNCTION, Ground::IN_TEST_ARM);
-    }
-    if k < Kind::ELSE {
-        return between(Ground::IN_FUNCTION, Ground::PAST_GROUNDS);
-    }
-    if k < Kind::END_IF {
-        return between(Ground::IN_TEST_ARM, Ground::IN_ELSE_ARM);
-    }
-    if k == Kind::END_IF {
-        return between(Ground::IN_TEST_ARM, Ground::PAST_GROUNDS);
-    }
-    between(Ground::BEFORE_SECTIONS, Ground::BEFORE_SECTIONS)
 }
 
 // The grounds on which a kind may stand.
+#[tactic(auto, using(base_prelude::proofs::Choice::tests), unfolding(crate::specs::Nesting::stands_in))]
 pub fn stands_in(k: u32) -> Range
     ensures { result ≡ stands_in k }
 {
-    if k == Kind::EDGE {
-        return between(Ground::BEFORE_SECTIONS, Ground::GROUP);
+    match k {
+        Kind::EDGE => between(Ground::BEFORE_SECTIONS, Ground::GROUP),
+        Kind::FUNCTION..Kind::SECTION_DATA => statement_range(k),
+        Kind::SECTION_DATA | Kind::SECTION_FUNCTIONS => between(
+            Ground::BEFORE_SECTIONS,
+            Ground::GROUP,
+        ),
+        Kind::EXPORT => between(Ground::FUNCTIONS_SECTION, Ground::GROUP),
+        Kind::ALIGN => between(Ground::FUNCTIONS_SECTION, Ground::IN_FUNCTION),
+        Kind::BYTE..=Kind::STRING => between(Ground::DATA_SECTION, Ground::IN_FUNCTION),
+        Kind::GROUP => between(Ground::DATA_SECTION, Ground::GROUP),
+        Kind::END_GROUP => between(Ground::GROUP, Ground::IN_FUNCTION),
+        Kind::IMPORT_LINE => between(Ground::FUNCTIONS_SECTION, Ground::DATA_SECTION),
+        _ => refused_range(k),
     }
-    if k < Kind::SECTION_DATA {
-        return statement_range(k);
-    }
-    if k < Kind::EXPORT {
-        return between(Ground::BEFORE_SECTIONS, Ground::GROUP);
-    }
-    if k == Kind::EXPORT {
-        return between(Ground::FUNCTIONS_SECTION, Ground::GROUP);
-    }
-    if k == Kind::ALIGN {
-        return between(Ground::FUNCTIONS_SECTION, Ground::IN_FUNCTION);
-    }
-    if k < Kind::GROUP {
-        return between(Ground::DATA_SECTION, Ground::IN_FUNCTION);
-    }
-    if k == Kind::GROUP {
-        return between(Ground::DATA_SECTION, Ground::GROUP);
-    }
-    if k == Kind::END_GROUP {
-        return between(Ground::GROUP, Ground::IN_FUNCTION);
-    }
-    if k == Kind::IMPORT_LINE {
-        return between(Ground::FUNCTIONS_SECTION, Ground::DATA_SECTION);
-    }
-    refused_range(k)
 }
 
 // Lines that are refused wherever they stand; a number that is no kind stands nowhere.
+#[tactic(auto, using(base_prelude::proofs::Choice::tests), unfolding(crate::specs::Nesting::refused_in))]
 fn refused_range(k: u32) -> Range
     ensures { result ≡ refused_in k }
 {
-    if k == Kind::LEFT_OUT {
-        return between(Ground::BEFORE_SECTIONS, Ground::PAST_GROUNDS);
+    match k {
+        Kind::LEFT_OUT | Kind::UNKNOWN => between(Ground::BEFORE_SECTIONS, Ground::PAST_GROUNDS),
+        _ => between(Ground::BEFORE_SECTIONS, Ground::BEFORE_SECTIONS),
     }
-    if k == Kind::UNKNOWN {
-        return between(Ground::BEFORE_SECTIONS, Ground::PAST_GROUNDS);
-    }
-    between(Ground::BEFORE_SECTIONS, Ground::BEFORE_SECTIONS)
 }
 
 // How many rows a line makes.
+#[tactic(auto, using(base_prelude::proofs::Choice::tests), unfolding(crate::specs::Nesting::rows_of))]
 pub fn rows_of(k: u32) -> u32
     ensures { result ≡ rows_of k }
 {
-    if k == Kind::EDGE {
-        return 0;
+    match k {
+        Kind::EDGE => 0,
+        Kind::ELSE_IF => 2,
+        _ => u32::from(k < Kind::SECTION_DATA),
     }
-    if k == Kind::ELSE_IF {
-        return 2;
-    }
-    if k < Kind::SECTION_DATA {
-        return 1;
-    }
-    0
 }
 
 // Whether a row is open behind itself.
+#[tactic(auto, using(base_prelude::proofs::Choice::tests), unfolding(crate::specs::Nesting::enters))]
 pub fn is_opener(k: u32) -> bool
     ensures { result ≡ enters k }
 {
-    if k == Kind::FUNCTION {
-        return true;
-    }
-    if k == Kind::BLOCK {
-        return true;
-    }
-    if k < Kind::IFEQ {
-        return false;
-    }
-    if k < Kind::ELSE_IF {
-        return true;
-    }
-    false
+    matches!(k, Kind::FUNCTION | Kind::BLOCK | Kind::IFEQ..=Kind::ELSE)
 }
 
 // Whether a row closes what is open before it.
+#[tactic(auto, using(base_prelude::proofs::Choice::tests), unfolding(crate::specs::Nesting::leaves))]
 pub fn is_closer(k: u32) -> bool
     ensures { result ≡ leaves k }
 {
-    if k == Kind::END_FUNCTION {
-        return true;
-    }
-    if k == Kind::END_BLOCK {
-        return true;
-    }
-    if k < Kind::ELSE {
-        return false;
-    }
-    if k < Kind::PAST_ROWS {
-        return true;
-    }
-    false
+    matches!(
+        k,
+        Kind::END_FUNCTION | Kind::END_BLOCK | Kind::ELSE..=Kind::END_IF
+    )
 }
 
 // The ground behind an open row of a kind.
+#[tactic(auto, using(base_prelude::proofs::Choice::tests), unfolding(crate::specs::Nesting::ground_of))]
 pub fn ground_of(k: u32) -> u32
     ensures { result ≡ ground_of k }
 {
-    if k == Kind::FUNCTION {
-        return Ground::IN_FUNCTION;
+    match k {
+        Kind::FUNCTION => Ground::IN_FUNCTION,
+        Kind::BLOCK => Ground::IN_BLOCK,
+        Kind::IFEQ..=Kind::IFNE => Ground::IN_TEST_ARM,
+        Kind::ELSE => Ground::IN_ELSE_ARM,
+        _ => Ground::BEFORE_SECTIONS,
     }
-    if k == Kind::BLOCK {
-        return Ground::IN_BLOCK;
-    }
-    if k < Kind::IFEQ {
-        return Ground::BEFORE_SECTIONS;
-    }
-    if k < Kind::ELSE {
-        return Ground::IN_TEST_ARM;
-    }
-    if k == Kind::ELSE {
-        return Ground::IN_ELSE_ARM;
-    }
-    Ground::BEFORE_SECTIONS
 }
 
 // A function or a block.
+#[tactic(auto, using(base_prelude::proofs::Choice::tests), unfolding(crate::specs::Nesting::is_frame))]
 pub fn is_frame(k: u32) -> bool
     ensures { result ≡ is_frame k }
 {
-    if k == Kind::FUNCTION {
-        return true;
-    }
-    if k == Kind::BLOCK {
-        return true;
-    }
-    false
+    matches!(k, Kind::FUNCTION | Kind::BLOCK)
 }
 
 const WORD_KINDS: [u32; 33] = [
@@ -562,8 +501,8 @@ const WORD_KINDS: [u32; 33] = [
 pub fn kind_of_word(w: u32) -> u32
     ensures { result ≡ kind_of_word w }
 {
-    if w < 33 {
-        return WORD_KINDS[w as usize];
+    match WORD_KINDS.get(w as usize) {
+        Some(kind) => *kind,
+        None => Kind::UNKNOWN,
     }
-    Kind::UNKNOWN
 }

@@ -1,11 +1,13 @@
-use Rattle.lang_kinds.proofs.Cases.{kind-known, kind-none}
-use borrow.Author.Rules.{rules}
+use Rattle.std.proofs.Common.{arith}
+use Rattle.lang_kinds.specs.Nesting.{kind_of_word}
 use Rattle.lang_kinds.proofs.kind_of_word.Goals as goal
 
-pub returns-then-w-lt33 : goal.returns-then-w-lt33
-returns-then-w-lt33 c =
-    search (kind-known, rules)
+pub returns-in-Some : goal.returns-in-Some
+unfolding kind_of_word
+returns-in-Some c =
+    c.in-Some.ensures.lookup.3.1 35
 
-pub returns : goal.returns
-returns c =
-    search kind-none
+pub returns-in-None : goal.returns-in-None
+unfolding kind_of_word
+returns-in-None c =
+    c.in-None.ensures.lookup.4 (omega arith) 35
