@@ -98,10 +98,10 @@ impl Machine {
     {
         Machine {
             state: State::Running,
-            next: next,
+            next,
             frame: 0,
             used: size,
-            top: top,
+            top,
         }
     }
 
@@ -109,27 +109,19 @@ impl Machine {
     pub fn going_on(r: Machine, n: u32, top: u32) -> Machine
         ensures { result ≡ going_on r n top }
     {
-        let state = r.state;
-        Machine {
-            state: state,
-            next: n,
-            frame: r.frame,
-            used: r.used,
-            top: top,
-        }
+        Machine { next: n, top, ..r }
     }
 
     // In another frame.
     pub fn moved(r: Machine, n: u32, frame: u32, used: u32, top: u32) -> Machine
         ensures { result ≡ moved_to r n frame used top }
     {
-        let state = r.state;
         Machine {
-            state: state,
             next: n,
-            frame: frame,
-            used: used,
-            top: top,
+            frame,
+            used,
+            top,
+            ..r
         }
     }
 
@@ -142,7 +134,7 @@ impl Machine {
             next: Machine::MARK,
             frame: Machine::MARK,
             used: 0,
-            top: top,
+            top,
         }
     }
 
@@ -155,10 +147,7 @@ impl Machine {
                 number: k,
                 statement: r.next,
             },
-            next: r.next,
-            frame: r.frame,
-            used: r.used,
-            top: r.top,
+            ..r
         }
     }
 
@@ -166,13 +155,7 @@ impl Machine {
     pub fn with_state(s: State, r: Machine) -> Machine
         ensures { result ≡ with_state s r }
     {
-        Machine {
-            state: s,
-            next: r.next,
-            frame: r.frame,
-            used: r.used,
-            top: r.top,
-        }
+        Machine { state: s, ..r }
     }
 
     // Read back from its parts.
@@ -181,10 +164,10 @@ impl Machine {
     {
         Machine {
             state: s,
-            next: next,
-            frame: frame,
-            used: used,
-            top: top,
+            next,
+            frame,
+            used,
+            top,
         }
     }
 }
