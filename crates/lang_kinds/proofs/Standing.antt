@@ -13,11 +13,11 @@ use Rattle.base_prelude.proofs.Choice.{either, if_lt-yes, if_lt-no, if_eq-no, tr
 use Rattle.base_prelude.proofs.Table.{under, under_at, agree, agree-is, low, among-past}
 use Rattle.lang_kinds.specs.Nesting.{statement_in, refused_in, stands_in}
 use Rattle.lang_kinds.specs.Standing.{Ground, BeforeSections, FunctionsSection, DataSection, Group, InFunction, InBlock, InTestArm, InElseArm, NoGround, ground_numbered, lines_on, stands_on}
-use Rattle.lang_kinds.specs.declared.Range.{Range}
+use Rattle.std.specs.declared.ops.Range.{Range}
 
 -- a ground is in a range
-abbrev pub in_range : ℕ → Range → Bool
-in_range g r = if_lt g r.lo false (if_lt g r.hi true false)
+abbrev pub in_range : ℕ → Range ℕ → Bool
+in_range g r = if_lt g r.start false (if_lt g r.end true false)
 
 -- every kind on every ground, computed
 kinds_agree : ℕ → ℕ → Bool
@@ -51,7 +51,7 @@ true-is true t = refl
 true-is false t = absurd t
 
 hi_fits : ℕ → Bool
-hi_fits k = ltb (stands_in k).hi 9
+hi_fits k = ltb (stands_in k).end 9
 
 hi-fit : T (under hi_fits 37)
 unfolding hi_fits stands_in statement_in refused_in if_lt if_eq
@@ -60,8 +60,8 @@ hi-fit = tt
 low-high : (g k : ℕ) → 8 ≤ g → k < 37 → in_range g (stands_in k) ≡ false
 unfolding hi_fits
 low-high g k h l =
-    let z : (stands_in k).hi < 9 = ltb-true _ 9 (true-is (ltb (stands_in k).hi 9) (under_at hi_fits 37 k hi-fit l)) in
-    either (λ (b : Bool). b ≡ false) g (stands_in k).lo _ _ (λ _. refl) (λ _. if_lt-no true false (omega arith))
+    let z : (stands_in k).end < 9 = ltb-true _ 9 (true-is (ltb (stands_in k).end 9) (under_at hi_fits 37 k hi-fit l)) in
+    either (λ (b : Bool). b ≡ false) g (stands_in k).start _ _ (λ _. refl) (λ _. if_lt-no true false (omega arith))
 
 past-kinds : (g k : ℕ) → 37 ≤ k → in_range g (stands_in k) ≡ false
 unfolding stands_in refused_in
@@ -72,7 +72,7 @@ past-kinds g k h =
     ∙ if_eq-no _ _ (λ e. omega arith) ∙ if_eq-no _ _ (λ e. omega arith) ∙ if_eq-no _ _ (λ e. omega arith))
     ∙ empty g
   where
-    empty : (g : ℕ) → in_range g (record { lo = 0; hi = 0 }) ≡ false
+    empty : (g : ℕ) → in_range g (record { start = 0; end = 0 }) ≡ false
     empty g = if_lt-no _ _ (omega arith) ∙ if_lt-no _ _ (omega arith)
 
 past-ground : (g k : ℕ) → 8 ≤ g → is_among k (lines_on (ground_numbered g)) ≡ false
@@ -93,19 +93,19 @@ ranges-say g k =
     ]
 
 -- the two directions
-pub stands-range : (g k : ℕ) → stands_on g k ≡ true → ((stands_in k).lo ≤ g) × (g < (stands_in k).hi)
+pub stands-range : (g k : ℕ) → stands_on g k ≡ true → ((stands_in k).start ≤ g) × (g < (stands_in k).end)
 stands-range g k e = by (sym (ranges-say g k) ∙ e)
   where
-    by : in_range g (stands_in k) ≡ true → ((stands_in k).lo ≤ g) × (g < (stands_in k).hi)
+    by : in_range g (stands_in k) ≡ true → ((stands_in k).start ≤ g) × (g < (stands_in k).end)
     by =
-        either (λ (b : Bool). b ≡ true → ((stands_in k).lo ≤ g) × (g < (stands_in k).hi)) g (stands_in k).lo _ _ (λ _ q. true-false (sym q))
-        (λ a. either (λ (b : Bool). b ≡ true → ((stands_in k).lo ≤ g) × (g < (stands_in k).hi)) g (stands_in k).hi _ _ (λ b _. (a, b)) (λ _ q. true-false (sym q)))
+        either (λ (b : Bool). b ≡ true → ((stands_in k).start ≤ g) × (g < (stands_in k).end)) g (stands_in k).start _ _ (λ _ q. true-false (sym q))
+        (λ a. either (λ (b : Bool). b ≡ true → ((stands_in k).start ≤ g) × (g < (stands_in k).end)) g (stands_in k).end _ _ (λ b _. (a, b)) (λ _ q. true-false (sym q)))
 
-pub range-stands : (g k : ℕ) → (stands_in k).lo ≤ g → g < (stands_in k).hi → stands_on g k ≡ true
+pub range-stands : (g k : ℕ) → (stands_in k).start ≤ g → g < (stands_in k).end → stands_on g k ≡ true
 range-stands g k a b = ranges-say g k ∙ if_lt-no _ _ a ∙ if_lt-yes _ _ b
 
-pub below-stands : (g k : ℕ) → g < (stands_in k).lo → stands_on g k ≡ false
+pub below-stands : (g k : ℕ) → g < (stands_in k).start → stands_on g k ≡ false
 below-stands g k a = ranges-say g k ∙ if_lt-yes _ _ a
 
-pub past-stands : (g k : ℕ) → (stands_in k).lo ≤ g → (stands_in k).hi ≤ g → stands_on g k ≡ false
+pub past-stands : (g k : ℕ) → (stands_in k).start ≤ g → (stands_in k).end ≤ g → stands_on g k ≡ false
 past-stands g k a b = ranges-say g k ∙ if_lt-no _ _ a ∙ if_lt-no _ _ b

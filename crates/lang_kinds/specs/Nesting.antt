@@ -4,22 +4,22 @@ use Rattle.std.specs.Prelude.{ℕ, suc, List, [], ◌∷◌, get_or, Bool, true,
 use Rattle.base_prelude.specs.Choice.{if_lt, if_eq}
 use Rattle.lang_kinds.specs.Kinds as kind
 use Rattle.lang_kinds.specs.Grounds as ground
-use Rattle.lang_kinds.specs.declared.Range.{Range}
+use Rattle.std.specs.declared.ops.Range.{Range}
 
 -- the grounds from one to another
-abbrev pub span : ℕ → ℕ → Range
-span first last = record { lo = first; hi = suc last }
+abbrev pub span : ℕ → ℕ → Range ℕ
+span first last = record { start = first; end = suc last }
 
-abbrev pub only : ℕ → Range
+abbrev pub only : ℕ → Range ℕ
 only g = span g g
 
 -- no ground
-abbrev pub nowhere : Range
-nowhere = record { lo = ground.before_sections; hi = ground.before_sections }
+abbrev pub nowhere : Range ℕ
+nowhere = record { start = ground.before_sections; end = ground.before_sections }
 
 -- The grounds on which a kind may stand, as the code tests them: of a statement, then of any line. They are what the table of
 -- specs/Standing says (proofs/Standing, `ranges-say`).
-unfoldable pub statement_in : ℕ → Range
+unfoldable pub statement_in : ℕ → Range ℕ
 statement_in k =
     if_eq k kind.function (only ground.functions_section)
     (if_eq k kind.end_function (only ground.in_function)
@@ -31,13 +31,13 @@ statement_in k =
     nowhere))))))
 
 -- lines that other rules refuse wherever they stand; a number that is no kind stands nowhere
-unfoldable pub refused_in : ℕ → Range
+unfoldable pub refused_in : ℕ → Range ℕ
 refused_in k =
     if_eq k kind.left_out (span ground.before_sections ground.in_else_arm)
     (if_eq k kind.unknown (span ground.before_sections ground.in_else_arm)
     nowhere)
 
-unfoldable pub stands_in : ℕ → Range
+unfoldable pub stands_in : ℕ → Range ℕ
 stands_in k =
     if_eq k kind.edge (span ground.before_sections ground.data_section)
     (if_lt k kind.section_data (statement_in k)

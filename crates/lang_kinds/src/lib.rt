@@ -8,12 +8,7 @@ ghost use Rattle.lang_kinds.specs.Tokens.{tokens_of};
 ghost use Rattle.lang_kinds.specs.TokenRow.{token_row_of};
 ghost use Rattle.lang_kinds.specs.Nesting.{statement_in, refused_in, stands_in, rows_of, enters, leaves, ground_of, is_frame, kind_of_word};
 
-// Grounds from lo to before hi.
-#[derive(Drop)]
-pub struct Range {
-    pub lo: u32,
-    pub hi: u32,
-}
+use std::ops::Range;
 
 // The kinds of lines and statements.
 #[derive(Drop)]
@@ -351,60 +346,50 @@ pub fn all_token_words() -> TokenRows
     }
 }
 
-// The grounds from lo to before hi.
-fn between(lo: u32, hi: u32) -> Range
-    ensures { result ≡ record { lo = lo; hi = hi } }
-{
-    Range { lo, hi }
-}
-
 // Ends, tests and other statements.
 #[tactic(auto, using(base_prelude::proofs::Choice::tests), unfolding(crate::specs::Nesting::statement_in))]
-fn statement_range(k: u32) -> Range
+fn statement_range(k: u32) -> Range<u32>
     ensures { result ≡ statement_in k }
 {
     match k {
-        Kind::FUNCTION => between(Ground::FUNCTIONS_SECTION, Ground::DATA_SECTION),
-        Kind::END_FUNCTION => between(Ground::IN_FUNCTION, Ground::IN_BLOCK),
-        Kind::END_BLOCK => between(Ground::IN_BLOCK, Ground::IN_TEST_ARM),
-        Kind::LET => between(Ground::IN_FUNCTION, Ground::IN_TEST_ARM),
-        Kind::EDGE..=Kind::IFNE => between(Ground::IN_FUNCTION, Ground::PAST_GROUNDS),
-        Kind::ELSE | Kind::ELSE_IF => between(Ground::IN_TEST_ARM, Ground::IN_ELSE_ARM),
-        Kind::END_IF => between(Ground::IN_TEST_ARM, Ground::PAST_GROUNDS),
-        _ => between(Ground::BEFORE_SECTIONS, Ground::BEFORE_SECTIONS),
+        Kind::FUNCTION => Ground::FUNCTIONS_SECTION..Ground::DATA_SECTION,
+        Kind::END_FUNCTION => Ground::IN_FUNCTION..Ground::IN_BLOCK,
+        Kind::END_BLOCK => Ground::IN_BLOCK..Ground::IN_TEST_ARM,
+        Kind::LET => Ground::IN_FUNCTION..Ground::IN_TEST_ARM,
+        Kind::EDGE..=Kind::IFNE => Ground::IN_FUNCTION..Ground::PAST_GROUNDS,
+        Kind::ELSE | Kind::ELSE_IF => Ground::IN_TEST_ARM..Ground::IN_ELSE_ARM,
+        Kind::END_IF => Ground::IN_TEST_ARM..Ground::PAST_GROUNDS,
+        _ => Ground::BEFORE_SECTIONS..Ground::BEFORE_SECTIONS,
     }
 }
 
 // The grounds on which a kind may stand.
 #[tactic(auto, using(base_prelude::proofs::Choice::tests), unfolding(crate::specs::Nesting::stands_in))]
-pub fn stands_in(k: u32) -> Range
+pub fn stands_in(k: u32) -> Range<u32>
     ensures { result ≡ stands_in k }
 {
     match k {
-        Kind::EDGE => between(Ground::BEFORE_SECTIONS, Ground::GROUP),
+        Kind::EDGE => Ground::BEFORE_SECTIONS..Ground::GROUP,
         Kind::FUNCTION..Kind::SECTION_DATA => statement_range(k),
-        Kind::SECTION_DATA | Kind::SECTION_FUNCTIONS => between(
-            Ground::BEFORE_SECTIONS,
-            Ground::GROUP,
-        ),
-        Kind::EXPORT => between(Ground::FUNCTIONS_SECTION, Ground::GROUP),
-        Kind::ALIGN => between(Ground::FUNCTIONS_SECTION, Ground::IN_FUNCTION),
-        Kind::BYTE..=Kind::STRING => between(Ground::DATA_SECTION, Ground::IN_FUNCTION),
-        Kind::GROUP => between(Ground::DATA_SECTION, Ground::GROUP),
-        Kind::END_GROUP => between(Ground::GROUP, Ground::IN_FUNCTION),
-        Kind::IMPORT_LINE => between(Ground::FUNCTIONS_SECTION, Ground::DATA_SECTION),
+        Kind::SECTION_DATA | Kind::SECTION_FUNCTIONS => Ground::BEFORE_SECTIONS..Ground::GROUP,
+        Kind::EXPORT => Ground::FUNCTIONS_SECTION..Ground::GROUP,
+        Kind::ALIGN => Ground::FUNCTIONS_SECTION..Ground::IN_FUNCTION,
+        Kind::BYTE..=Kind::STRING => Ground::DATA_SECTION..Ground::IN_FUNCTION,
+        Kind::GROUP => Ground::DATA_SECTION..Ground::GROUP,
+        Kind::END_GROUP => Ground::GROUP..Ground::IN_FUNCTION,
+        Kind::IMPORT_LINE => Ground::FUNCTIONS_SECTION..Ground::DATA_SECTION,
         _ => refused_range(k),
     }
 }
 
 // Lines that are refused wherever they stand; a number that is no kind stands nowhere.
 #[tactic(auto, using(base_prelude::proofs::Choice::tests), unfolding(crate::specs::Nesting::refused_in))]
-fn refused_range(k: u32) -> Range
+fn refused_range(k: u32) -> Range<u32>
     ensures { result ≡ refused_in k }
 {
     match k {
-        Kind::LEFT_OUT | Kind::UNKNOWN => between(Ground::BEFORE_SECTIONS, Ground::PAST_GROUNDS),
-        _ => between(Ground::BEFORE_SECTIONS, Ground::BEFORE_SECTIONS),
+        Kind::LEFT_OUT | Kind::UNKNOWN => Ground::BEFORE_SECTIONS..Ground::PAST_GROUNDS,
+        _ => Ground::BEFORE_SECTIONS..Ground::BEFORE_SECTIONS,
     }
 }
 

@@ -12,7 +12,7 @@ use Rattle.base_prelude.specs.Choice.{if_lt, if_eq, if_true}
 use Rattle.base_prelude.specs.Fault.{none, least_of}
 use Rattle.base_prelude.proofs.Choice.{tests, if_true-yes, if_true-no, if_eq-yes, if_eq-no}
 use Rattle.lang_kinds.specs.Nesting.{stands_in, rows_of, enters, leaves, ground_of, is_frame}
-use Rattle.lang_kinds.specs.declared.Range.{Range}
+use Rattle.std.specs.declared.ops.Range.{Range}
 use Rattle.lang_kinds.proofs.Standing.{range-stands, below-stands, past-stands}
 use Rattle.parse_lines.specs.Tokens.{token_word, key_at}
 use Rattle.parse_shapes.specs.Shapes.{is_name, operand_count}
@@ -99,22 +99,22 @@ module _ (t : List ℕ) (n : ℕ) (u : Span) where
       unfolding label_rule
       label-bad r i j = rw (← p, ← q, ← f, ← h, ← j) (search tests)
 
-  module _ (k g : ℕ) (x : Range) (p : x ≡ stands_in k) where
-    low-is : x.lo ≡ (stands_in k).lo
-    low-is = ap (λ (y : Range). y.lo) p
+  module _ (k g : ℕ) (x : Range ℕ) (p : x ≡ stands_in k) where
+    low-is : x.start ≡ (stands_in k).start
+    low-is = ap (λ (y : Range ℕ). y.start) p
 
-    high_is : x.hi ≡ (stands_in k).hi
-    high_is = ap (λ (y : Range). y.hi) p
+    high_is : x.end ≡ (stands_in k).end
+    high_is = ap (λ (y : Range ℕ). y.end) p
 
-    pub place-low : (r : ℕ) → g < x.lo → r ≡ key_at t n u.word 8 → r ≡ place_rule t n u k g
+    pub place-low : (r : ℕ) → g < x.start → r ≡ key_at t n u.word 8 → r ≡ place_rule t n u k g
     unfolding place_rule
     place-low r h q = q ∙ sym (if_true-no _ _ (below-stands g k (omega (arith, low-is))))
 
-    pub place-good : x.lo ≤ g → g < x.hi → none ≡ place_rule t n u k g
+    pub place-good : x.start ≤ g → g < x.end → none ≡ place_rule t n u k g
     unfolding place_rule
     place-good h i = sym (if_true-yes _ _ (range-stands g k (omega (arith, low-is)) (omega (arith, high_is))))
 
-    pub place-high : (r : ℕ) → x.lo ≤ g → x.hi ≤ g → r ≡ key_at t n u.word 8 → r ≡ place_rule t n u k g
+    pub place-high : (r : ℕ) → x.start ≤ g → x.end ≤ g → r ≡ key_at t n u.word 8 → r ≡ place_rule t n u k g
     unfolding place_rule
     place-high r h i q = q ∙ sym (if_true-no _ _ (past-stands g k (omega (arith, low-is)) (omega (arith, high_is))))
 

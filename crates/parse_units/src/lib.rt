@@ -315,14 +315,11 @@ fn label_rule(t: &[u32], n: u32, u: Span, g: u32) -> u64
 fn place_rule(t: &[u32], n: u32, u: Span, k: u32, g: u32) -> u64
     ensures { result ≡ place_rule t.now n u k g }
 {
-    let x = lang_kinds::stands_in(k);
-    if g < x.lo {
-        return parse_lines::key_at(t, n, u.word, 8);
+    if lang_kinds::stands_in(k).contains(&g) {
+        1099511627776
+    } else {
+        parse_lines::key_at(t, n, u.word, 8)
     }
-    if g < x.hi {
-        return 1099511627776;
-    }
-    parse_lines::key_at(t, n, u.word, 8)
 }
 
 // The labels that a line itself is: one for an import of a name that the host lists.

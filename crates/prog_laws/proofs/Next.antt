@@ -29,12 +29,12 @@ use Rattle.prog_tables.proofs.Sound.{ok, shut, row-held}
 
 abbrev kind_facts : ℕ → List Bool
 kind_facts k =
-    given (leaves k) (given (not (eqb k 2)) (leb 5 (stands_in k).lo))
+    given (leaves k) (given (not (eqb k 2)) (leb 5 (stands_in k).start))
     ∷ given (leb 5 (ground_of k)) (both (not (eqb k 1)) (both (not (eqb k 2)) (not (eqb k 4))))
     ∷ given (not (enters k)) (not (eqb k 1))
-    ∷ given (leaves k) (given (both (not (eqb k 2)) (not (eqb k 4))) (leb 6 (stands_in k).lo))
+    ∷ given (leaves k) (given (both (not (eqb k 2)) (not (eqb k 4))) (leb 6 (stands_in k).start))
     ∷ given (leb 6 (ground_of k)) (not (is_frame k))
-    ∷ given (eqb k 4) (both (eqb (stands_in k).lo 5) (both (eqb (stands_in k).hi 6) (both (leaves k) (not (enters k)))))
+    ∷ given (eqb k 4) (both (eqb (stands_in k).start 5) (both (eqb (stands_in k).end 6) (both (leaves k) (not (enters k)))))
     ∷ given (eqb (ground_of k) 5) (eqb k 3)
     ∷ given (eqb k 3) (both (enters k) (is_frame k))
     ∷ given (eqb k 1) (both (enters k) (is_frame k))
@@ -90,7 +90,7 @@ module _ (f : ℕ → Row) (c : ℕ) (ok : (n : ℕ) → n < c → stands f n �
   open-low : (n : ℕ) → n < c → ((f n).kind ≡ 1 → ⊥) → open_before f n - 1 < n
   open-low n h q = omega (arith, open-some f c ok n h q, (small f c ok n (omega arith)).open-low)
 
-  open-ground : (n : ℕ) → n < c → ((f n).kind ≡ 1 → ⊥) → (stands_in (f n).kind).lo ≤ ground_of (f (open_before f n - 1)).kind
+  open-ground : (n : ℕ) → n < c → ((f n).kind ≡ 1 → ⊥) → (stands_in (f n).kind).start ≤ ground_of (f (open_before f n - 1)).kind
   open-ground n h q = omega (arith, ground-low f c ok n h, ground-some f c ok (open_before f n) (open-some f c ok n h q))
 
   record Inner (m : ℕ) : Type 0 where
@@ -109,18 +109,18 @@ module _ (f : ℕ → Row) (c : ℕ) (ok : (n : ℕ) → n < c → stands f n �
         no-end-block = not-eq (f m).kind 4 (both_right (not (eqb (f m).kind 2)) (not (eqb (f m).kind 4)) d);
       }
 
-  leaver-ground : (n : ℕ) → n < c → leaves (f n).kind ≡ true → ((f n).kind ≡ 2 → ⊥) → 5 ≤ (stands_in (f n).kind).lo
+  leaver-ground : (n : ℕ) → n < c → leaves (f n).kind ≡ true → ((f n).kind ≡ 2 → ⊥) → 5 ≤ (stands_in (f n).kind).start
   leaver-ground n h e q =
       leb-true _ _
-      (given-then (not (eqb (f n).kind 2)) (leb 5 (stands_in (f n).kind).lo)
-      (given-then (leaves (f n).kind) (given (not (eqb (f n).kind 2)) (leb 5 (stands_in (f n).kind).lo)) (fact n 0 h (omega arith)) e)
+      (given-then (not (eqb (f n).kind 2)) (leb 5 (stands_in (f n).kind).start)
+      (given-then (leaves (f n).kind) (given (not (eqb (f n).kind 2)) (leb 5 (stands_in (f n).kind).start)) (fact n 0 h (omega arith)) e)
       (ap not (ne_eqb _ _ q)))
 
-  arm-ground : (n : ℕ) → n < c → leaves (f n).kind ≡ true → ((f n).kind ≡ 2 → ⊥) → ((f n).kind ≡ 4 → ⊥) → 6 ≤ (stands_in (f n).kind).lo
+  arm-ground : (n : ℕ) → n < c → leaves (f n).kind ≡ true → ((f n).kind ≡ 2 → ⊥) → ((f n).kind ≡ 4 → ⊥) → 6 ≤ (stands_in (f n).kind).start
   arm-ground n h e q r =
       leb-true _ _
-      (given-then (both (not (eqb (f n).kind 2)) (not (eqb (f n).kind 4))) (leb 6 (stands_in (f n).kind).lo)
-      (given-then (leaves (f n).kind) (given (both (not (eqb (f n).kind 2)) (not (eqb (f n).kind 4))) (leb 6 (stands_in (f n).kind).lo)) (fact n 3 h (omega arith)) e)
+      (given-then (both (not (eqb (f n).kind 2)) (not (eqb (f n).kind 4))) (leb 6 (stands_in (f n).kind).start)
+      (given-then (leaves (f n).kind) (given (both (not (eqb (f n).kind 2)) (not (eqb (f n).kind 4))) (leb 6 (stands_in (f n).kind).start)) (fact n 3 h (omega arith)) e)
       (both_true (not (eqb (f n).kind 2)) (not (eqb (f n).kind 4)) (ap not (ne_eqb _ _ q)) (ap not (ne_eqb _ _ r))))
 
   arm-outer : (m : ℕ) → m < c → 6 ≤ ground_of (f m).kind → is_frame (f m).kind ≡ false
@@ -208,22 +208,22 @@ module _ (f : ℕ → Row) (c : ℕ) (ok : (n : ℕ) → n < c → stands f n �
     no-function : (f n).kind ≡ 1 → ⊥
     no-function d = omega arith
 
-    ends : both (eqb (stands_in (f n).kind).lo 5) (both (eqb (stands_in (f n).kind).hi 6) (both (leaves (f n).kind) (not (enters (f n).kind)))) ≡ true
-    ends = given-then (eqb (f n).kind 4) (both (eqb (stands_in (f n).kind).lo 5) (both (eqb (stands_in (f n).kind).hi 6) (both (leaves (f n).kind) (not (enters (f n).kind))))) (fact n 5 h (omega arith)) (eq-eqb _ _ e)
+    ends : both (eqb (stands_in (f n).kind).start 5) (both (eqb (stands_in (f n).kind).end 6) (both (leaves (f n).kind) (not (enters (f n).kind)))) ≡ true
+    ends = given-then (eqb (f n).kind 4) (both (eqb (stands_in (f n).kind).start 5) (both (eqb (stands_in (f n).kind).end 6) (both (leaves (f n).kind) (not (enters (f n).kind))))) (fact n 5 h (omega arith)) (eq-eqb _ _ e)
 
-    ends_more : both (eqb (stands_in (f n).kind).hi 6) (both (leaves (f n).kind) (not (enters (f n).kind))) ≡ true
-    ends_more = both_right (eqb (stands_in (f n).kind).lo 5) (both (eqb (stands_in (f n).kind).hi 6) (both (leaves (f n).kind) (not (enters (f n).kind)))) ends
+    ends_more : both (eqb (stands_in (f n).kind).end 6) (both (leaves (f n).kind) (not (enters (f n).kind))) ≡ true
+    ends_more = both_right (eqb (stands_in (f n).kind).start 5) (both (eqb (stands_in (f n).kind).end 6) (both (leaves (f n).kind) (not (enters (f n).kind)))) ends
 
     ends_last : both (leaves (f n).kind) (not (enters (f n).kind)) ≡ true
-    ends_last = both_right (eqb (stands_in (f n).kind).hi 6) (both (leaves (f n).kind) (not (enters (f n).kind))) ends_more
+    ends_last = both_right (eqb (stands_in (f n).kind).end 6) (both (leaves (f n).kind) (not (enters (f n).kind))) ends_more
 
     ended-low : open_before f n - 1 < c
     ended-low = omega (arith, open-low n h no-function)
 
     ended : (f (open_before f n - 1)).kind ≡ 3
     ended =
-        let lo : (stands_in (f n).kind).lo ≡ 5 = eqb-true _ _ (both_left (eqb (stands_in (f n).kind).lo 5) (both (eqb (stands_in (f n).kind).hi 6) (both (leaves (f n).kind) (not (enters (f n).kind)))) ends) in
-        let hi : (stands_in (f n).kind).hi ≡ 6 = eqb-true _ _ (both_left (eqb (stands_in (f n).kind).hi 6) (both (leaves (f n).kind) (not (enters (f n).kind))) ends_more) in
+        let lo : (stands_in (f n).kind).start ≡ 5 = eqb-true _ _ (both_left (eqb (stands_in (f n).kind).start 5) (both (eqb (stands_in (f n).kind).end 6) (both (leaves (f n).kind) (not (enters (f n).kind)))) ends) in
+        let hi : (stands_in (f n).kind).end ≡ 6 = eqb-true _ _ (both_left (eqb (stands_in (f n).kind).end 6) (both (leaves (f n).kind) (not (enters (f n).kind))) ends_more) in
         let g : ground_of (f (open_before f n - 1)).kind ≡ 5 = omega (arith, lo, hi, ground-low f c ok n h, ground-high f c ok n h, ground-some f c ok (open_before f n) (open-some f c ok n h no-function)) in
         eqb-true _ _ (given-then (eqb (ground_of (f (open_before f n - 1)).kind) 5) (eqb (f (open_before f n - 1)).kind 3) (fact (open_before f n - 1) 6 ended-low (omega arith)) (eq-eqb _ _ g))
 

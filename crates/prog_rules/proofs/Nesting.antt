@@ -9,7 +9,7 @@ use lib.Dec.{eqb, ltb}
 use borrow.Author.Tests.{eq-eqb, ne_eqb, le-leb, lt-leb}
 use Rattle.base_prelude.specs.Choice.{if_true, if_eq}
 use Rattle.lang_kinds.specs.Nesting.{stands_in, enters, leaves, ground_of, is_frame}
-use Rattle.lang_kinds.specs.declared.Range.{Range}
+use Rattle.std.specs.declared.ops.Range.{Range}
 use Rattle.prog_tables.specs.Tests.{both, given, all, all_below}
 use Rattle.prog_tables.specs.Statement.{Row, row_at, is_test}
 use Rattle.prog_tables.specs.Nesting.{behind, open_before, ground_in, func_in, scope_in, up_in, is_listed, may_stand, follows_jump, stands, all_closed}
@@ -56,18 +56,18 @@ module _ (f : ℕ → Row) (o : ℕ) where
 
 pub ruleset grounds = (ground-none, ground-kind)
 
-module _ (k g : ℕ) (x : Range) (e : x ≡ stands_in k) where
-  low-is : x.lo ≡ (stands_in k).lo
-  low-is = ap (λ (y : Range). y.lo) e
+module _ (k g : ℕ) (x : Range ℕ) (e : x ≡ stands_in k) where
+  low-is : x.start ≡ (stands_in k).start
+  low-is = ap (λ (y : Range ℕ). y.start) e
 
-  high_is : x.hi ≡ (stands_in k).hi
-  high_is = ap (λ (y : Range). y.hi) e
+  high_is : x.end ≡ (stands_in k).end
+  high_is = ap (λ (y : Range ℕ). y.end) e
 
-  pub may-low : g < x.lo → false ≡ may_stand k g
+  pub may-low : g < x.start → false ≡ may_stand k g
   unfolding may_stand
   may-low h = rw (← low-is, lt-leb _ _ h)
 
-  pub may-high : x.lo ≤ g → ltb g x.hi ≡ may_stand k g
+  pub may-high : x.start ≤ g → ltb g x.end ≡ may_stand k g
   unfolding may_stand
   may-high h = rw (← low-is, ← high_is, le-leb _ _ h)
 

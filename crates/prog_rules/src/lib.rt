@@ -59,11 +59,7 @@ fn ground_in(t: &[u32], o: u32) -> u32
 fn may_stand(k: u32, g: u32) -> bool
     ensures { result ≡ may_stand k g }
 {
-    let x = lang_kinds::stands_in(k);
-    if g < x.lo {
-        return false;
-    }
-    g < x.hi
+    lang_kinds::stands_in(k).contains(&g)
 }
 
 // Whether a row stands behind an else-if jump.

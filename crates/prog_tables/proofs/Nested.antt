@@ -45,7 +45,7 @@ standing f n h =
 
 abbrev pub kind_facts : ℕ → List Bool
 kind_facts k =
-    given (not (eqb k 1)) (leb 4 (stands_in k).lo)
+    given (not (eqb k 1)) (leb 4 (stands_in k).start)
     ∷ given (leaves k) (not (eqb k 1))
     ∷ given (both (leaves k) (may_stand k 6)) (both (leb 20 k) (leb k 22))
     ∷ given (both (leaves k) (may_stand k 7)) (eqb k 22)
@@ -53,11 +53,11 @@ kind_facts k =
     ∷ given (eqb k 20) (both (enters k) (both (leaves k) (eqb (ground_of k) 7)))
     ∷ given (eqb k 21) (both (not (enters k)) (leaves k))
     ∷ given (enters k) (leb 4 (ground_of k))
-    ∷ given (eqb k 1) (both (eqb (stands_in k).lo 1) (eqb (stands_in k).hi 2))
+    ∷ given (eqb k 1) (both (eqb (stands_in k).start 1) (eqb (stands_in k).end 2))
     ∷ not (eqb (ground_of k) 1)
     ∷ given (eqb (ground_of k) 6) (is_test k)
-    ∷ given (eqb k 21) (both (eqb (stands_in k).lo 6) (eqb (stands_in k).hi 7))
-    ∷ given (eqb k 4) (both (eqb (stands_in k).lo 5) (eqb (stands_in k).hi 6))
+    ∷ given (eqb k 21) (both (eqb (stands_in k).start 6) (eqb (stands_in k).end 7))
+    ∷ given (eqb k 4) (both (eqb (stands_in k).start 5) (eqb (stands_in k).end 6))
     ∷ given (eqb (ground_of k) 5) (eqb k 3)
     ∷ []
 
@@ -94,13 +94,13 @@ module _ (f : ℕ → Row) (c : ℕ) (ok : (n : ℕ) → n < c → stands f n �
   pub fact : (n j : ℕ) → n < c → j < 14 → get_or (kind_facts (f n).kind) j true ≡ true
   fact n j h l = kind-fact (f n).kind j (here n h).listed l
 
-  pub ground-low : (n : ℕ) → n < c → (stands_in (f n).kind).lo ≤ ground_in f (open_before f n)
+  pub ground-low : (n : ℕ) → n < c → (stands_in (f n).kind).start ≤ ground_in f (open_before f n)
   unfolding may_stand
-  ground-low n h = leb-true _ _ (both_left (leb (stands_in (f n).kind).lo (ground_in f (open_before f n))) (ltb (ground_in f (open_before f n)) (stands_in (f n).kind).hi) (here n h).ground)
+  ground-low n h = leb-true _ _ (both_left (leb (stands_in (f n).kind).start (ground_in f (open_before f n))) (ltb (ground_in f (open_before f n)) (stands_in (f n).kind).end) (here n h).ground)
 
-  pub ground-high : (n : ℕ) → n < c → ground_in f (open_before f n) < (stands_in (f n).kind).hi
+  pub ground-high : (n : ℕ) → n < c → ground_in f (open_before f n) < (stands_in (f n).kind).end
   unfolding may_stand
-  ground-high n h = ltb-true _ _ (both_right (leb (stands_in (f n).kind).lo (ground_in f (open_before f n))) (ltb (ground_in f (open_before f n)) (stands_in (f n).kind).hi) (here n h).ground)
+  ground-high n h = ltb-true _ _ (both_right (leb (stands_in (f n).kind).start (ground_in f (open_before f n))) (ltb (ground_in f (open_before f n)) (stands_in (f n).kind).end) (here n h).ground)
 
   ground-none : (o : ℕ) → o ≡ 0 → ground_in f o ≡ 1
   unfolding ground_in
@@ -113,7 +113,7 @@ module _ (f : ℕ → Row) (c : ℕ) (ok : (n : ℕ) → n < c → stands f n �
   -- what is no function stands in something open
   pub open-some : (n : ℕ) → n < c → ((f n).kind ≡ 1 → ⊥) → 1 ≤ open_before f n
   open-some n h q =
-      let l : 4 ≤ (stands_in (f n).kind).lo = leb-true _ _ (given-then (not (eqb (f n).kind 1)) (leb 4 (stands_in (f n).kind).lo) (fact n 0 h (omega arith)) (ap not (ne_eqb _ _ q))) in
+      let l : 4 ≤ (stands_in (f n).kind).start = leb-true _ _ (given-then (not (eqb (f n).kind 1)) (leb 4 (stands_in (f n).kind).start) (fact n 0 h (omega arith)) (ap not (ne_eqb _ _ q))) in
       elim (ℕ_discrete (open_before f n) 0) [
         | yes e ↦ absurd (omega (arith, l, ground-low n h, ground-none (open_before f n) e))
         | no e ↦ omega arith
@@ -154,9 +154,9 @@ module _ (f : ℕ → Row) (c : ℕ) (ok : (n : ℕ) → n < c → stands f n �
   -- what stands in something open is no function
   pub kind-not : (n : ℕ) → n < c → 1 ≤ open_before f n → (f n).kind ≡ 1 → ⊥
   kind-not n h l e =
-      let r : both (eqb (stands_in (f n).kind).lo 1) (eqb (stands_in (f n).kind).hi 2) ≡ true = given-then (eqb (f n).kind 1) (both (eqb (stands_in (f n).kind).lo 1) (eqb (stands_in (f n).kind).hi 2)) (fact n 8 h (omega arith)) (eq-eqb _ _ e) in
-      let lo : (stands_in (f n).kind).lo ≡ 1 = eqb-true _ _ (both_left (eqb (stands_in (f n).kind).lo 1) (eqb (stands_in (f n).kind).hi 2) r) in
-      let hi : (stands_in (f n).kind).hi ≡ 2 = eqb-true _ _ (both_right (eqb (stands_in (f n).kind).lo 1) (eqb (stands_in (f n).kind).hi 2) r) in
+      let r : both (eqb (stands_in (f n).kind).start 1) (eqb (stands_in (f n).kind).end 2) ≡ true = given-then (eqb (f n).kind 1) (both (eqb (stands_in (f n).kind).start 1) (eqb (stands_in (f n).kind).end 2)) (fact n 8 h (omega arith)) (eq-eqb _ _ e) in
+      let lo : (stands_in (f n).kind).start ≡ 1 = eqb-true _ _ (both_left (eqb (stands_in (f n).kind).start 1) (eqb (stands_in (f n).kind).end 2) r) in
+      let hi : (stands_in (f n).kind).end ≡ 2 = eqb-true _ _ (both_right (eqb (stands_in (f n).kind).start 1) (eqb (stands_in (f n).kind).end 2) r) in
       not-eq (ground_of (f (open_before f n - 1)).kind) 1
       (fact (open_before f n - 1) 9 (omega (arith, (small n (omega arith)).open-low)) (omega arith))
       (omega (arith, lo, hi, ground-low n h, ground-high n h, ground-some (open_before f n) l))

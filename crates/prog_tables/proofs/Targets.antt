@@ -195,9 +195,9 @@ module _ (f : ℕ → Row) (c : ℕ) (ok : (n : ℕ) → n < c → stands f n �
 
     jump-test : is_test (f (open_before f n - 1)).kind ≡ true
     jump-test =
-        let r : both (eqb (stands_in (f n).kind).lo 6) (eqb (stands_in (f n).kind).hi 7) ≡ true = given-then (eqb (f n).kind 21) (both (eqb (stands_in (f n).kind).lo 6) (eqb (stands_in (f n).kind).hi 7)) (fact f c ok n 11 h (omega arith)) (eq-eqb _ _ e) in
-        let lo : (stands_in (f n).kind).lo ≡ 6 = eqb-true _ _ (both_left (eqb (stands_in (f n).kind).lo 6) (eqb (stands_in (f n).kind).hi 7) r) in
-        let hi : (stands_in (f n).kind).hi ≡ 7 = eqb-true _ _ (both_right (eqb (stands_in (f n).kind).lo 6) (eqb (stands_in (f n).kind).hi 7) r) in
+        let r : both (eqb (stands_in (f n).kind).start 6) (eqb (stands_in (f n).kind).end 7) ≡ true = given-then (eqb (f n).kind 21) (both (eqb (stands_in (f n).kind).start 6) (eqb (stands_in (f n).kind).end 7)) (fact f c ok n 11 h (omega arith)) (eq-eqb _ _ e) in
+        let lo : (stands_in (f n).kind).start ≡ 6 = eqb-true _ _ (both_left (eqb (stands_in (f n).kind).start 6) (eqb (stands_in (f n).kind).end 7) r) in
+        let hi : (stands_in (f n).kind).end ≡ 7 = eqb-true _ _ (both_right (eqb (stands_in (f n).kind).start 6) (eqb (stands_in (f n).kind).end 7) r) in
         let g : ground_of (f (open_before f n - 1)).kind ≡ 6 = omega (arith, lo, hi, ground-low f c ok n h, ground-high f c ok n h, ground-some f c ok (open_before f n) jump-open) in
         given-then (eqb (ground_of (f (open_before f n - 1)).kind) 6) (is_test (f (open_before f n - 1)).kind)
         (fact f c ok (open_before f n - 1) 10 before (omega arith)) (eq-eqb _ _ g)

@@ -194,9 +194,9 @@ module _ (bits : Width) (t : Tables) (w : WellFormed (program_from bits t)) wher
   unfolding scope_in
   end-scope n h e =
       let l : 1 ≤ open_before (rows t) n = open-some (rows t) t.count (ok bits t w) n h (λ (d : (rows t n).kind ≡ 1). omega arith) in
-      let r : both (eqb (stands_in (rows t n).kind).lo 5) (eqb (stands_in (rows t n).kind).hi 6) ≡ true = given-then (eqb (rows t n).kind 4) (both (eqb (stands_in (rows t n).kind).lo 5) (eqb (stands_in (rows t n).kind).hi 6)) (fact (rows t) t.count (ok bits t w) n 12 h (omega arith)) (eq-eqb (rows t n).kind 4 e) in
-      let lo : (stands_in (rows t n).kind).lo ≡ 5 = eqb-true (stands_in (rows t n).kind).lo 5 (both_left (eqb (stands_in (rows t n).kind).lo 5) (eqb (stands_in (rows t n).kind).hi 6) r) in
-      let hi : (stands_in (rows t n).kind).hi ≡ 6 = eqb-true (stands_in (rows t n).kind).hi 6 (both_right (eqb (stands_in (rows t n).kind).lo 5) (eqb (stands_in (rows t n).kind).hi 6) r) in
+      let r : both (eqb (stands_in (rows t n).kind).start 5) (eqb (stands_in (rows t n).kind).end 6) ≡ true = given-then (eqb (rows t n).kind 4) (both (eqb (stands_in (rows t n).kind).start 5) (eqb (stands_in (rows t n).kind).end 6)) (fact (rows t) t.count (ok bits t w) n 12 h (omega arith)) (eq-eqb (rows t n).kind 4 e) in
+      let lo : (stands_in (rows t n).kind).start ≡ 5 = eqb-true (stands_in (rows t n).kind).start 5 (both_left (eqb (stands_in (rows t n).kind).start 5) (eqb (stands_in (rows t n).kind).end 6) r) in
+      let hi : (stands_in (rows t n).kind).end ≡ 6 = eqb-true (stands_in (rows t n).kind).end 6 (both_right (eqb (stands_in (rows t n).kind).start 5) (eqb (stands_in (rows t n).kind).end 6) r) in
       let b : open_before (rows t) n - 1 < t.count = omega (arith, l, (small (rows t) t.count (ok bits t w) n (omega arith)).open-low) in
       let g : ground_of (rows t (open_before (rows t) n - 1)).kind ≡ 5 = omega (arith, lo, hi, ground-low (rows t) t.count (ok bits t w) n h, ground-high (rows t) t.count (ok bits t w) n h, ground-some (rows t) t.count (ok bits t w) (open_before (rows t) n) l) in
       let k : (rows t (open_before (rows t) n - 1)).kind ≡ 3 = eqb-true (rows t (open_before (rows t) n - 1)).kind 3 (given-then (eqb (ground_of (rows t (open_before (rows t) n - 1)).kind) 5) (eqb (rows t (open_before (rows t) n - 1)).kind 3) (fact (rows t) t.count (ok bits t w) (open_before (rows t) n - 1) 13 b (omega arith)) (eq-eqb (ground_of (rows t (open_before (rows t) n - 1)).kind) 5 g)) in

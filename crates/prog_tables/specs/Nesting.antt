@@ -39,7 +39,7 @@ is_listed k = if_eq k kind.edge false (ltb k kind.past_rows)
 
 -- a kind may stand on a ground
 unfoldable pub may_stand : ℕ → ℕ → Bool
-may_stand k g = both (leb (stands_in k).lo g) (ltb g (stands_in k).hi)
+may_stand k g = both (leb (stands_in k).start g) (ltb g (stands_in k).end)
 
 -- "An `else if..` line is two statements: a jump to `end if`, then the test"
 unfoldable pub follows_jump : (ℕ → Row) → ℕ → Bool

@@ -35,15 +35,15 @@ imply true b t e = true-is b t
 imply false b t e = true-false (sym e)
 
 leaves_high : ℕ → Bool
-leaves_high k = implies (leaves k) (leb 4 (stands_in k).lo)
+leaves_high k = implies (leaves k) (leb 4 (stands_in k).start)
 
 leaves_all : T (under leaves_high 37)
 unfolding leaves_high stands_in statement_in refused_in leaves if_lt if_eq
 leaves_all = tt
 
-pub leaves-high : (k : ℕ) → k < 37 → leaves k ≡ true → 4 ≤ (stands_in k).lo
+pub leaves-high : (k : ℕ) → k < 37 → leaves k ≡ true → 4 ≤ (stands_in k).start
 unfolding leaves_high
-leaves-high k h e = leb-true 4 _ (imply (leaves k) (leb 4 (stands_in k).lo) (under_at leaves_high 37 k leaves_all h) e)
+leaves-high k h e = leb-true 4 _ (imply (leaves k) (leb 4 (stands_in k).start) (under_at leaves_high 37 k leaves_all h) e)
 
 enters_high : ℕ → Bool
 enters_high k = implies (enters k) (leb 4 (ground_of k))

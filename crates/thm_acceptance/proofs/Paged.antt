@@ -396,45 +396,45 @@ ground-empty : (section : ℕ) (os : List Level) → os ≡ [] → ground_among 
 unfolding ground_among
 ground-empty section os e = ap (ground_among section) e
 
-stands-1 : ((stands_in 1).lo ≡ 1) × ((stands_in 1).hi ≡ 2)
+stands-1 : ((stands_in 1).start ≡ 1) × ((stands_in 1).end ≡ 2)
 unfolding stands_in statement_in if_eq if_lt
 stands-1 = (refl, refl)
 
-stands-2 : ((stands_in 2).lo ≡ 4) × ((stands_in 2).hi ≡ 5)
+stands-2 : ((stands_in 2).start ≡ 4) × ((stands_in 2).end ≡ 5)
 unfolding stands_in statement_in if_eq if_lt
 stands-2 = (refl, refl)
 
-stands-4 : ((stands_in 4).lo ≡ 5) × ((stands_in 4).hi ≡ 6)
+stands-4 : ((stands_in 4).start ≡ 5) × ((stands_in 4).end ≡ 6)
 unfolding stands_in statement_in if_eq if_lt
 stands-4 = (refl, refl)
 
-stands-5 : ((stands_in 5).lo ≡ 4) × ((stands_in 5).hi ≡ 6)
+stands-5 : ((stands_in 5).start ≡ 4) × ((stands_in 5).end ≡ 6)
 unfolding stands_in statement_in if_eq if_lt
 stands-5 = (refl, refl)
 
 -- from kind a on, rows stand on grounds from g on
 high_from : ℕ → ℕ → ℕ → Bool
-high_from a g k = implies (leb a k) (leb g (stands_in k).lo)
+high_from a g k = implies (leb a k) (leb g (stands_in k).start)
 
-high-from : (a g k : ℕ) → T (under (high_from a g) 23) → a ≤ k → k < 23 → g ≤ (stands_in k).lo
+high-from : (a g k : ℕ) → T (under (high_from a g) 23) → a ≤ k → k < 23 → g ≤ (stands_in k).start
 unfolding high_from
-high-from a g k t l h = leb-true g _ (imply (leb a k) (leb g (stands_in k).lo) (under_at (high_from a g) 23 k t h) (le-leb a k l))
+high-from a g k t l h = leb-true g _ (imply (leb a k) (leb g (stands_in k).start) (under_at (high_from a g) 23 k t h) (le-leb a k l))
 
 rows-high : T (under (high_from 2 4) 23) × T (under (high_from 20 6) 23)
 unfolding high_from stands_in statement_in if_eq if_lt
 rows-high = (tt, tt)
 
-row-high : (k : ℕ) → 2 ≤ k → k < 23 → 4 ≤ (stands_in k).lo
+row-high : (k : ℕ) → 2 ≤ k → k < 23 → 4 ≤ (stands_in k).start
 row-high k l h = high-from 2 4 k rows-high.0 l h
 
-arm-high : (k : ℕ) → 20 ≤ k → k < 23 → 6 ≤ (stands_in k).lo
+arm-high : (k : ℕ) → 20 ≤ k → k < 23 → 6 ≤ (stands_in k).start
 arm-high k l h = high-from 20 6 k rows-high.1 l h
 
-low-at : (k j : ℕ) → k ≡ j → (stands_in k).lo ≡ (stands_in j).lo
-low-at k j e = ap (λ (i : ℕ). (stands_in i).lo) e
+low-at : (k j : ℕ) → k ≡ j → (stands_in k).start ≡ (stands_in j).start
+low-at k j e = ap (λ (i : ℕ). (stands_in i).start) e
 
-high-at : (k j : ℕ) → k ≡ j → (stands_in k).hi ≡ (stands_in j).hi
-high-at k j e = ap (λ (i : ℕ). (stands_in i).hi) e
+high-at : (k j : ℕ) → k ≡ j → (stands_in k).end ≡ (stands_in j).end
+high-at k j e = ap (λ (i : ℕ). (stands_in i).end) e
 
 module _ (rows : List ℕ) (m section k : ℕ) (low : section ≤ 3) where
   alone-is : (os : List Level) → Somewhere rows m os → ground_among section os < 2 → os ≡ []
@@ -452,7 +452,7 @@ module _ (rows : List ℕ) (m section k : ℕ) (low : section ≤ 3) where
       }
 
   module _ (l : 1 ≤ k) (h : k < 23) where
-    fit_is : (os : List Level) → Somewhere rows m os → (stands_in k).lo ≤ ground_among section os → ground_among section os < (stands_in k).hi → Fit k (row_at rows m).before os
+    fit_is : (os : List Level) → Somewhere rows m os → (stands_in k).start ≤ ground_among section os → ground_among section os < (stands_in k).end → Fit k (row_at rows m).before os
     unfolding ground_among
     fit_is os (nowhere z) a b =
         record {

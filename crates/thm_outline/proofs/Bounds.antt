@@ -192,7 +192,7 @@ module _ (y : World) (c : ℕ) (a : RowsOf y (suc c)) (v : (view_of y.table c).k
       }
 
 module _ (t : List ℕ) (x : World) (h : Between t x) (u : Span) (k : ℕ) (pk : k ≡ line_kind t u.word)
-    (place : ((stands_in k).lo ≤ places.ground_in x.state (open_row x)) × (places.ground_in x.state (open_row x) < (stands_in k).hi)) (room : rows_of k ≤ 1025 - x.state.count)
+    (place : ((stands_in k).start ≤ places.ground_in x.state (open_row x)) × (places.ground_in x.state (open_row x) < (stands_in k).end)) (room : rows_of k ≤ 1025 - x.state.count)
     (p : Counted x h.whole.c x.state.depth x.state.locals) (shallow : k ≡ 3 → x.state.depth < 16) (parameters : k ≡ 1 → operand_count u ≤ 8) (lets : k ≡ 5 → x.state.locals < 64) where
   abbrev d : ℕ
   d = depth_behind k x.state.depth

@@ -24,10 +24,10 @@ use Rattle.thm_outline.proofs.LineKinds.{line-function}
 use Rattle.parse_units.specs.Places.{place_rule, line_faults, limit_faults, unit_fault}
 use Rattle.parse_units.specs.declared.State.{State}
 
-place-by : (t : List ℕ) (n : ℕ) (u : Span) (k g : ℕ) → none ≤ place_rule t n u k g → ((stands_in k).lo ≤ g) × (g < (stands_in k).hi)
+place-by : (t : List ℕ) (n : ℕ) (u : Span) (k g : ℕ) → none ≤ place_rule t n u k g → ((stands_in k).start ≤ g) × (g < (stands_in k).end)
 unfolding place_rule
 place-by t n u k g =
-    either_true (λ (x : ℕ). none ≤ x → ((stands_in k).lo ≤ g) × (g < (stands_in k).hi)) (stands_on g k) _ _ (λ e _. stands-range g k e)
+    either_true (λ (x : ℕ). none ≤ x → ((stands_in k).start ≤ g) × (g < (stands_in k).end)) (stands_on g k) _ _ (λ e _. stands-range g k e)
     (λ _ h. let z : ⊥ = omega (arith, key-low t n u.word 8 (omega arith)) in absurd z)
 
 -- a function has at most 8 parameters
@@ -53,7 +53,7 @@ module _ (w : Width) (t : List ℕ) (n : ℕ) (u : Span) (k g : ℕ) (s : State)
   unfolding line_faults least_of
   place-clean = omega (arith, lines-clean)
 
-  pub clean-place : ((stands_in k).lo ≤ g) × (g < (stands_in k).hi)
+  pub clean-place : ((stands_in k).start ≤ g) × (g < (stands_in k).end)
   clean-place = place-by t n u k g place-clean
 
   limits-clean : none ≤ least_of (limit_faults t n u k s)

@@ -28,7 +28,7 @@ frame_in f o = if_true (is_frame (f (o - 1)).kind) (o - 1) (f (o - 1)).scope
 
 abbrev frame_facts : ℕ → List Bool
 frame_facts k =
-    given (both (leaves k) (both (not (eqb k 2)) (not (eqb k 4)))) (leb 6 (stands_in k).lo)
+    given (both (leaves k) (both (not (eqb k 2)) (not (eqb k 4)))) (leb 6 (stands_in k).start)
     ∷ given (leb 6 (ground_of k)) (leb 14 k)
     ∷ given (eqb (ground_of k) 4) (eqb k 1)
     ∷ given (eqb (ground_of k) 5) (eqb k 3)
@@ -44,7 +44,7 @@ listed-low k h = either-eq (λ (b : Bool). b ≡ true → k < 23) k 0 false (ltb
 
 -- ends of functions and blocks
 abbrev Ends : ℕ → ℕ → Type 0
-Ends k g = (leaves k ≡ true) × (enters k ≡ false) × ((stands_in k).lo ≡ g) × ((stands_in k).hi ≡ suc g)
+Ends k g = (leaves k ≡ true) × (enters k ≡ false) × ((stands_in k).start ≡ g) × ((stands_in k).end ≡ suc g)
 
 two_ends : Ends 2 4
 unfolding stands_in statement_in enters leaves if_eq if_lt
@@ -138,7 +138,7 @@ module _ (f : ℕ → Row) (c : ℕ) (ok : (n : ℕ) → n < c → stands f n �
   arm-high : (p : ℕ) → p < c → leaves (f p).kind ≡ true → ((f p).kind ≡ 2 → ⊥) → ((f p).kind ≡ 4 → ⊥) → 14 ≤ (f (open_before f p - 1)).kind
   arm-high p h e a b =
       let k : both (leaves (f p).kind) (both (not (eqb (f p).kind 2)) (not (eqb (f p).kind 4))) ≡ true = both_true _ _ e (both_true _ _ (not-ne _ _ a) (not-ne _ _ b)) in
-      let l : 6 ≤ (stands_in (f p).kind).lo = leb-true _ _ (given-then (both (leaves (f p).kind) (both (not (eqb (f p).kind 2)) (not (eqb (f p).kind 4)))) (leb 6 (stands_in (f p).kind).lo) (frame-fact p 0 h (omega arith)) k) in
+      let l : 6 ≤ (stands_in (f p).kind).start = leb-true _ _ (given-then (both (leaves (f p).kind) (both (not (eqb (f p).kind 2)) (not (eqb (f p).kind 4)))) (leb 6 (stands_in (f p).kind).start) (frame-fact p 0 h (omega arith)) k) in
       let s : 1 ≤ open_before f p = leaver-some f c ok p h e in
       let o : open_before f p ≤ p = open-low p (omega arith) in
       let g : 6 ≤ ground_of (f (open_before f p - 1)).kind = omega (arith, ground-low f c ok p h, ground-some f c ok (open_before f p) s) in

@@ -9,7 +9,7 @@ use lib.Dec.{eqb, ltb, leb}
 use Rattle.base_prelude.proofs.Choice.{either, true-false, if_true-yes, if_true-no, if_eq-no, if_lt-yes}
 use Rattle.lang_kinds.specs.Grounds as ground
 use Rattle.lang_kinds.specs.Nesting.{span, statement_in, stands_in, enters, leaves, ground_of}
-use Rattle.lang_kinds.specs.declared.Range.{Range}
+use Rattle.std.specs.declared.ops.Range.{Range}
 use Rattle.prog_tables.specs.Tests.{both}
 use Rattle.prog_tables.specs.Statement.{Row, is_test}
 use Rattle.prog_tables.specs.Nesting.{behind, open_before, ground_in, up_in, may_stand, stands}
@@ -31,16 +31,16 @@ test-range k h =
 test-stands : (j k g : ℕ) → is_test j ≡ true → is_test k ≡ true → may_stand j g ≡ true → may_stand k g ≡ true
 unfolding may_stand
 test-stands j k g a b h =
-    ap (λ (x : Range). both (leb x.lo g) (ltb g x.hi)) (test-range k b ∙ sym (test-range j a)) ∙ h
+    ap (λ (x : Range ℕ). both (leb x.start g) (ltb g x.end)) (test-range k b ∙ sym (test-range j a)) ∙ h
 
 module _ (f : ℕ → Row) (c : ℕ) (ok : (n : ℕ) → n < c → stands f n ≡ true) (j : ℕ) (h : j < c) (e : (f j).kind ≡ 21) where
   jump-leaves : both (not (enters (f j).kind)) (leaves (f j).kind) ≡ true
   jump-leaves =
       given-then (eqb (f j).kind 21) (both (not (enters (f j).kind)) (leaves (f j).kind)) (fact f c ok j 6 h (omega arith)) (eq-eqb _ _ e)
 
-  jump-range : both (eqb (stands_in (f j).kind).lo 6) (eqb (stands_in (f j).kind).hi 7) ≡ true
+  jump-range : both (eqb (stands_in (f j).kind).start 6) (eqb (stands_in (f j).kind).end 7) ≡ true
   jump-range =
-      given-then (eqb (f j).kind 21) (both (eqb (stands_in (f j).kind).lo 6) (eqb (stands_in (f j).kind).hi 7)) (fact f c ok j 11 h (omega arith)) (eq-eqb _ _ e)
+      given-then (eqb (f j).kind 21) (both (eqb (stands_in (f j).kind).start 6) (eqb (stands_in (f j).kind).end 7)) (fact f c ok j 11 h (omega arith)) (eq-eqb _ _ e)
 
   pub jump-some : 1 ≤ open_before f j
   jump-some = open-some f c ok j h (λ q. omega arith)
@@ -50,8 +50,8 @@ module _ (f : ℕ → Row) (c : ℕ) (ok : (n : ℕ) → n < c → stands f n �
 
   arm-six : ground_of (f (open_before f j - 1)).kind ≡ 6
   arm-six =
-      let lo : (stands_in (f j).kind).lo ≡ 6 = eqb-true _ _ (both_left (eqb (stands_in (f j).kind).lo 6) (eqb (stands_in (f j).kind).hi 7) jump-range) in
-      let hi : (stands_in (f j).kind).hi ≡ 7 = eqb-true _ _ (both_right (eqb (stands_in (f j).kind).lo 6) (eqb (stands_in (f j).kind).hi 7) jump-range) in
+      let lo : (stands_in (f j).kind).start ≡ 6 = eqb-true _ _ (both_left (eqb (stands_in (f j).kind).start 6) (eqb (stands_in (f j).kind).end 7) jump-range) in
+      let hi : (stands_in (f j).kind).end ≡ 7 = eqb-true _ _ (both_right (eqb (stands_in (f j).kind).start 6) (eqb (stands_in (f j).kind).end 7) jump-range) in
       omega (arith, ground-low f c ok j h, ground-high f c ok j h, ground-some f c ok (open_before f j) jump-some)
 
   -- the arm before it is that of a test

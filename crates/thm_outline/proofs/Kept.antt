@@ -126,21 +126,21 @@ module _ (k token next operands : ℕ) (x : World) (c : ℕ) (g : Rows x.table c
 
 -- ---- the rows of a line
 
-on-ground : (k g : ℕ) → (stands_in k).lo ≤ g → g < (stands_in k).hi → may_stand k g ≡ true
+on-ground : (k g : ℕ) → (stands_in k).start ≤ g → g < (stands_in k).end → may_stand k g ≡ true
 unfolding may_stand
-on-ground k g a b = both_true _ _ (le-leb (stands_in k).lo g a) (lt-ltb g (stands_in k).hi b)
+on-ground k g a b = both_true _ _ (le-leb (stands_in k).start g a) (lt-ltb g (stands_in k).end b)
 
 -- in a section only a function makes a row, and that in functions
-section-ground : (k g : ℕ) → is_listed k ≡ true → g < 4 → (stands_in k).lo ≤ g → g < (stands_in k).hi → may_stand k 1 ≡ true
+section-ground : (k g : ℕ) → is_listed k ≡ true → g < 4 → (stands_in k).start ≤ g → g < (stands_in k).end → may_stand k 1 ≡ true
 section-ground k g l s a b =
     elim (ℕ_discrete k 1) [
       | yes e ↦
-          let r = given-then (eqb k 1) (both (eqb (stands_in k).lo 1) (eqb (stands_in k).hi 2)) (kind-fact k 8 l (omega arith)) (eq-eqb _ _ e) in
-          let lo : (stands_in k).lo ≡ 1 = eqb-true _ _ (both_left (eqb (stands_in k).lo 1) (eqb (stands_in k).hi 2) r) in
-          let hi : (stands_in k).hi ≡ 2 = eqb-true _ _ (both_right (eqb (stands_in k).lo 1) (eqb (stands_in k).hi 2) r) in
+          let r = given-then (eqb k 1) (both (eqb (stands_in k).start 1) (eqb (stands_in k).end 2)) (kind-fact k 8 l (omega arith)) (eq-eqb _ _ e) in
+          let lo : (stands_in k).start ≡ 1 = eqb-true _ _ (both_left (eqb (stands_in k).start 1) (eqb (stands_in k).end 2) r) in
+          let hi : (stands_in k).end ≡ 2 = eqb-true _ _ (both_right (eqb (stands_in k).start 1) (eqb (stands_in k).end 2) r) in
           on-ground k 1 (omega arith) (omega arith)
       | no e ↦
-          let m : 4 ≤ (stands_in k).lo = leb-true _ _ (given-then (not (eqb k 1)) (leb 4 (stands_in k).lo) (kind-fact k 0 l (omega arith)) (ap not (ne_eqb _ _ e))) in
+          let m : 4 ≤ (stands_in k).start = leb-true _ _ (given-then (not (eqb k 1)) (leb 4 (stands_in k).start) (kind-fact k 0 l (omega arith)) (ap not (ne_eqb _ _ e))) in
           absurd (omega arith)
     ]
 
@@ -151,8 +151,8 @@ open-ground x z =
     let e : x.state.top ≡ suc (x.state.top - 1) = omega arith in
     if_eq-no x.state.section _ z ∙ ap (λ (i : ℕ). ground_of (outline.row_at x.table i).kind) e ∙ sym (if_eq-no 1 _ z)
 
-line-ground : (x : World) (k : ℕ) → is_listed k ≡ true → x.state.section < 4 → (stands_in k).lo ≤ places.ground_in x.state (open_row x)
-    → places.ground_in x.state (open_row x) < (stands_in k).hi → may_stand k (ground_in (view_of x.table) x.state.top) ≡ true
+line-ground : (x : World) (k : ℕ) → is_listed k ≡ true → x.state.section < 4 → (stands_in k).start ≤ places.ground_in x.state (open_row x)
+    → places.ground_in x.state (open_row x) < (stands_in k).end → may_stand k (ground_in (view_of x.table) x.state.top) ≡ true
 unfolding places.ground_in ground_in
 line-ground x k l s a b =
     elim (ℕ_discrete x.state.top 0) [
@@ -206,7 +206,7 @@ module _ (y : World) (c : ℕ) (a : RowsOf y (suc c)) (v : (view_of y.table c).k
       }
 
 module _ (t : List ℕ) (x : World) (h : Between t x) (u : Span) (k : ℕ) (pk : k ≡ line_kind t u.word)
-    (place : ((stands_in k).lo ≤ places.ground_in x.state (open_row x)) × (places.ground_in x.state (open_row x) < (stands_in k).hi)) (room : rows_of k ≤ 1025 - x.state.count) where
+    (place : ((stands_in k).start ≤ places.ground_in x.state (open_row x)) × (places.ground_in x.state (open_row x) < (stands_in k).end)) (room : rows_of k ≤ 1025 - x.state.count) where
   pub row_listed : (rows_of k ≡ 0 → ⊥) → is_listed k ≡ true
   row_listed q = rw pk (line_row t u.word (rw pk at q))
 
@@ -280,7 +280,7 @@ abbrev Onward : Step World Result → Type 0
 Onward (go x) = WholeOf x × (x.state.section < 4)
 Onward (stop r) = Nests r.verdict r.outline
 
-end-range : (k : ℕ) → k ≡ 0 → (stands_in k).hi ≡ 3
+end-range : (k : ℕ) → k ≡ 0 → (stands_in k).end ≡ 3
 unfolding stands_in if_eq
 end-range k e = rw e
 

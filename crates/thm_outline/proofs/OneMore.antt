@@ -35,8 +35,8 @@ not_first k h g =
     elim (ℕ_discrete k 1) [
       | yes e ↦ e
       | no e ↦
-          let l : 4 ≤ (stands_in k).lo = leb-true _ _ (given-then (not (eqb k 1)) (leb 4 (stands_in k).lo) (kind-fact k 0 h (omega arith)) (ap not (ne_eqb _ _ e))) in
-          let m : (stands_in k).lo ≤ 1 = leb-true _ _ (both_left (leb (stands_in k).lo 1) (ltb 1 (stands_in k).hi) g) in absurd (omega arith)
+          let l : 4 ≤ (stands_in k).start = leb-true _ _ (given-then (not (eqb k 1)) (leb 4 (stands_in k).start) (kind-fact k 0 h (omega arith)) (ap not (ne_eqb _ _ e))) in
+          let m : (stands_in k).start ≤ 1 = leb-true _ _ (both_left (leb (stands_in k).start 1) (ltb 1 (stands_in k).end) g) in absurd (omega arith)
     ]
 
 one-stays : (k : ℕ) → k ≡ 1 → leaves k ≡ false

@@ -17,7 +17,7 @@ use Rattle.base_prelude.proofs.Table.{every, at}
 use Rattle.base_limits.specs.declared.Width.{Width}
 use Rattle.lang_kinds.specs.Nesting.{stands_in, ground_of, rows_of, word_kinds, kind_of_word}
 use Rattle.lang_kinds.specs.Standing.{ground_numbered, stands_on}
-use Rattle.lang_kinds.specs.declared.Range.{Range}
+use Rattle.std.specs.declared.ops.Range.{Range}
 use Rattle.lang_kinds.proofs.Standing.{stands-range}
 use Rattle.lang_kinds.proofs.Cases.{kind-none, kind-known}
 use Rattle.parse_lines.specs.Tokens.{kind_at, word_at}
@@ -145,19 +145,19 @@ function-line t i a b = if_eq-yes _ _ a ∙ ap (λ (w : ℕ). symbol_kind w (kin
 -- ---- what a unit without a fault says
 
 -- lines that make no row stand on no ground from 4 on
-stands-low : (k : ℕ) → (k ≡ 34 → ⊥) → (k ≡ 35 → ⊥) → k ≤ 36 → (1 ≤ k → 25 ≤ k) → (stands_in k).hi ≤ 4
+stands-low : (k : ℕ) → (k ≡ 34 → ⊥) → (k ≡ 35 → ⊥) → k ≤ 36 → (1 ≤ k → 25 ≤ k) → (stands_in k).end ≤ 4
 unfolding stands_in
 stands-low k p q l h =
-    either-eq (λ (r : Range). r.hi ≤ 4) k 0 _ _ (λ _. omega arith) (λ d.
+    either-eq (λ (r : Range ℕ). r.end ≤ 4) k 0 _ _ (λ _. omega arith) (λ d.
     let g : 25 ≤ k = h (omega arith) in
-    either (λ (r : Range). r.hi ≤ 4) k 25 _ _ (λ a. let z : ⊥ = omega arith in absurd z) (λ _.
-    either (λ (r : Range). r.hi ≤ 4) k 27 _ _ (λ _. omega arith) (λ _.
-    either-eq (λ (r : Range). r.hi ≤ 4) k 27 _ _ (λ _. omega arith) (λ _.
-    either-eq (λ (r : Range). r.hi ≤ 4) k 28 _ _ (λ _. omega arith) (λ _.
-    either (λ (r : Range). r.hi ≤ 4) k 32 _ _ (λ _. omega arith) (λ a.
-    either-eq (λ (r : Range). r.hi ≤ 4) k 32 _ _ (λ _. omega arith) (λ b.
-    either-eq (λ (r : Range). r.hi ≤ 4) k 33 _ _ (λ _. omega arith) (λ f.
-    either-eq (λ (r : Range). r.hi ≤ 4) k 36 _ _ (λ _. omega arith) (λ i. let z : ⊥ = omega arith in absurd z)))))))))
+    either (λ (r : Range ℕ). r.end ≤ 4) k 25 _ _ (λ a. let z : ⊥ = omega arith in absurd z) (λ _.
+    either (λ (r : Range ℕ). r.end ≤ 4) k 27 _ _ (λ _. omega arith) (λ _.
+    either-eq (λ (r : Range ℕ). r.end ≤ 4) k 27 _ _ (λ _. omega arith) (λ _.
+    either-eq (λ (r : Range ℕ). r.end ≤ 4) k 28 _ _ (λ _. omega arith) (λ _.
+    either (λ (r : Range ℕ). r.end ≤ 4) k 32 _ _ (λ _. omega arith) (λ a.
+    either-eq (λ (r : Range ℕ). r.end ≤ 4) k 32 _ _ (λ _. omega arith) (λ b.
+    either-eq (λ (r : Range ℕ). r.end ≤ 4) k 33 _ _ (λ _. omega arith) (λ f.
+    either-eq (λ (r : Range ℕ). r.end ≤ 4) k 36 _ _ (λ _. omega arith) (λ i. let z : ⊥ = omega arith in absurd z)))))))))
 
 place-stands : (t : List ℕ) (n : ℕ) (u : Span) (k g : ℕ) → none ≤ place_rule t n u k g → stands_on g k ≡ true
 unfolding place_rule
@@ -165,7 +165,7 @@ place-stands t n u k g =
     either_true (λ (x : ℕ). none ≤ x → stands_on g k ≡ true) (stands_on g k) _ _ (λ e _. e)
     (λ _ h. let z : ⊥ = omega (arith, key-low t n u.word 8 (omega arith)) in absurd z)
 
-place-by : (t : List ℕ) (n : ℕ) (u : Span) (k g : ℕ) → none ≤ place_rule t n u k g → g < (stands_in k).hi
+place-by : (t : List ℕ) (n : ℕ) (u : Span) (k g : ℕ) → none ≤ place_rule t n u k g → g < (stands_in k).end
 place-by t n u k g h = (stands-range g k (place-stands t n u k g h)).1
 
 left_by : (t : List ℕ) (n : ℕ) (u : Span) (k : ℕ) → none ≤ left_rule t n u k → k ≡ 34 → ⊥
@@ -305,7 +305,7 @@ module _ (w : Width) (t : List ℕ) (n : ℕ) (u : Span) (s : State) (o : Row) (
       let a : line_kind t u.word ≤ 36 = line_low t u.word in
       let p : line_kind t u.word ≡ 34 → ⊥ = left_by t n u (line_kind t u.word) left-clean in
       let q : line_kind t u.word ≡ 35 → ⊥ = shape-by w t n u (line_kind t u.word) shape-clean in
-      let b : ground_in s o < (stands_in (line_kind t u.word)).hi = place-by t n u (line_kind t u.word) (ground_in s o) place-clean in
+      let b : ground_in s o < (stands_in (line_kind t u.word)).end = place-by t n u (line_kind t u.word) (ground_in s o) place-clean in
       elim (dec_lt (line_kind t u.word) 1) [
         | yes d ↦ let z : ⊥ = omega (arith, b, stands-low (line_kind t u.word) p q a (λ i. omega arith)) in absurd z
         | no d ↦
