@@ -1,11 +1,14 @@
 -- The ranges that the code tests say what the table of specs/Standing says.
 -- Assumes nothing.
-use mathlib.Core.Path.{◌≡◌, refl, sym, ◌∙◌, ap}
+use mathlib.Core.Path.{◌≡◌, refl, sym, ◌∙◌, ap, ap₂}
+use Rattle.std.proofs.Common.{◌&&◌}
+use Rattle.std.proofs.lemmas.Bool.Decides.{nat_tests}
+use Rattle.std.specs.Ordering.{is_le, is_lt, nat_cmp}
 use mathlib.Core.Bool.{Bool, true, false}
 use Prim.Native.Nat.{ℕ, ◌≤◌, ◌<◌}
 use native.Mathlib.Decide.{dec_lt}
 use native.Mathlib.Omega.{arith}
-use lib.Dec.{T, ltb}
+use lib.Dec.{T, leb, ltb}
 use borrow.Author.Tests.{ltb-true}
 use Rattle.base_prelude.specs.Choice.{if_lt, if_eq}
 use Rattle.base_prelude.specs.Lists.{is_among}
@@ -109,3 +112,20 @@ below-stands g k a = ranges-say g k ∙ if_lt-yes _ _ a
 
 pub past-stands : (g k : ℕ) → (stands_in k).start ≤ g → (stands_in k).end ≤ g → stands_on g k ≡ false
 past-stands g k a b = ranges-say g k ∙ if_lt-no _ _ a ∙ if_lt-no _ _ b
+
+le-is : (a b : ℕ) → is_le (nat_cmp a b) ≡ leb a b
+le-is a b = grind (arith, nat_tests)
+
+lt-is : (a b : ℕ) → is_lt (nat_cmp a b) ≡ ltb a b
+lt-is a b = grind (arith, nat_tests)
+
+-- what the library's range answers of a ground
+pub contained : (g : ℕ) (x : Range ℕ) → (is_le (nat_cmp x.start g) && is_lt (nat_cmp g x.end)) ≡ (leb x.start g && ltb g x.end)
+contained g x = ap₂ ◌&&◌ (le-is x.start g) (lt-is g x.end)
+
+in_range-test : (g : ℕ) (x : Range ℕ) → (leb x.start g && ltb g x.end) ≡ in_range g x
+unfolding if_lt
+in_range-test g x = grind (arith, nat_tests)
+
+pub contained-stands : (g k : ℕ) (x : Range ℕ) (b : Bool) → x ≡ stands_in k → b ≡ (is_le (nat_cmp x.start g) && is_lt (nat_cmp g x.end)) → b ≡ stands_on g k
+contained-stands g k x b e q = q ∙ contained g x ∙ in_range-test g x ∙ ap (in_range g) e ∙ sym (ranges-say g k)

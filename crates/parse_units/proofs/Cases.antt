@@ -13,7 +13,9 @@ use Rattle.base_prelude.specs.Fault.{none, least_of}
 use Rattle.base_prelude.proofs.Choice.{tests, if_true-yes, if_true-no, if_eq-yes, if_eq-no}
 use Rattle.lang_kinds.specs.Nesting.{stands_in, rows_of, enters, leaves, ground_of, is_frame}
 use Rattle.std.specs.declared.ops.Range.{Range}
-use Rattle.lang_kinds.proofs.Standing.{range-stands, below-stands, past-stands}
+use Rattle.std.proofs.Common.{◌&&◌}
+use Rattle.std.specs.Ordering.{is_le, is_lt, nat_cmp}
+use Rattle.lang_kinds.proofs.Standing.{contained-stands}
 use Rattle.parse_lines.specs.Tokens.{token_word, key_at}
 use Rattle.parse_shapes.specs.Shapes.{is_name, operand_count}
 use Rattle.parse_lines.specs.declared.Span.{Span}
@@ -99,24 +101,14 @@ module _ (t : List ℕ) (n : ℕ) (u : Span) where
       unfolding label_rule
       label-bad r i j = rw (← p, ← q, ← f, ← h, ← j) (search tests)
 
-  module _ (k g : ℕ) (x : Range ℕ) (p : x ≡ stands_in k) where
-    low-is : x.start ≡ (stands_in k).start
-    low-is = ap (λ (y : Range ℕ). y.start) p
-
-    high_is : x.end ≡ (stands_in k).end
-    high_is = ap (λ (y : Range ℕ). y.end) p
-
-    pub place-low : (r : ℕ) → g < x.start → r ≡ key_at t n u.word 8 → r ≡ place_rule t n u k g
+  module _ (k g : ℕ) (x : Range ℕ) (p : x ≡ stands_in k) (b : Bool) (q : b ≡ (is_le (nat_cmp x.start g) && is_lt (nat_cmp g x.end))) where
+    pub place-good : b ≡ true → none ≡ place_rule t n u k g
     unfolding place_rule
-    place-low r h q = q ∙ sym (if_true-no _ _ (below-stands g k (omega (arith, low-is))))
+    place-good h = sym (if_true-yes _ _ (sym (contained-stands g k x b p q) ∙ h))
 
-    pub place-good : x.start ≤ g → g < x.end → none ≡ place_rule t n u k g
+    pub place-bad : (r : ℕ) → b ≡ false → r ≡ key_at t n u.word 8 → r ≡ place_rule t n u k g
     unfolding place_rule
-    place-good h i = sym (if_true-yes _ _ (range-stands g k (omega (arith, low-is)) (omega (arith, high_is))))
-
-    pub place-high : (r : ℕ) → x.start ≤ g → x.end ≤ g → r ≡ key_at t n u.word 8 → r ≡ place_rule t n u k g
-    unfolding place_rule
-    place-high r h i q = q ∙ sym (if_true-no _ _ (past-stands g k (omega (arith, low-is)) (omega (arith, high_is))))
+    place-bad r h e = e ∙ sym (if_true-no _ _ (sym (contained-stands g k x b p q) ∙ h))
 
   module _ (k : ℕ) where
     pub import-other : (k ≡ 36 → ⊥) → 0 ≡ import_labels t u k
@@ -168,7 +160,7 @@ pub ruleset labelling = (label-none, label-good, label-bad)
 
 pub ruleset importing = (import-other, import-nameless, import-unlisted, import-listed, import-none, import-limit)
 
-pub ruleset placing = (place-low, place-good, place-high)
+pub ruleset placing = (place-good, place-bad)
 
 pub ruleset limiting = (room-full, room-good, most-good, most-many, most-none)
 

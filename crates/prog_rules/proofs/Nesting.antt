@@ -1,6 +1,10 @@
 -- The ways through the functions on nesting.
 -- Assumes nothing.
-use mathlib.Core.Path.{◌≡◌, refl, ap}
+use mathlib.Core.Path.{◌≡◌, refl, ap, ap₂, ◌∙◌}
+use Rattle.std.proofs.Common.{◌&&◌}
+use Rattle.lang_kinds.proofs.Standing.{contained}
+use Rattle.std.specs.Ordering.{is_le, is_lt, nat_cmp}
+use lib.Dec.{leb}
 use mathlib.Core.Bool.{Bool, true, false}
 use mathlib.Core.List.{List, [], ◌∷◌}
 use Prim.Native.Nat.{ℕ, suc, ◌-◌, ◌<◌, ◌≤◌}
@@ -56,6 +60,10 @@ module _ (f : ℕ → Row) (o : ℕ) where
 
 pub ruleset grounds = (ground-none, ground-kind)
 
+both-is : (p q : Bool) → (p && q) ≡ both p q
+both-is true q = refl
+both-is false q = refl
+
 module _ (k g : ℕ) (x : Range ℕ) (e : x ≡ stands_in k) where
   low-is : x.start ≡ (stands_in k).start
   low-is = ap (λ (y : Range ℕ). y.start) e
@@ -63,15 +71,11 @@ module _ (k g : ℕ) (x : Range ℕ) (e : x ≡ stands_in k) where
   high_is : x.end ≡ (stands_in k).end
   high_is = ap (λ (y : Range ℕ). y.end) e
 
-  pub may-low : g < x.start → false ≡ may_stand k g
+  pub may-test : (r : Bool) → r ≡ (is_le (nat_cmp x.start g) && is_lt (nat_cmp g x.end)) → r ≡ may_stand k g
   unfolding may_stand
-  may-low h = rw (← low-is, lt-leb _ _ h)
+  may-test r q = q ∙ contained g x ∙ both-is (leb x.start g) (ltb g x.end) ∙ rw (low-is, high_is) refl
 
-  pub may-high : x.start ≤ g → ltb g x.end ≡ may_stand k g
-  unfolding may_stand
-  may-high h = rw (← low-is, ← high_is, le-leb _ _ h)
-
-pub ruleset may = (may-low, may-high)
+pub ruleset may = (may-test)
 
 module _ (f : ℕ → Row) (k n : ℕ) (b : Bool) (e : b ≡ follows_jump f n) where
   pub followed-test : (v : Bool) → b ≡ true → v ≡ is_test k → v ≡ given (follows_jump f n) (is_test k)

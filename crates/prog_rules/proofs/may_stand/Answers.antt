@@ -1,10 +1,6 @@
-use Rattle.prog_rules.proofs.Nesting.{may}
+use Rattle.prog_rules.proofs.Nesting.{may-test}
 use Rattle.prog_rules.proofs.may_stand.Goals as goal
-
-pub returns-then-g-x : goal.returns-then-g-x
-returns-then-g-x c =
-    search may
 
 pub returns : goal.returns
 returns c =
-    search may
+    may-test c.args.k c.args.g c.stands_in.result c.stands_in.ensures c.contains.result c.contains.ensures.value
