@@ -10,7 +10,7 @@ ghost use Rattle.lang_kinds.specs.Nesting.{statement_in, refused_in, stands_in, 
 
 use std::ops::Range;
 
-// The kinds of lines and statements.
+// The kinds of lines and statements. Numbers: words of lent tables, where any may stand, and which C reads.
 #[derive(Drop)]
 pub struct Kind {}
 
@@ -173,7 +173,7 @@ pub fn all_kinds() -> Kinds
     }
 }
 
-// The grounds.
+// The grounds. Numbers: a line stands on a range of them, and `stands_on` of specs/Standing is a law of any number.
 #[derive(Drop)]
 pub struct Ground {}
 
@@ -228,7 +228,7 @@ pub fn all_grounds() -> Grounds
     }
 }
 
-// The kinds of tokens.
+// The kinds of tokens. Numbers: words of the lent token table.
 #[derive(Drop)]
 pub struct Token {}
 

@@ -12,7 +12,7 @@ ghost use Rattle.lang_words.specs.Sections.{section_of, known_of};
 
 use base_limits::Machine;
 
-// The numbers of the words.
+// The numbers of the words, as the token table holds them: 0 is none, so that a row of zeros names no word.
 #[derive(Drop)]
 pub struct Word {}
 
@@ -130,7 +130,7 @@ impl Word {
     pub const PAST_WORDS: u32 = Word::DATA;
 }
 
-// The numbers of the substitutes.
+// The numbers of the substitutes, as the token table holds them.
 #[derive(Drop)]
 pub struct Substitutes {}
 
