@@ -15,7 +15,7 @@ ghost use Rattle.c_words.specs.Reply.{reply, unfit_number, refusal_words, stop_n
 use base_limits::{Machine, Pause, State};
 use vm_definitions::{Broken, Opening, Outcome, Resumed, Started};
 
-// The words of the lent record that are used.
+// Places of the words of the lent record that are used.
 #[derive(Drop)]
 pub struct RecordWord {}
 
@@ -41,7 +41,7 @@ impl RecordWord {
     pub const COUNT: usize = 16;
 }
 
-// The numbers of the states.
+// The numbers of the states, as C reads and writes them.
 #[derive(Drop)]
 pub struct StateNumber {}
 
@@ -55,7 +55,7 @@ impl StateNumber {
     pub const PAUSED: u32 = 4;
 }
 
-// What an answer says of the state.
+// What an answer says of the state, as C reads it.
 #[derive(Drop)]
 pub struct Flag {}
 

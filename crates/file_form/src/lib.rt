@@ -7,7 +7,7 @@ ghost use Rattle.file_codec.specs.Fields.{head_bytes, size_at, behind_at, is_who
 ghost use Rattle.file_codec.specs.Form.{field_good, behind_fields, statements_in, labels_in, data_in, counts_end, data_end, rows_end};
 ghost use Rattle.file_form.specs.Shape.{fits_of, place_of, is_within, form_of};
 
-// The tags.
+// The tags, as a file holds them.
 #[derive(Drop)]
 pub struct Tag {}
 

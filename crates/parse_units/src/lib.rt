@@ -42,7 +42,7 @@ impl Outline {
     pub const LABEL_WORDS: usize = Machine::LABELS * 4;
 }
 
-// The words of a row of the outline.
+// Places of the words of a row of the outline.
 #[derive(Drop)]
 pub struct OutlineRow {}
 

@@ -23,7 +23,7 @@ pub enum Operand {
     Unlisted,
 }
 
-// The tables.
+// Sizes of the tables.
 #[derive(Drop)]
 pub struct Table {}
 
@@ -81,7 +81,7 @@ pub fn all_sizes() -> Sizes
     }
 }
 
-// The words of a statement row.
+// Places of the words of a statement row: the table is words that the caller lends.
 #[derive(Drop)]
 pub struct StatementRow {}
 
@@ -118,7 +118,7 @@ impl StatementRow {
     pub const NEXT: usize = 10;
 }
 
-// The words of a label row.
+// Places of the words of a label row.
 #[derive(Drop)]
 pub struct LabelRow {}
 
@@ -132,7 +132,7 @@ impl LabelRow {
     pub const SIZE: usize = 3;
 }
 
-// The words of a label row of the outline.
+// Places of the words of a label row of the outline.
 #[derive(Drop)]
 pub struct OutlineLabel {}
 
@@ -145,6 +145,7 @@ impl OutlineLabel {
 }
 
 // Expression kinds: none, one operand alone, a call of a function, one of an imported function; an operator has its number among the words.
+// They stay numbers, as operand and label kinds do: words of lent tables, where any number may stand and gives 35.
 #[derive(Drop)]
 pub struct ExpressionKind {}
 
