@@ -3,18 +3,11 @@
 
 use base_limits::Machine;
 
-// An operand's word, or stop 32.
-#[derive(Drop)]
-pub enum Read {
-    Got(u32),
-    Bad,
-}
-
-// The value of an expression with the auto top behind it, or the number of the stop.
-#[derive(Drop)]
-pub enum Worked {
-    Value { word: u32, top: u32 },
-    Stop(u32),
+// The value of an expression, and the auto top behind it.
+#[derive(Clone, Copy, Debug, PartialEq, Eq)]
+pub struct Value {
+    pub word: u32,
+    pub top: u32,
 }
 
 // Where a return comes out: the run ends, or it goes on behind a call.

@@ -17,7 +17,6 @@ ghost use Rattle.vm_run.specs.Steps.{usable_size, plain_run_end, steps_in_frame,
 
 use base_limits::{Machine, State};
 use vm_definitions::{Broken, Outcome};
-use vm_quick_calls::Transfer;
 
 // Nothing happened, but perhaps a 35.
 fn give_back(r: Machine, b: Broken) -> Outcome
@@ -151,21 +150,16 @@ fn end_plain(
         t, c, l, lc, g, d, size, st, r.frame, r.used, m, r.next, r.top,
     );
     match y {
-        Transfer::To {
-            next,
-            frame,
-            used,
-            top,
-        } => Outcome {
-            machine: keep_running(r, next, frame, used, top),
+        Some(x) => Outcome {
+            machine: keep_running(r, x.next, x.frame, x.used, x.top),
             count: count + 1,
             broken: Broken::No,
         },
-        Transfer::Stays => {
+        None => {
             if 0 < count {
                 return Outcome {
                     machine: r,
-                    count: count,
+                    count,
                     broken: Broken::No,
                 };
             }
