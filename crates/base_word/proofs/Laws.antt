@@ -1,6 +1,5 @@
 -- What the proofs of this crate share.
 -- Assumes nothing.
-use mathlib.Core.Path.{subst⁻¹}
 use Rattle.std.proofs.Common.{ℕ, ◌+◌, ◌*◌, ◌^◌, ◌<◌, Bool, true, false, lt_of_le_of_lt, le_of_lt, mul-le-mul_left, mul-lt-mul_of_pos_right, arith, pow_pos, pow-add, le-ltb, lt-ltb, eq-eqb, ne_eqb, le-leb}
 use borrow.Author.Tests.{lt-leb}
 use Rattle.base_prelude.specs.Choice.{pick}

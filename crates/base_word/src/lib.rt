@@ -133,11 +133,7 @@ fn with_count(n: u32, r: u32) -> Result<u32, WordError>
 fn with_width(n: u32, near: u32, far: u32) -> Result<u32, WordError>
     ensures { result ≡ shifted 32 n near far }
 {
-    if n < 32 {
-        Ok(near)
-    } else {
-        with_count(n, far)
-    }
+    if n < 32 { Ok(near) } else { with_count(n, far) }
 }
 
 // How far a rotate moves, and a shift by less than the width.

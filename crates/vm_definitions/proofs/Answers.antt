@@ -1,9 +1,9 @@
 -- Small programs: what the definitions make of them.
 -- Assumes nothing.
 use mathlib.Core.Path.{◌≡◌, refl}
-use Prim.Native.Nat.{ℕ, zero, suc}
-use mathlib.Core.List.{List, [], ◌∷◌, ◌++◌}
-use lib.ListN.{length, replicate}
+use Prim.Native.Nat.{ℕ}
+use mathlib.Core.List.{List, [], ◌∷◌}
+use lib.ListN.{replicate}
 use Rattle.base_limits.specs.declared.Width.TheVariants.{Bits32, Bits16}
 use Rattle.base_limits.specs.declared.State.TheVariants.{Running, Finished, Stopped}
 use Rattle.prog_tables.specs.Label.{Tables, rows}

@@ -3,14 +3,13 @@
 use mathlib.Core.Path.{◌≡◌, refl, sym, ◌∙◌, ap, subst}
 use Prim.Native.Nat.{ℕ, zero, suc, ◌+◌, ◌<◌, ◌≤◌}
 use mathlib.Core.Bool.{Bool, true, false, not}
-use mathlib.Core.Option.{Option, none, some}
+use mathlib.Core.Option.{none}
 use mathlib.Core.List.{List, [], ◌∷◌}
-use native.Mathlib.Nat.{not-suc-le-zero}
 use native.Mathlib.Omega.{arith}
 use borrow.Author.Tests.{eqb-true, ltb-true, ltb-false}
 use lib.Dec.{eqb, ltb, leb}
 use lib.ListN.{get_or, length, take}
-use Rattle.base_prelude.specs.Choice.{pick, if_lt, if_eq, if_true}
+use Rattle.base_prelude.specs.Choice.{pick, if_eq}
 use Rattle.base_prelude.specs.Lists.{same_list}
 use Rattle.base_prelude.proofs.Choice.{true-false, either, either-eq, either_true, if_eq-no, if_true-yes, if_true-no}
 use Rattle.base_limits.specs.Limits.{parameters, stack_words}
@@ -32,12 +31,11 @@ use Rattle.vm_definitions.specs.Frames.{frame_words, top_at_entry}
 use Rattle.vm_definitions.specs.Broken.{start_broken}
 use Rattle.vm_definitions.specs.Step.{World}
 use Rattle.vm_definitions.specs.Start.{exports_as, export_of, started_function, start_answer, start_world, start_by, begun_by, start_of, start_leaves}
-use Rattle.vm_definitions.specs.Ledger.{Entry, Ledger}
 use Rattle.vm_definitions.specs.declared.Broken.{Broken}
 use Rattle.vm_definitions.specs.declared.Broken.TheVariants.{No, At, Somewhere}
 use Rattle.vm_definitions.specs.declared.Started.{Started}
 use Rattle.vm_definitions.specs.declared.Started.TheVariants.{Begun, Refused, Unsound}
-use Rattle.vm_definitions.proofs.Invariant.{FrameAt, FirstHead, Under, Invariant}
+use Rattle.vm_definitions.proofs.Invariant.{FrameAt, Under, Invariant}
 use Rattle.vm_definitions.proofs.Stores.{store_length, store_at}
 use Rattle.vm_definitions.proofs.Words.{memory_word, mark-word}
 use Rattle.vm_definitions.proofs.Places.{around-function}

@@ -3,20 +3,17 @@
 use Rattle.std.proofs.Common.{Err, Ok}
 use Rattle.vm_definitions.specs.Operands.{Worked, valued}
 use mathlib.Core.Path.{◌≡◌, refl, sym, ◌∙◌, ap, subst}
-use mathlib.Core.Bool.{Bool, true, false, not}
+use mathlib.Core.Bool.{Bool, true, false}
 use mathlib.Core.List.{List, [], ◌∷◌, ◌++◌, map}
-use Prim.Native.Nat.{ℕ, zero, suc, ◌+◌, ◌-◌, ◌*◌, ◌%◌, ◌<◌, ◌≤◌}
-use native.Mathlib.Decide.{ℕ_discrete, dec_lt}
+use Prim.Native.Nat.{ℕ, suc, ◌+◌, ◌-◌, ◌*◌, ◌<◌, ◌≤◌}
+use native.Mathlib.Decide.{ℕ_discrete}
 use native.Mathlib.Omega.{arith}
-use lib.Dec.{ltb, leb, eqb}
+use lib.Dec.{ltb, eqb}
 use lib.ListN.{get_or, length, take, get_or-map}
-use borrow.Author.Tests.{eqb-true, eq-eqb, ne_eqb, lt-ltb, ltb-true}
+use borrow.Author.Tests.{eqb-true, eq-eqb, ne_eqb, ltb-true}
 use Rattle.base_prelude.specs.Choice.{pick, if_lt, if_eq, if_true}
-use Rattle.base_prelude.proofs.Choice.{true-false, if_eq-yes, if_eq-no, if_lt-yes, if_lt-no, if_true-yes, if_true-no}
-use Rattle.base_limits.specs.Width.{bits_of, bytes_of}
+use Rattle.base_prelude.proofs.Choice.{true-false, if_eq-yes, if_eq-no, if_true-yes, if_true-no}
 use Rattle.base_limits.specs.declared.Width.{Width}
-use Rattle.base_limits.specs.declared.Machine.{Machine}
-use Rattle.base_word.specs.Bytes.{word_bytes}
 use Rattle.prog_tables.specs.Tests.{both, one_of}
 use Rattle.prog_tables.specs.Statement.{Row, has_expression, is_test, is_operator, is_call_expression, expression_uses, used_by, slots, operand_at, row_from, row_at}
 use Rattle.prog_tables.specs.Label.{Tables, rows}
@@ -27,12 +24,11 @@ use Rattle.prog_tables.proofs.CallRows.{expression-listed}
 use Rattle.prog_tables.specs.declared.Operand.{Operand}
 use Rattle.prog_tables.specs.declared.Operand.TheVariants.{Unlisted}
 use Rattle.vm_definitions.specs.Access.{byte_address, word_address, byte_good, word_good}
-use Rattle.vm_definitions.specs.Operands.{Words, words, bad, is_at, number_in, read_of, read_all, on_read}
-use Rattle.vm_definitions.specs.Expressions.{eval_of, operand_no, test_holds}
+use Rattle.vm_definitions.specs.Operands.{is_at, number_in, read_of, on_read}
+use Rattle.vm_definitions.specs.Expressions.{operand_no, test_holds}
 use Rattle.vm_definitions.specs.Frames.{is_return, is_calling, importing, resumption_of}
 use Rattle.vm_definitions.specs.Step.{World, Effect, stops, leaves, effect_stop, goes_to, keeps, stores, block_of, end_block_of, test_of, worked_of, assigned, assigned_at, set_at_of, set_byte_by, set_word_by, arguments_of, call_by, call_of, tail_call_by, handed_by, returned, return_of, effect_of}
 use Rattle.vm_definitions.specs.Causes.{cause_of, first_of, touched, word_of, with_frame, behind_operands, reads_of, meetings_of, first_cause}
-use Rattle.vm_definitions.specs.declared.Resumption.{Resumption}
 use Rattle.vm_definitions.proofs.Importing.{calls_by, plain-calls, plain-calling, plain-return, no-import}
 use Rattle.vm_definitions.proofs.Operators.{stop_in, next, first-here, first-later, first_one, word_good_lem, word-bad, read-cause, all-cause, eval-cause}
 use Rattle.vm_definitions.specs.Operators.{Meeting, word_at, byte_at, stacks_to, operators, line_in, operator_of, operator_meets}

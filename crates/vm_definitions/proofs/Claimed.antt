@@ -2,20 +2,19 @@
 -- Assumes nothing.
 use mathlib.Core.Path.{◌≡◌, refl, sym, ◌∙◌, ap, subst}
 use mathlib.Core.Bool.{Bool, true, false}
-use mathlib.Core.Option.{Option, none, some}
+use mathlib.Core.Option.{none}
 use mathlib.Core.List.{List, [], ◌∷◌, ◌++◌}
-use Prim.Native.Nat.{ℕ, zero, suc, ◌+◌, ◌≤◌, ◌<◌}
+use Prim.Native.Nat.{ℕ, zero, suc, ◌≤◌, ◌<◌}
 use native.Mathlib.Decide.{ℕ_discrete}
 use native.Mathlib.Omega.{arith}
 use lib.ListN.{length}
-use Rattle.base_prelude.specs.Choice.{if_eq, if_true}
+use Rattle.base_prelude.specs.Choice.{if_true}
 use Rattle.base_prelude.proofs.Choice.{if_eq-yes, if_eq-no, true-false, either_true}
 use Rattle.base_limits.specs.Width.{memory_limit}
 use Rattle.base_limits.specs.declared.Width.{Width}
 use Rattle.base_limits.specs.declared.State.{State}
 use Rattle.base_limits.specs.declared.State.TheVariants.{Running, Finished, Stopped, Paused}
 use Rattle.base_limits.specs.declared.Pause.{Pause}
-use Rattle.base_limits.specs.declared.Machine.{Machine}
 use Rattle.base_limits.specs.Record.{stopped, with_state}
 use Rattle.prog_tables.specs.Tests.{both}
 use Rattle.prog_tables.proofs.Each.{both_left, both_right, both_true, one-no, one-rest}
@@ -24,13 +23,13 @@ use Rattle.prog_tables.specs.Program.{program_from}
 use Rattle.vm_definitions.specs.Step.{World, Effect, stops, leaves, effect_of, address_of, After, idle, effected, guarded, in_state_of, step_of, counting, run_of, handed_in, Continued, on_pause, resume_of}
 use Rattle.vm_definitions.specs.Access.{word_good}
 use Rattle.vm_definitions.specs.Broken.{resume_broken}
-use Rattle.vm_definitions.specs.Start.{start_of, start_leaves, start_by, start_answer, start_world, started_function, begun_by}
+use Rattle.vm_definitions.specs.Start.{start_of, start_leaves, start_by, start_answer, started_function, begun_by}
 use Rattle.vm_definitions.specs.Causes.{arguments_read}
-use Rattle.vm_definitions.specs.Ledger.{Event, started, counted, Entry, Ledger, fed, counted_in, ledger_of, sum_of, last_of}
+use Rattle.vm_definitions.specs.Ledger.{Event, counted, Entry, Ledger, fed, counted_in, ledger_of, sum_of}
 use Rattle.vm_definitions.specs.Play.{Call, start, step, run, resume, Invocation, CallResult, events_of, resume_events, start_events, start_broke, called_on, invoked_on, world_after, events_after, refusals_after}
-use Rattle.vm_definitions.specs.Claim.{running_with, cause_in, Listed, at_import, pause_in, paused_as, is_stopped, is_paused, is_held, stopped_by, with_memory, StopSound, StepSound, ResumeSound, PauseSound, stack_full, StateSound, is_finished, Sound, stop_memory_in, stop_memory, AllLong, NoneBroken, started_by, Demand}
+use Rattle.vm_definitions.specs.Claim.{running_with, cause_in, at_import, pause_in, paused_as, is_stopped, is_paused, is_held, stopped_by, with_memory, StepSound, ResumeSound, PauseSound, StateSound, is_finished, Sound, stop_memory_in, stop_memory, AllLong, NoneBroken, started_by, Demand}
 use Rattle.vm_definitions.specs.declared.Broken.{Broken}
-use Rattle.vm_definitions.specs.declared.Broken.TheVariants.{No, At, Somewhere}
+use Rattle.vm_definitions.specs.declared.Broken.TheVariants.{No}
 use Rattle.vm_definitions.specs.declared.Started.{Started}
 use Rattle.vm_definitions.specs.declared.Started.TheVariants.{Begun, Refused, Unsound}
 use Rattle.vm_definitions.proofs.Invariant.{FrameAt, Under, Invariant}

@@ -31,16 +31,16 @@ use Rattle.prog_tables.specs.WellFormed.{WellFormed}
 use Rattle.prog_tables.proofs.Sound.{kind-sound}
 use Rattle.prog_tables.proofs.Whole.{row-sound}
 use Rattle.prog_tables.proofs.Unbroken.{tables-sound}
-use Rattle.vm_definitions.specs.Step.{World, Effect, stops, leaves, effect_stop, effect_of, address_of, pausing, handed_in}
+use Rattle.vm_definitions.specs.Step.{World, stops, leaves, effect_stop, effect_of, address_of, pausing, handed_in}
 use Rattle.vm_definitions.specs.Access.{word_good}
 use Rattle.vm_definitions.specs.Frames.{importing}
 use Rattle.vm_definitions.specs.Causes.{arguments_read}
-use Rattle.vm_definitions.specs.Broken.{lowest, or_else, numbers_below, start_broken}
+use Rattle.vm_definitions.specs.Broken.{or_else, numbers_below, start_broken}
 use Rattle.vm_definitions.specs.Start.{start_of, start_by, start_answer, start_leaves, start_world, begun_by, started_function}
 use Rattle.vm_definitions.specs.Ledger.{Entry, Ledger, sum_of, last_of, counted_in}
 use Rattle.vm_definitions.specs.Claim.{cause_in, pause_in, paused_as, stopped_by, Demand}
 use Rattle.vm_definitions.specs.declared.Broken.{Broken}
-use Rattle.vm_definitions.specs.declared.Broken.TheVariants.{No, At, Somewhere}
+use Rattle.vm_definitions.specs.declared.Broken.TheVariants.{No, Somewhere}
 use Rattle.vm_definitions.specs.declared.Started.{Started}
 use Rattle.vm_definitions.specs.declared.Started.TheVariants.{Begun, Refused, Unsound}
 use Rattle.vm_definitions.proofs.Invariant.{Invariant}

@@ -2,31 +2,28 @@
 -- Assumes nothing.
 use Rattle.std.proofs.Common.{Err, None, Ok, Option, Some}
 use Rattle.vm_definitions.specs.Operands.{Worked, valued}
-use mathlib.Core.Path.{◌≡◌, refl, sym, ◌∙◌, ap, subst}
-use Prim.Native.Nat.{ℕ, zero, suc, ◌+◌, ◌*◌, ◌%◌, ◌<◌, ◌≤◌}
-use mathlib.Core.Bool.{Bool, true, false}
-use mathlib.Core.List.{List, [], ◌∷◌}
+use mathlib.Core.Path.{◌≡◌, refl}
+use Prim.Native.Nat.{ℕ, ◌+◌, ◌*◌, ◌<◌}
+use mathlib.Core.List.{List}
 use native.Mathlib.Omega.{arith}
 use lib.ListN.{get_or, length}
-use Rattle.base_prelude.specs.Choice.{if_lt, if_eq, if_true}
+use Rattle.base_prelude.specs.Choice.{if_eq}
 use Rattle.base_prelude.proofs.Choice.{either, either-eq, either_true}
 use Rattle.base_limits.specs.Width.{bits_of, bytes_of}
 use Rattle.base_limits.specs.declared.Width.{Width}
-use Rattle.base_limits.specs.Record.{going_on, moved_to, ended}
+use Rattle.base_limits.specs.Record.{going_on, moved_to}
 use Rattle.lang_words.specs.Words.{least_operands}
-use Rattle.base_word.specs.Bytes.{word_bytes}
 use Rattle.base_word.specs.Word.{div_of, mod_of, shl_of, shr_of, bsr_of, asr_of, rol_of, ror_of}
 use Rattle.base_word.specs.Word.{Answer}
 use Rattle.base_word.specs.declared.WordError.TheVariants.{Division, Shift}
 use Rattle.prog_tables.specs.Layout.{plain, no_expression}
-use Rattle.prog_tables.specs.Statement.{Row, is_test}
+use Rattle.prog_tables.specs.Statement.{Row}
 use Rattle.prog_tables.specs.Program.{Program}
 use Rattle.prog_tables.specs.declared.Operand.{Operand}
-use Rattle.vm_definitions.specs.Access.{byte_address, word_address, byte_good, word_good, store_from}
-use Rattle.vm_definitions.specs.Operands.{Words, words, bad, number_in, fetch_of, read_of, on_read}
-use Rattle.vm_definitions.specs.Expressions.{eval_of, operand_no, test_holds}
-use Rattle.vm_definitions.specs.Frames.{is_return, is_calling, resumption_of}
-use Rattle.vm_definitions.specs.Step.{World, Effect, stops, leaves, goes_to, keeps, stores, block_of, end_block_of, test_of, worked_of, assigned, assigned_at, address_of, set_at_of, set_byte_by, set_word_by, arguments_of, call_by, call_of, tail_call_by, handed_to, handed_by, returned, return_of, row_of, effect_of}
+use Rattle.vm_definitions.specs.Access.{byte_address, word_address, byte_good}
+use Rattle.vm_definitions.specs.Operands.{Words, words, bad, fetch_of, read_of, on_read}
+use Rattle.vm_definitions.specs.Expressions.{eval_of, operand_no}
+use Rattle.vm_definitions.specs.Step.{World, Effect, stops, leaves, goes_to, keeps, stores, block_of, end_block_of, test_of, worked_of, assigned, assigned_at, set_at_of, set_byte_by, set_word_by, call_by, call_of, tail_call_by, handed_to, handed_by, returned, return_of}
 use Rattle.vm_definitions.specs.declared.Resumption.{Resumption}
 use Rattle.vm_definitions.specs.declared.Resumption.TheVariants.{Ends, Caller}
 use Rattle.vm_definitions.proofs.Stores.{store_length}

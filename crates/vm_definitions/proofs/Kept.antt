@@ -4,24 +4,22 @@ use Rattle.std.proofs.Common.{Err, None, Ok, Option, Some}
 use Rattle.vm_definitions.specs.Operands.{Worked, valued}
 use mathlib.Core.Path.{◌≡◌, refl, sym, ◌∙◌, ap, subst}
 use Prim.Native.Nat.{ℕ, zero, suc, ◌+◌, ◌*◌, ◌%◌, ◌<◌, ◌≤◌}
-use mathlib.Core.Bool.{Bool, true, false}
+use mathlib.Core.Bool.{true}
 use mathlib.Core.List.{List, [], ◌∷◌}
-use native.Mathlib.Decide.{ℕ_discrete}
 use native.Mathlib.Omega.{arith}
-use lib.Dec.{eqb, ltb}
+use lib.Dec.{eqb}
 use lib.ListN.{get_or, length, replicate}
-use Rattle.base_prelude.specs.Choice.{if_lt, if_eq, if_true}
-use Rattle.base_prelude.proofs.Choice.{true-false, either, either-eq, either_true, if_true-yes}
+use Rattle.base_prelude.specs.Choice.{if_eq}
+use Rattle.base_prelude.proofs.Choice.{either, either-eq, either_true, if_true-yes}
 use Rattle.base_limits.specs.Width.{bits_of, bytes_of}
 use Rattle.base_limits.specs.declared.Width.{Width}
-use Rattle.base_limits.specs.Record.{going_on}
 use Rattle.lang_words.specs.Words.{least_operands}
 use Rattle.base_word.specs.Bytes.{word_bytes}
 use Rattle.base_word.specs.Word.{add_of, sub_of, mul_of, div_of, mod_of, and_of, or_of, xor_of, not_of, shl_of, shr_of, bsr_of, asr_of, rol_of, ror_of}
 use Rattle.base_word.specs.Word.{Answer}
 use Rattle.base_word.specs.declared.WordError.TheVariants.{Division, Shift}
 use Rattle.prog_tables.specs.Layout.{plain}
-use Rattle.prog_tables.specs.Statement.{Row, is_test}
+use Rattle.prog_tables.specs.Statement.{is_test}
 use Rattle.prog_tables.specs.Label.{Tables, rows}
 use Rattle.prog_tables.specs.Program.{program_from}
 use Rattle.prog_tables.specs.Nesting.{encloses, has_target}
@@ -33,13 +31,13 @@ use Rattle.prog_laws.proofs.Next.{next-in, next-other, next-block, next-end-bloc
 use Rattle.prog_laws.proofs.Targets.{goto-target, target-scope}
 use Rattle.prog_laws.proofs.Words.{around-self, frame-shallow, block-low, block_within, end-facts, Apart, destination-apart}
 use Rattle.vm_definitions.specs.Access.{byte_address, word_address, byte_good, word_good, store_from}
-use Rattle.vm_definitions.specs.Operands.{Words, words, bad, number_in, fetch_of, read_of, read_all, on_read}
+use Rattle.vm_definitions.specs.Operands.{Words, words, bad, fetch_of, read_of, on_read}
 use Rattle.vm_definitions.specs.Expressions.{eval_of, operand_no, test_holds}
 use Rattle.vm_definitions.specs.Step.{World, Effect, stops, leaves, goes_to, keeps, stores, block_of, end_block_of, test_of, worked_of, assigned, assigned_at, address_of, set_at_of, set_byte_by, set_word_by}
 use Rattle.vm_definitions.specs.Ledger.{Entry, Ledger}
-use Rattle.vm_definitions.proofs.Invariant.{FrameAt, Under, Invariant}
+use Rattle.vm_definitions.proofs.Invariant.{FrameAt, Invariant}
 use Rattle.vm_definitions.proofs.Stores.{set_other, store_length, store-before, store_at, store-most, zeros-most}
-use Rattle.vm_definitions.proofs.Carried.{Agree, frame-to, kept}
+use Rattle.vm_definitions.proofs.Carried.{frame-to, kept}
 use Rattle.vm_definitions.proofs.Words.{memory_word}
 use Rattle.vm_definitions.proofs.Places.{target-inside, goto-inside, around-cases, around-more, around-outside}
 use Rattle.vm_definitions.specs.Operators.{Operator, operators, round_up, reserved, answered, fetched, byte_of, applied}

@@ -3,13 +3,13 @@
 use Rattle.std.proofs.Common.{Err, None, Ok, Option, Some}
 use Rattle.vm_definitions.specs.Operands.{Worked, valued}
 use mathlib.Core.Path.{◌≡◌, refl, sym, ◌∙◌, ap, subst}
-use mathlib.Core.Bool.{Bool, true, false, not}
+use mathlib.Core.Bool.{Bool, true, false}
 use mathlib.Core.List.{List, [], ◌∷◌, ◌++◌, map}
-use Prim.Native.Nat.{ℕ, zero, suc, ◌+◌, ◌-◌, ◌*◌, ◌^◌, ◌<◌, ◌≤◌}
+use Prim.Native.Nat.{ℕ, suc, ◌+◌, ◌-◌, ◌*◌, ◌^◌, ◌<◌, ◌≤◌}
 use native.Mathlib.Decide.{ℕ_discrete, dec_lt}
 use native.Mathlib.Omega.{arith}
-use lib.Dec.{ltb, leb, eqb}
-use lib.ListN.{get_or, length, take}
+use lib.Dec.{ltb, eqb}
+use lib.ListN.{length, take}
 use borrow.Author.Tests.{eqb-true, ne_eqb, lt-ltb, ltb-true}
 use Rattle.base_prelude.specs.Choice.{pick, if_lt, if_eq, if_true}
 use Rattle.base_prelude.proofs.Choice.{true-false, if_eq-yes, if_eq-no, if_lt-yes, if_lt-no, if_true-yes, if_true-no}
@@ -20,7 +20,6 @@ use Rattle.lang_words.specs.Words.{least_operands}
 use Rattle.base_word.specs.Word as word
 use Rattle.base_word.specs.Word.{Answer}
 use Rattle.base_word.specs.declared.WordError.TheVariants.{Division, Shift}
-use Rattle.prog_tables.specs.Layout.{plain}
 use Rattle.prog_tables.specs.Tests.{both, one_of, all_below}
 use Rattle.prog_tables.specs.Statement.{is_operator, is_call_expression, expression_uses}
 use Rattle.prog_tables.specs.Faults.{expression_listed}
@@ -32,7 +31,7 @@ use Rattle.vm_definitions.specs.Operands.{Words, words, bad, is_at, number_in, f
 use Rattle.vm_definitions.specs.Expressions.{operand_no, eval_of}
 use Rattle.vm_definitions.specs.Causes.{cause_of, first_of, touched, word_of}
 use Rattle.vm_definitions.proofs.OperatorTable.{Every, each-operator}
-use Rattle.vm_definitions.specs.Operators.{Operator, operators, line_in, operator_of, round_up, reserved, answered, fetched, byte_of, applied, Meeting, word_at, byte_at, divides, leaves_over, shifts_by, reserves_to, stacks_to, operator_meets}
+use Rattle.vm_definitions.specs.Operators.{Operator, operators, line_in, operator_of, round_up, reserved, answered, fetched, byte_of, applied, Meeting, word_at, byte_at, divides, leaves_over, shifts_by, reserves_to, operator_meets}
 
 -- the number of a stop, 0 without one
 unfoldable pub stop_in : Worked → ℕ

@@ -6,14 +6,12 @@ use Rattle.vm_definitions.specs.Operands.{Worked, valued}
 use mathlib.Core.Bool.{true, false}
 use mathlib.Core.List.{List, [], ◌∷◌}
 use Prim.Native.Nat.{ℕ}
-use Rattle.base_prelude.specs.Choice.{if_lt, if_eq, if_true}
 use Rattle.base_prelude.proofs.Choice.{either, either-eq, either_true}
 use Rattle.base_limits.specs.Record.{going_on, moved_to, ended, pause_of}
 use Rattle.base_limits.specs.declared.Width.{Width}
 use Rattle.base_limits.specs.declared.State.{State}
 use Rattle.base_limits.specs.declared.State.TheVariants.{Running, Finished, Stopped, Paused}
 use Rattle.base_limits.specs.declared.Machine.{Machine}
-use Rattle.base_word.specs.Word.{stop_of}
 use Rattle.base_word.specs.Word.{Answer}
 use Rattle.base_word.specs.declared.WordError.TheVariants.{Division, Shift}
 use Rattle.prog_tables.specs.Statement.{Row}

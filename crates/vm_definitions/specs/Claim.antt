@@ -10,7 +10,7 @@ use Rattle.prog_tables.specs.Tests.{both, one_of}
 use Rattle.prog_tables.specs.declared.Operand.{Operand}
 use Rattle.prog_tables.specs.Program.{Program}
 use Rattle.vm_definitions.specs.Frames.{importing}
-use Rattle.vm_definitions.specs.Step.{World, After, step_of, Continued, resume_of}
+use Rattle.vm_definitions.specs.Step.{World, After, step_of, resume_of}
 use Rattle.vm_definitions.specs.Start.{start_of}
 use Rattle.vm_definitions.specs.Causes.{word_of, first_cause, arguments_read, passes_stack}
 use Rattle.vm_definitions.specs.Ledger.{Ledger, ledger_of, sum_of, last_of}

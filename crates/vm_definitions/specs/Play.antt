@@ -1,13 +1,13 @@
 -- Any list of starts, steps, runs and goings on: "between calls the memory's bytes may become anything, its length stays".
 -- Assumes nothing.
-use Rattle.std.specs.Prelude.{ℕ, zero, suc, Bool, true, false, List, [], ◌∷◌, ◌++◌}
+use Rattle.std.specs.Prelude.{ℕ, zero, suc, Bool, false, List, [], ◌∷◌, ◌++◌}
 use Rattle.base_prelude.specs.Choice.{if_eq}
 use Rattle.prog_tables.specs.Program.{Program}
-use Rattle.vm_definitions.specs.Step.{World, After, step_of, run_of, Continued, resume_of}
+use Rattle.vm_definitions.specs.Step.{World, step_of, run_of, resume_of}
 use Rattle.vm_definitions.specs.Start.{start_of, start_leaves, started_function}
 use Rattle.vm_definitions.specs.Ledger.{Event, started, counted}
 use Rattle.vm_definitions.specs.declared.Broken.{Broken}
-use Rattle.vm_definitions.specs.declared.Broken.TheVariants.{No, At, Somewhere}
+use Rattle.vm_definitions.specs.declared.Broken.TheVariants.{No}
 use Rattle.vm_definitions.specs.declared.Started.{Started}
 use Rattle.vm_definitions.specs.declared.Started.TheVariants.{Begun, Refused, Unsound}
 

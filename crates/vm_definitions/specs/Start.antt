@@ -1,6 +1,6 @@
 -- Start: "Start order: 35, 20, 21, 22, 23. [..] A refused start changes nothing."
 -- Assumes nothing.
-use Rattle.std.specs.Prelude.{ℕ, suc, Bool, List, [], ◌∷◌, ltb, eqb, length, take}
+use Rattle.std.specs.Prelude.{ℕ, suc, Bool, List, ltb, eqb, length, take}
 use Rattle.base_prelude.specs.Choice.{if_lt, if_eq, if_true}
 use Rattle.base_prelude.specs.Lists.{same_list}
 use Rattle.base_limits.specs.Limits.{stack_words}

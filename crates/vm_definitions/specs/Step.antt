@@ -3,7 +3,7 @@
 -- Assumes nothing.
 use Rattle.std.specs.Prelude.{Err, Ok}
 use Rattle.vm_definitions.specs.Operands.{Worked, valued}
-use Rattle.std.specs.Prelude.{ℕ, zero, suc, ◌+◌, ◌*◌, ◌%◌, Bool, true, false, List, [], ◌∷◌, ltb, eqb, get_or, length, set, replicate}
+use Rattle.std.specs.Prelude.{ℕ, zero, suc, ◌+◌, ◌%◌, Bool, true, false, List, [], ◌∷◌, get_or, length, set, replicate}
 use Rattle.base_prelude.specs.Choice.{if_lt, if_eq, if_true}
 use Rattle.base_limits.specs.Width.{bytes_of}
 use Rattle.base_limits.specs.declared.Width.{Width}
@@ -14,7 +14,6 @@ use Rattle.base_limits.specs.Record.{going_on, moved_to, ended, stopped, with_st
 use Rattle.base_word.specs.Bytes.{word_bytes}
 use Rattle.lang_kinds.specs.Kinds as kind
 use Rattle.prog_tables.specs.Layout.{no_expression}
-use Rattle.prog_tables.specs.Tests.{both}
 use Rattle.prog_tables.specs.Statement.{Row, is_test}
 use Rattle.prog_tables.specs.Program.{Program}
 use Rattle.vm_definitions.specs.Access.{as_word, byte_address, word_address, byte_good, word_good, store_from}

@@ -15,7 +15,7 @@ use base_word::WordError;
 use lang_kinds::Kind;
 use lang_words::Word as Operator;
 use prog_tables::{ExpressionKind, Operand};
-use vm_definitions::{Value};
+use vm_definitions::Value;
 
 // The address of a byte: base and offset.
 pub fn byte_address(b: u32, o: u32) -> u32
@@ -205,7 +205,15 @@ fn least_operands(e: u32) -> u32
 }
 
 // An expression of kind e over operands a and b.
-pub fn eval(e: u32, a: Operand, b: Operand, st: &[u32], s: u32, m: &[u8], top: u32) -> Result<Value, u32>
+pub fn eval(
+    e: u32,
+    a: Operand,
+    b: Operand,
+    st: &[u32],
+    s: u32,
+    m: &[u8],
+    top: u32,
+) -> Result<Value, u32>
     requires { length m.now ≤ memory_bytes }
     ensures { result ≡ eval_of Bits32 st.now s m.now top e (a ∷ b ∷ []) }
 {

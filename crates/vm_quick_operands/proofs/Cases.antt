@@ -2,17 +2,13 @@
 -- Assumes nothing.
 use Rattle.std.proofs.Common.{Err, None, Option, Some}
 use Rattle.vm_definitions.specs.Operands.{Worked, valued}
-use mathlib.Core.Path.{◌≡◌, refl, sym, ◌∙◌, ap}
-use mathlib.Core.Bool.{Bool, true, false}
+use mathlib.Core.Path.{◌≡◌}
 use mathlib.Core.List.{List}
 use Prim.Native.Nat.{ℕ, ◌+◌, ◌*◌, ◌<◌, ◌≤◌}
-use native.Mathlib.Omega.{arith}
-use lib.ListN.{length, get_or}
-use lib.Dec.{eqb, ltb, leb}
-use borrow.Author.Tests.{eq-eqb, ne_eqb, lt-ltb, le-ltb, le-leb, lt-leb}
+use lib.ListN.{get_or}
+use borrow.Author.Tests.{ne_eqb, lt-ltb, le-ltb, le-leb, lt-leb}
 use Rattle.base_prelude.specs.Choice.{if_lt, if_eq, if_true}
 use Rattle.base_limits.specs.declared.Width.TheVariants.{Bits32}
-use Rattle.prog_tables.specs.Layout.{plain}
 use Rattle.prog_tables.specs.Statement.{expression_uses, operand_of, operand_at, row_from, row_at}
 use Rattle.prog_tables.specs.Faults.{operand_fault}
 use Rattle.vm_definitions.specs.Operands.{is_at, number_in, fetch_of, read_of, on_read}

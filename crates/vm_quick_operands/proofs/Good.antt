@@ -2,20 +2,18 @@
 -- Assumes nothing.
 use Rattle.std.proofs.Common.{Err, None, Option, Some}
 use Rattle.vm_definitions.specs.Operands.{Worked, valued}
-use mathlib.Core.Path.{◌≡◌, refl, sym, ◌∙◌, ap}
-use mathlib.Core.Bool.{Bool, true, false, not}
-use mathlib.Core.List.{List, [], ◌∷◌}
-use Prim.Native.Nat.{ℕ, zero, suc, ◌+◌, ◌*◌, ◌<◌, ◌≤◌}
-use native.Mathlib.Decide.{ℕ_discrete}
+use mathlib.Core.Path.{◌≡◌, refl, sym, ◌∙◌}
+use mathlib.Core.Bool.{Bool, true, false}
+use mathlib.Core.List.{List}
+use Prim.Native.Nat.{ℕ, suc, ◌+◌, ◌<◌, ◌≤◌}
 use native.Mathlib.Omega.{arith}
-use lib.ListN.{length, get_or, take}
-use lib.Dec.{eqb, ltb, leb}
-use borrow.Author.Tests.{eq-eqb, ne_eqb, lt-ltb, le-ltb, le-leb, lt-leb}
+use lib.ListN.{get_or, take}
+use borrow.Author.Tests.{ne_eqb, lt-ltb, le-ltb}
 use Rattle.base_prelude.specs.Choice.{if_lt, if_eq, if_true}
 use Rattle.base_prelude.proofs.Choice.{true-false, either, either-eq}
 use Rattle.base_limits.specs.declared.Width.TheVariants.{Bits32}
-use Rattle.prog_tables.specs.Tests.{both, one_of, some, some_of}
-use Rattle.prog_tables.specs.Statement.{Row, has_expression, is_test, is_operator, is_call, is_import, is_call_expression, expression_uses, used_by, operand_at, slots, row_from, row_at}
+use Rattle.prog_tables.specs.Tests.{some, some_of}
+use Rattle.prog_tables.specs.Statement.{Row, has_expression, is_test, is_operator, is_call_expression, expression_uses, used_by, operand_at, slots, row_from, row_at}
 use Rattle.prog_tables.specs.Program.{Program, lent_program}
 use Rattle.prog_tables.specs.Nesting.{is_listed, has_target}
 use Rattle.prog_tables.specs.Faults.{expression_listed, in_function, size_at, operand_fault, kind_fault, target_fault, function_fault, import_fault, callee_fault, size_fault, has_word, word_fault, operands_fault, address_fault, row_fault}

@@ -10,7 +10,7 @@ ghost use Rattle.vm_quick_operands.specs.Fast.{good_read, one_read, two_read, go
 
 use lang_kinds::Kind;
 use prog_tables::{ExpressionKind, OperandKind, Table};
-use vm_definitions::{Value};
+use vm_definitions::Value;
 
 // Word v of the frame at s.
 pub fn local(st: &[u32], s: u32, v: u32) -> u32
@@ -67,7 +67,15 @@ pub fn read_first(t: &[u32], n: u32, d: u32, size: u32, st: &[u32], s: u32, m: &
 }
 
 // That of the second.
-pub fn read_second(t: &[u32], n: u32, d: u32, size: u32, st: &[u32], s: u32, m: &[u8]) -> Option<u32>
+pub fn read_second(
+    t: &[u32],
+    n: u32,
+    d: u32,
+    size: u32,
+    st: &[u32],
+    s: u32,
+    m: &[u8],
+) -> Option<u32>
     requires { (place_of n + statement_row ≤ length t.now) × (s + size ≤ length st.now) }
     ensures { result ≡ good_read size d st.now s m.now (operand_at t.now (second_place (place_of n))) }
 {
@@ -83,7 +91,15 @@ pub fn read_third(t: &[u32], n: u32, d: u32, size: u32, st: &[u32], s: u32, m: &
 }
 
 // That of the address operand.
-pub fn read_address(t: &[u32], n: u32, d: u32, size: u32, st: &[u32], s: u32, m: &[u8]) -> Option<u32>
+pub fn read_address(
+    t: &[u32],
+    n: u32,
+    d: u32,
+    size: u32,
+    st: &[u32],
+    s: u32,
+    m: &[u8],
+) -> Option<u32>
     requires { (place_of n + statement_row ≤ length t.now) × (s + size ≤ length st.now) }
     ensures { result ≡ good_read size d st.now s m.now (operand_at t.now (address_place (place_of n))) }
 {
@@ -91,7 +107,16 @@ pub fn read_address(t: &[u32], n: u32, d: u32, size: u32, st: &[u32], s: u32, m:
 }
 
 // That of operand i.
-pub fn read_slot(t: &[u32], n: u32, i: u32, d: u32, size: u32, st: &[u32], s: u32, m: &[u8]) -> Option<u32>
+pub fn read_slot(
+    t: &[u32],
+    n: u32,
+    i: u32,
+    d: u32,
+    size: u32,
+    st: &[u32],
+    s: u32,
+    m: &[u8],
+) -> Option<u32>
     requires { (place_of n + statement_row ≤ length t.now) × (i < operand_slots) × (s + size ≤ length st.now) }
     ensures { result ≡ good_read size d st.now s m.now (slot_at t.now n i) }
 {
@@ -147,7 +172,16 @@ fn work_two(
 }
 
 // The expression of row n, where it is no call.
-pub fn work(t: &[u32], n: u32, d: u32, size: u32, st: &[u32], s: u32, m: &[u8], top: u32) -> Result<Value, u32>
+pub fn work(
+    t: &[u32],
+    n: u32,
+    d: u32,
+    size: u32,
+    st: &[u32],
+    s: u32,
+    m: &[u8],
+    top: u32,
+) -> Result<Value, u32>
     requires { (place_of n + statement_row ≤ length t.now) × (s + size ≤ length st.now) × (length m.now ≤ memory_bytes) }
     ensures { result ≡ good_work t.now (place_of n) size d st.now s m.now top }
 {
