@@ -1,6 +1,6 @@
 -- Numbers and answers as they stand in a case file, computed from their definitions.
 -- Assumes nothing.
-use Rattle.std.proofs.Common.{◌≡◌, ℕ, Bool, true, false, List, [], ◌∷◌, refl}
+use Rattle.std.proofs.Common.{◌≡◌, ℕ, Bool, true, false, List, [], ◌∷◌, refl, Err}
 use Rattle.base_prelude.specs.Choice.{if_lt, if_eq, if_true}
 use Rattle.base_prelude.specs.Bytes.{byte_at}
 use Rattle.base_prelude.specs.Walk.{walk}
@@ -9,7 +9,7 @@ use Rattle.base_limits.specs.declared.State.TheVariants.{Running, Finished, Stop
 use Rattle.base_limits.specs.Record.{of_parts, pause_of, eight_words, paused_words}
 use Rattle.vm_definitions.specs.declared.Broken.{Broken}
 use Rattle.vm_definitions.specs.declared.Broken.TheVariants.{No, At, Somewhere}
-use Rattle.vm_definitions.specs.declared.Started.TheVariants.{Refused}
+use Rattle.vm_definitions.specs.declared.StartError.TheVariants.{Refused}
 use Rattle.vm_definitions.specs.declared.Outcome.{Outcome}
 use Rattle.vm_definitions.specs.declared.Resumed.{Resumed}
 use Rattle.app_page.specs.Bytes.{digits_within, decimal, field}
@@ -24,7 +24,7 @@ outcome state count broken =
     record { machine = of_parts state 1 0 6 4; count = count; broken = broken }
 
 -- `refused 23`
-refused-23 : started_bytes (Refused 23) ≡ 114 ∷ 101 ∷ 102 ∷ 117 ∷ 115 ∷ 101 ∷ 100 ∷ 32 ∷ 50 ∷ 51 ∷ []
+refused-23 : started_bytes (Err (Refused 23)) ≡ 114 ∷ 101 ∷ 102 ∷ 117 ∷ 115 ∷ 101 ∷ 100 ∷ 32 ∷ 50 ∷ 51 ∷ []
 unfolding if_lt digits_within decimal field started_bytes
 refused-23 = refl
 

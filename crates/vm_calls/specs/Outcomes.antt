@@ -17,11 +17,16 @@ use Rattle.vm_definitions.specs.Step.{World, Effect, After, effected, worked_of,
 use Rattle.vm_definitions.specs.Access.{word_good}
 use Rattle.vm_definitions.specs.Lent.{world}
 use Rattle.vm_definitions.specs.declared.Outcome.{Outcome}
+use Rattle.vm_definitions.specs.declared.Broken.{Broken}
 use Rattle.vm_definitions.specs.declared.Broken.TheVariants.{No}
 
 -- a statement that took effect leaves this record
 abbrev pub one_step : Machine → Outcome
 one_step q = record { machine = q; count = 1; broken = No }
+
+-- nothing happened, but perhaps a 35
+abbrev pub given_back : Machine → Broken → Outcome
+given_back r b = record { machine = r; count = 0; broken = b }
 
 -- a statement that stopped
 abbrev pub halted : Machine → ℕ → Outcome

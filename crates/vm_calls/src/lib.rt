@@ -14,7 +14,7 @@ ghost use Rattle.vm_definitions.specs.Step.{worked_of};
 ghost use Rattle.vm_definitions.specs.Lent.{world, left};
 ghost use Rattle.prog_tables.specs.Layout.{operand_slots};
 ghost use Rattle.prog_tables.specs.Places.{place_of};
-ghost use Rattle.vm_calls.specs.Outcomes.{one_step, halted, after, calling, calling_with, at_calling, tail_calling, tail_calling_with, handing, handing_to, slot_read, words_in, words_given, Expressed, Calls};
+ghost use Rattle.vm_calls.specs.Outcomes.{one_step, given_back, halted, after, calling, calling_with, at_calling, tail_calling, tail_calling_with, handing, handing_to, slot_read, words_in, words_given, Expressed, Calls};
 
 use base_limits::Machine;
 use lang_kinds::Kind;
@@ -46,15 +46,22 @@ fn finish(v: u32, top: u32) -> Outcome
     count_one(Machine::ended(v, top))
 }
 
+// Nothing happened, but perhaps a 35.
+pub fn give_back(r: Machine, b: Broken) -> Outcome
+    ensures { result ≡ given_back r b }
+{
+    Outcome {
+        machine: r,
+        count: 0,
+        broken: b,
+    }
+}
+
 // The statement stops; nothing is counted.
 pub fn stop(r: Machine, k: u32) -> Outcome
     ensures { result ≡ halted r k }
 {
-    Outcome {
-        machine: Machine::stopped(r, k),
-        count: 0,
-        broken: Broken::No,
-    }
+    give_back(Machine::stopped(r, k), Broken::No)
 }
 
 // The value of the row's expression, which is no call.

@@ -1,5 +1,6 @@
 -- From single steps and starts to any list of calls.
 -- Assumes nothing.
+use Rattle.std.proofs.Common.{Ok, Err}
 use mathlib.Core.Path.{◌≡◌, refl, sym, ◌∙◌, ap, subst}
 use mathlib.Core.Bool.{Bool, true, false}
 use mathlib.Core.Option.{none}
@@ -28,8 +29,9 @@ use Rattle.vm_definitions.specs.Ledger.{Event, counted, Entry, Ledger, fed, coun
 use Rattle.vm_definitions.specs.Play.{events_of}
 use Rattle.vm_definitions.specs.Claim.{running_with, cause_in, Listed, words_of, pause_in, paused_as, is_paused, stopped_by, StopSound, stack_full}
 use Rattle.vm_definitions.specs.declared.Broken.{Broken}
-use Rattle.vm_definitions.specs.declared.Broken.TheVariants.{No}
-use Rattle.vm_definitions.specs.declared.Started.TheVariants.{Begun, Unsound}
+use Rattle.vm_definitions.specs.declared.Broken.TheVariants.{No, At, Somewhere}
+use Rattle.vm_definitions.specs.Start.{Started}
+use Rattle.vm_definitions.specs.declared.StartError.TheVariants.{Refused, Unsound}
 use Rattle.vm_definitions.specs.Causes.{word_of, first_cause, meetings_of, reads_of, arguments_read}
 use Rattle.vm_definitions.proofs.Invariant.{FrameAt, Under, Invariant}
 
@@ -114,9 +116,9 @@ pub record Parts (w : Width) (t : Tables) (bytes : List ℕ) : Type 0 where
       → effect_of (program_from w t) x ≡ leaves y
       → GoodNow w t (length x.memory) (counted_in (rows t) x.machine.next (e ∷ es)) y
   pub sums : (e : Entry) (es : Ledger) (x : World) → Invariant w t e es x → x.machine.used ≡ sum_of (rows t) (e ∷ es)
-  pub begun : (name args : List ℕ) (x : World) → start_of (program_from w t) bytes name args x ≡ Begun
+  pub begun : (name args : List ℕ) (x : World) → start_of (program_from w t) bytes name args x ≡ Ok tt
       → (s : List ℕ) → Good w t (length x.memory) s (record { func = started_function (program_from w t) bytes name args x; call = none } ∷ []) (start_leaves (program_from w t) bytes name args x)
-  pub unbroken : (name args : List ℕ) (x : World) (b : Broken) → start_of (program_from w t) bytes name args x ≡ Unsound b → ⊥
+  pub unbroken : (name args : List ℕ) (x : World) (b : Broken) → start_of (program_from w t) bytes name args x ≡ Err (Unsound b) → ⊥
   -- a stop's number is no 0
   pub numbered : (e : Entry) (es : Ledger) (x : World) (k : ℕ) → x.machine.state ≡ Running → Invariant w t e es x → importing (rows t x.machine.next) ≡ false
       → effect_of (program_from w t) x ≡ stops k → 0 < k

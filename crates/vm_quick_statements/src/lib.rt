@@ -227,7 +227,7 @@ fn set_byte(
     None
 }
 
-// `set-word`.
+// `set-word`. Not one with `set-byte`: it would take address, test and store as arguments: no plainer.
 fn set_word(
     t: &[u32],
     d: u32,

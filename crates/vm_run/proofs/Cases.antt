@@ -45,7 +45,8 @@ use Rattle.vm_quick_calls.specs.declared.Transfer.{Transfer}
 use Rattle.vm_run.specs.Steps.{usable_size, after, end_by, plain_run_end, steps_in_frame_by, steps_in_frame, some_steps}
 use Rattle.vm_run.proofs.One.{one-step}
 use Rattle.vm_run.proofs.Several.{running-is, count_none, count_add, usable-good, Several, several}
-use Rattle.vm_run.specs.Within.{given_back, is_running, counts_broken, taken_step, within_step, within_run}
+use Rattle.vm_calls.specs.Outcomes.{given_back}
+use Rattle.vm_run.specs.Within.{is_running, counts_broken, taken_step, within_step, within_run}
 use Rattle.prog_tables.proofs.Each.{one-no}
 
 -- ---- a running record's step

@@ -196,6 +196,7 @@ fn set_byte(t: &[u32], c: u32, r: Machine, st: &[u32], m: &mut [u8]) -> Outcome
 }
 
 // `set-word`: base, offset and value are read before the address is judged.
+// Not one with `set-byte`: address, test and store differ, which it would take as arguments: no plainer.
 fn set_word(t: &[u32], c: u32, r: Machine, st: &[u32], m: &mut [u8]) -> Outcome
     requires { (r.next < greatest_word) × ((row_at t.now r.next).kind ≡ kind.set_word) }
     ensures { left result st.now m.new ≡ after setting_word t.now c r st.now m.old }
