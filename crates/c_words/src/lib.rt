@@ -552,14 +552,14 @@ fn start_place(a: Result<(), StartError>) -> u32
 }
 
 // Writes a start's answer in six words, and gives its number.
-fn put_start(a: StartError, res: &mut [u32]) -> u32
+fn put_start(a: Result<(), StartError>, res: &mut [u32]) -> u32
     ensures { (result ≡ start_number a) × (res.new ≡ overlay (start_words a) res.old) }
 {
     put_six(res, start_number(a), start_place(a), 0, 0, 0, 0)
 }
 
 // Writes the record that a start has begun.
-fn keep_begun(a: StartError, r: Machine, record: &mut [u32])
+fn keep_begun(a: Result<(), StartError>, r: Machine, record: &mut [u32])
     ensures { «record».new ≡ record_begun a r «record».old }
 {
     match a {

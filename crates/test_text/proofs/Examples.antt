@@ -17,7 +17,7 @@ use Rattle.test_lines.specs.Lines.{one_more}
 use Rattle.test_lines.specs.Fields.{field_step, field_start, with_digit, digit_step, number_from, number_at, field_of}
 use Rattle.test_text.specs.Fields.{count_step, count_fields, word_step, word_end, raw_at}
 use Rattle.test_text.specs.Numbers.{negated_of, field_value}
-use Rattle.test_text.specs.Answers.{field_bytes, fields_from, plain_bytes, broken_bytes, started_bytes, counted_bytes, stopped_bytes, finished_bytes, list_bytes, paused_bytes, state_bytes, unsound_bytes, outcome_bytes, resumed_bytes}
+use Rattle.test_text.specs.Answers.{error_bytes, field_bytes, fields_from, plain_bytes, broken_bytes, started_bytes, counted_bytes, stopped_bytes, finished_bytes, list_bytes, paused_bytes, state_bytes, unsound_bytes, outcome_bytes, resumed_bytes}
 
 outcome : State → ℕ → Broken → Outcome
 outcome state count broken =
@@ -25,7 +25,7 @@ outcome state count broken =
 
 -- `refused 23`
 refused-23 : started_bytes (Err (Refused 23)) ≡ 114 ∷ 101 ∷ 102 ∷ 117 ∷ 115 ∷ 101 ∷ 100 ∷ 32 ∷ 50 ∷ 51 ∷ []
-unfolding if_lt digits_within decimal field started_bytes
+unfolding if_lt digits_within decimal field started_bytes error_bytes
 refused-23 = refl
 
 -- `going 7`
@@ -63,12 +63,12 @@ resumed unpaused = record { outcome = outcome Running 1 No; unpaused = unpaused 
 
 -- `refused 37`
 refused-37 : resumed_bytes (resumed true) ≡ 114 ∷ 101 ∷ 102 ∷ 117 ∷ 115 ∷ 101 ∷ 100 ∷ 32 ∷ 51 ∷ 55 ∷ []
-unfolding if_lt if_true digits_within decimal field broken_bytes started_bytes counted_bytes stopped_bytes finished_bytes paused_bytes state_bytes unsound_bytes outcome_bytes resumed_bytes outcome resumed of_parts
+unfolding if_lt if_true digits_within decimal field broken_bytes started_bytes error_bytes counted_bytes stopped_bytes finished_bytes paused_bytes state_bytes unsound_bytes outcome_bytes resumed_bytes outcome resumed of_parts
 refused-37 = refl
 
 -- `going 1`
 resumed-going : resumed_bytes (resumed false) ≡ 103 ∷ 111 ∷ 105 ∷ 110 ∷ 103 ∷ 32 ∷ 49 ∷ []
-unfolding if_lt if_true digits_within decimal field broken_bytes started_bytes counted_bytes stopped_bytes finished_bytes paused_bytes state_bytes unsound_bytes outcome_bytes resumed_bytes outcome resumed of_parts
+unfolding if_lt if_true digits_within decimal field broken_bytes started_bytes error_bytes counted_bytes stopped_bytes finished_bytes paused_bytes state_bytes unsound_bytes outcome_bytes resumed_bytes outcome resumed of_parts
 resumed-going = refl
 
 -- `run -1`, its field 1

@@ -301,7 +301,7 @@ fn add_start_error(e: StartError, text: &mut Text) -> usize
 }
 
 // What a start answers.
-pub fn add_started(a: StartError, text: &mut Text) -> usize
+pub fn add_started(a: Result<(), StartError>, text: &mut Text) -> usize
     ensures { source result text.new ≡ add_all (started_bytes a) (source 0 text.old) }
 {
     match a {

@@ -89,11 +89,11 @@ is_begun (Ok _) = true
 is_begun (Err (Refused k)) = false
 is_begun (Err (Unsound b)) = false
 
-refused : {P : Type 0} (k : ℕ) → Err (Refused k) ≡ Ok tt → P
+refused : {P : Type 0} (k : ℕ) → ◌≡◌ {A = Started} (Err (Refused k)) (Ok tt) → P
 unfolding is_begun
 refused k q = true-false (sym (ap is_begun q))
 
-unsound : {P : Type 0} (b : Broken) → Err (Unsound b) ≡ Ok tt → P
+unsound : {P : Type 0} (b : Broken) → ◌≡◌ {A = Started} (Err (Unsound b)) (Ok tt) → P
 unfolding is_begun
 unsound b q = true-false (sym (ap is_begun q))
 

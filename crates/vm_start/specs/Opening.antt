@@ -62,7 +62,7 @@ rows_broken p n = or_else (lowest (row_fault p) (numbers_below p.count)) (if_tru
 -- ---- the parts behind the label: function row g, its frame of `size` words, d bytes of data
 
 abbrev pub refused_with : ℕ → World → Opened
-refused_with k x = record { answer = Err (Refused k;) world = x }
+refused_with k x = record { answer = Err (Refused k); world = x }
 
 unfoldable pub begun_at : Width → ℕ → ℕ → ℕ → List ℕ → List ℕ → List ℕ → List ℕ → World
 begun_at w g size d bytes args st m =
