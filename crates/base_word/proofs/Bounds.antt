@@ -1,11 +1,12 @@
 -- Every operation gives a word of w bits for words of w bits.
 -- Assumes nothing.
+use Rattle.std.proofs.Common.{Err, Ok}
 use Rattle.std.proofs.Common.{ℕ, ◌+◌, ◌-◌, ◌*◌, ◌/◌, ◌%◌, ◌^◌, ◌<◌, ◌≤◌, Bool, eqb, ltb, subst, lt_of_lt_of_le, lt_of_le_of_lt, le_of_lt, mod-lt, add_comm, div-le_self, sub-le, arith, pow_pos, pow_mono, shl_lt, shr_lt, leb-true}
 use native.Mathlib.Nat.{mod-le}
 use lib.Pow.{shr_le, ones_lt, ones_sub-lt}
 use lib.Bits.{and_le_l, or_lt, xor_lt}
 use Rattle.base_prelude.specs.Choice.{pick}
-use Rattle.base_word.specs.declared.Answer.TheVariants.{Word, Division, Shift}
+use Rattle.base_word.specs.declared.WordError.TheVariants.{Division, Shift}
 use Rattle.base_word.specs.Answers.{WordBelow}
 use Rattle.base_word.proofs.Answers.{choice}
 use Rattle.base_word.specs.Word.{add_of, sub_of, mul_of, negative, magnitude, negated, signed_word, differ, quotient, remainder, no_word, div_of, mod_of, shift_answer, shifted, sign_fill, rotate_count, shl_by, bsr_by, asr_by, rol_by, ror_by, shl_of, bsr_of, shr_of, asr_of, rol_of, ror_of, and_of, or_of, xor_of, not_of}
@@ -49,12 +50,12 @@ module _ (w a b : ℕ) (ha : a < 2 ^ w) where
   pub div_below : WordBelow w (div_of w a b)
   unfolding div_of
   div_below =
-      choice (WordBelow w) (eqb b 0) Division (pick (no_word w a b) Division (Word (quotient w a b))) (λ e. tt)
-      (λ e. choice (WordBelow w) (no_word w a b) Division (Word (quotient w a b)) (λ e'. tt) (λ e'. quotient-below))
+      choice (WordBelow w) (eqb b 0) (Err Division) (pick (no_word w a b) (Err Division) (Ok (quotient w a b))) (λ e. tt)
+      (λ e. choice (WordBelow w) (no_word w a b) (Err Division) (Ok (quotient w a b)) (λ e'. tt) (λ e'. quotient-below))
 
   pub mod_below : WordBelow w (mod_of w a b)
   unfolding mod_of
-  mod_below = choice (WordBelow w) (eqb b 0) Division (Word (remainder w a b)) (λ e. tt) (λ e. remainder-below)
+  mod_below = choice (WordBelow w) (eqb b 0) (Err Division) (Ok (remainder w a b)) (λ e. tt) (λ e. remainder-below)
 
   pub and_below : and_of w a b < 2 ^ w
   unfolding and_of
@@ -70,7 +71,7 @@ module _ (w a b : ℕ) (ha : a < 2 ^ w) where
 
 module _ (w a n : ℕ) where
   answer-below : (r : ℕ) → r < 2 ^ w → WordBelow w (shift_answer w n r)
-  answer-below r p = choice (WordBelow w) (negative w n) Shift (Word r) (λ e. tt) (λ e. p)
+  answer-below r p = choice (WordBelow w) (negative w n) (Err Shift) (Ok r) (λ e. tt) (λ e. p)
 
   shifted-below : (near far : ℕ) → near < 2 ^ w → far < 2 ^ w → WordBelow w (shifted w n near far)
   shifted-below near far p q = answer-below (pick (ltb n w) near far) (choice (λ (x : ℕ). x < 2 ^ w) (ltb n w) near far (λ e. p) (λ e. q))

@@ -1,30 +1,31 @@
 -- The definitions that have tests, one law for each way through the code.
 -- Assumes nothing.
+use Rattle.std.proofs.Common.{Err, Ok}
 use Rattle.std.proofs.Common.{◌≡◌, ℕ, zero, suc, ◌-◌, ◌%◌, ◌^◌, ◌<◌, ◌≤◌, Bool, true, false, ltb, refl, ap, ◌∙◌, lt_of_le_of_lt, mod-eq_of_lt, pow-suc, arith, pow_pos, ltb-true, le-ltb, lt-ltb, eq-eqb, ne_eqb, le-leb}
 use borrow.Author.Tests.{lt-leb}
 use Rattle.base_prelude.specs.Choice.{pick}
-use Rattle.base_word.specs.declared.Answer.{Answer}
-use Rattle.base_word.specs.declared.Answer.TheVariants.{Word, Division}
+use Rattle.base_word.specs.Word.{Answer}
+use Rattle.base_word.specs.declared.WordError.TheVariants.{Division}
 use Rattle.base_word.specs.Word.{quotient, remainder, no_word, div_of, mod_of, shift_answer, shifted, sign_fill, bsr_by, asr_by}
 
 module _ (w a b : ℕ) where
-  pub div-zero : b ≡ 0 → Division ≡ div_of w a b
+  pub div-zero : b ≡ 0 → Err Division ≡ div_of w a b
   unfolding div_of
   div-zero p = rw (eq-eqb b 0 p)
 
-  pub div-lacks : (t : Bool) → (b ≡ 0 → ⊥) → t ≡ no_word w a b → t ≡ true → Division ≡ div_of w a b
+  pub div-lacks : (t : Bool) → (b ≡ 0 → ⊥) → t ≡ no_word w a b → t ≡ true → Err Division ≡ div_of w a b
   unfolding div_of
   div-lacks t p e q = rw (ne_eqb b 0 p, ← e, q)
 
-  pub div_word : (t : Bool) (r : ℕ) → (b ≡ 0 → ⊥) → t ≡ no_word w a b → t ≡ false → r ≡ quotient w a b → Word r ≡ div_of w a b
+  pub div_word : (t : Bool) (r : ℕ) → (b ≡ 0 → ⊥) → t ≡ no_word w a b → t ≡ false → r ≡ quotient w a b → Ok r ≡ div_of w a b
   unfolding div_of
   div_word t r p e q e' = rw (ne_eqb b 0 p, ← e, q, e')
 
-  pub mod-zero : b ≡ 0 → Division ≡ mod_of w a b
+  pub mod-zero : b ≡ 0 → Err Division ≡ mod_of w a b
   unfolding mod_of
   mod-zero p = rw (eq-eqb b 0 p)
 
-  pub mod-word : (r : ℕ) → (b ≡ 0 → ⊥) → r ≡ remainder w a b → Word r ≡ mod_of w a b
+  pub mod-word : (r : ℕ) → (b ≡ 0 → ⊥) → r ≡ remainder w a b → Ok r ≡ mod_of w a b
   unfolding mod_of
   mod-word r p e = rw (ne_eqb b 0 p, e)
 
@@ -50,7 +51,7 @@ pub short-count : (w n : ℕ) → n < w → n < 2 ^ (w - 1)
 short-count w n p = lt_of_le_of_lt (omega arith) (below_power (w - 1))
 
 module _ (w n : ℕ) where
-  pub shifted-near : (near far : ℕ) → n < w → Word near ≡ shifted w n near far
+  pub shifted-near : (near far : ℕ) → n < w → Ok near ≡ shifted w n near far
   shifted-near near far p = rw (lt-leb (2 ^ (w - 1)) n (short-count w n p), lt-ltb n w p)
 
   pub shifted-far : (x : Answer) (near far : ℕ) → w ≤ n → x ≡ shift_answer w n far → x ≡ shifted w n near far

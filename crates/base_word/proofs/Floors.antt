@@ -1,12 +1,13 @@
 -- Shifts for every count, at every width: the product modulo 2 ^ w, and the floor of the quotient.
 -- Assumes nothing.
+use Rattle.std.proofs.Common.{Err, Ok}
 use Rattle.std.proofs.Common.{◌≡◌, ℕ, suc, ◌+◌, ◌-◌, ◌*◌, ◌/◌, ◌%◌, ◌^◌, ◌<◌, ◌≤◌, Bool, true, false, ltb, ℤ, pos, negsuc, ◌+ℤ◌, ◌*ℤ◌, neg_ℤ, sym, refl, ap, ◌∙◌, subst, lt_of_lt_of_le, lt_of_le_of_lt, mod-lt, mul_assoc, suc-mul, div-add-mod', sub-add_cancel, arith, pow_pos, pow_mono, pow-add, ltb-false, lt-ltb}
 use native.Mathlib.Nat.{div-eq_of_lt, mul-mod_left, sub-zero}
 use lib.Arith.{digits_div}
 use lib.IntN.{pos-+ℤ-pos, pos-*ℤ-pos, negsuc-*ℤ-pos, neg_ℤ-+ℤ, -ℤ-+ℤ_cancel}
 use lib.Signed.{mag, shr_z, mag_shr}
 use Rattle.base_prelude.specs.Choice.{pick}
-use Rattle.base_word.specs.declared.Answer.TheVariants.{Word, Shift}
+use Rattle.base_word.specs.declared.WordError.TheVariants.{Shift}
 use Rattle.base_word.specs.Answers.{OfWord}
 use Rattle.base_word.proofs.Answers.{choice}
 use Rattle.base_word.specs.Values.{value, word_of}
@@ -120,13 +121,13 @@ module _ (w a n : ℕ) (h : a < 2 ^ w) where
   pub bsr-floor : OfWord (λ (r : ℕ). Floor (pos a) (2 ^ n) (pos r)) (bsr_of w a n)
   bsr-floor =
       subst (OfWord (λ (r : ℕ). Floor (pos a) (2 ^ n) (pos r))) (sym (bsr-every w a n h))
-      (choice (OfWord (λ (r : ℕ). Floor (pos a) (2 ^ n) (pos r))) (negative w n) Shift (Word (a / 2 ^ n)) (λ e. tt) (λ e. floor-is (pos a) (2 ^ n) (pow_pos n)))
+      (choice (OfWord (λ (r : ℕ). Floor (pos a) (2 ^ n) (pos r))) (negative w n) (Err Shift) (Ok (a / 2 ^ n)) (λ e. tt) (λ e. floor-is (pos a) (2 ^ n) (pow_pos n)))
 
   -- where `asr` is not refused, its word's signed value is the floor of the signed value by 2 ^ n
   pub asr-floor : 0 < w → OfWord (λ (r : ℕ). Floor (value w a) (2 ^ n) (value w r)) (asr_of w a n)
   asr-floor pw =
       subst (OfWord (λ (r : ℕ). Floor (value w a) (2 ^ n) (value w r))) (sym (asr-every w a n h))
-      (choice (OfWord (λ (r : ℕ). Floor (value w a) (2 ^ n) (value w r))) (negative w n) Shift (Word (word_of w (shr_z (value w a) (2 ^ n)))) (λ e. tt) (λ e. reached))
+      (choice (OfWord (λ (r : ℕ). Floor (value w a) (2 ^ n) (value w r))) (negative w n) (Err Shift) (Ok (word_of w (shr_z (value w a) (2 ^ n)))) (λ e. tt) (λ e. reached))
     where
       small : mag (shr_z (value w a) (2 ^ n)) < 2 ^ (w - 1)
       small = lt_of_le_of_lt (mag_shr (value w a) (2 ^ n)) (value-small w a pw h)

@@ -1,10 +1,11 @@
 -- Operations that undo each other, at every width.
 -- Assumes nothing.
+use Rattle.std.proofs.Common.{Err, Ok}
 use Rattle.std.proofs.Common.{◌≡◌, ℕ, ◌+◌, ◌-◌, ◌*◌, ◌/◌, ◌%◌, ◌^◌, ◌<◌, ◌≤◌, sym, ap, ◌∙◌, subst, ap₂, le_of_lt, mod-lt, mod-eq_of_lt, mul_assoc, add-mul, add_comm, sub-add_cancel, arith, pow_pos, pow-add, shl_lt, shr_lt}
 use native.Mathlib.Nat.{mod-add-mod, add-mod_right}
 use lib.Pow.{split, high, low}
 use lib.Bits.{bit_or, or_shifted}
-use Rattle.base_word.specs.declared.Answer.TheVariants.{Word, Shift}
+use Rattle.base_word.specs.declared.WordError.TheVariants.{Shift}
 use Rattle.base_word.specs.Answers.{OfWord}
 use Rattle.base_word.proofs.Answers.{choice}
 use Rattle.base_word.specs.Word.{add_of, sub_of, negative, shift_answer, rotate_count, rol_by, ror_by, rol_of, ror_of}
@@ -62,8 +63,8 @@ ror-rol w a n p h =
     e = sub-add_cancel p
 
 -- where `rol` is not refused, `ror` of its word by the same count gives the word back
-pub ror-after-rol : (w a n : ℕ) → 0 < w → a < 2 ^ w → OfWord (λ (r : ℕ). ror_of w r n ≡ Word a) (rol_of w a n)
+pub ror-after-rol : (w a n : ℕ) → 0 < w → a < 2 ^ w → OfWord (λ (r : ℕ). ror_of w r n ≡ Ok a) (rol_of w a n)
 unfolding rol_of ror_of
 ror-after-rol w a n p h =
-    choice (OfWord (λ (r : ℕ). shift_answer w n (ror_by w r (rotate_count w n)) ≡ Word a)) (negative w n) Shift
-    (Word (rol_by w a (rotate_count w n))) (λ e. tt) (λ e. rw e (ap Word (ror-rol w a (rotate_count w n) (le_of_lt (mod-lt n p)) h)))
+    choice (OfWord (λ (r : ℕ). shift_answer w n (ror_by w r (rotate_count w n)) ≡ Ok a)) (negative w n) (Err Shift)
+    (Ok (rol_by w a (rotate_count w n))) (λ e. tt) (λ e. rw e (ap Ok (ror-rol w a (rotate_count w n) (le_of_lt (mod-lt n p)) h)))

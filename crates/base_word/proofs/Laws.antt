@@ -1,16 +1,9 @@
 -- What the proofs of this crate share.
 -- Assumes nothing.
-use mathlib.Core.Path.{subst⁻¹}
 use Rattle.std.proofs.Common.{ℕ, ◌+◌, ◌*◌, ◌^◌, ◌<◌, Bool, true, false, lt_of_le_of_lt, le_of_lt, mul-le-mul_left, mul-lt-mul_of_pos_right, arith, pow_pos, pow-add, le-ltb, lt-ltb, eq-eqb, ne_eqb, le-leb}
 use borrow.Author.Tests.{lt-leb}
 use Rattle.base_prelude.specs.Choice.{pick}
 use Rattle.base_word.specs.Word.{negative, magnitude}
-
--- the product of two numbers of k digits has 2 k digits
-pub product-fits : (k : ℕ) {a b : ℕ} → a < 2 ^ k → b < 2 ^ k → a * b < 2 ^ (k + k)
-product-fits k {a} {b} p q =
-    subst⁻¹ (λ (n : ℕ). a * b < n) (pow-add 2 k k)
-    (lt_of_le_of_lt (mul-le-mul_left a (le_of_lt q)) (mul-lt-mul_of_pos_right p (pow_pos k)))
 
 choice-pos : (s : Bool) {m n : ℕ} → 0 < m → 0 < n → 0 < pick s m n
 choice-pos true p q = p

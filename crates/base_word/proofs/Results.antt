@@ -1,6 +1,7 @@
 -- The signed values of quotient and remainder, at every width: the result has a word, and its signed value is the
 -- integers' result.
 -- Assumes nothing.
+use Rattle.std.proofs.Common.{Err, Ok}
 use Rattle.std.proofs.Common.{◌≡◌, ℕ, zero, suc, ◌+◌, ◌-◌, ◌/◌, ◌^◌, ◌<◌, ◌≤◌, Bool, true, false, eqb, ℤ, pos, negsuc, neg_ℤ, sym, refl, ap, ◌∙◌, zero-le, le_trans, lt_of_lt_of_le, le_of_suc-le-suc, lt_of_le_of_lt, div-le_self, div-one, arith, pow_pos, eq-eqb, ne_eqb, le-leb, leb-false, leb-true}
 use native.Mathlib.Nat.{mod-one, mod_self, div-lt_self, sub-zero, le-suc}
 use borrow.Author.Tests.{lt-leb}
@@ -8,7 +9,7 @@ use lib.Arith.{lt_of_le-ne}
 use lib.Signed.{mag, quot_z, rem_z, mag_rem}
 use Rattle.base_prelude.proofs.Choice.{true-false}
 use Rattle.base_prelude.specs.Choice.{pick}
-use Rattle.base_word.specs.declared.Answer.TheVariants.{Word, Division}
+use Rattle.base_word.specs.declared.WordError.TheVariants.{Division}
 use Rattle.base_word.specs.Answers.{OfWord}
 use Rattle.base_word.proofs.Answers.{choice}
 use Rattle.base_word.specs.Values.{value, word_of}
@@ -79,15 +80,15 @@ module _ (w a b : ℕ) (pw : 0 < w) (ha : a < 2 ^ w) (hb : b < 2 ^ w) where
   pub div_value : OfWord (λ (r : ℕ). value w r ≡ quot_z (value w a) (value w b)) (div_of w a b)
   unfolding div_of
   div_value =
-      choice (OfWord (λ (r : ℕ). value w r ≡ quot_z (value w a) (value w b))) (eqb b 0) Division
-      (pick (no_word w a b) Division (Word (quotient w a b))) (λ e. tt)
-      (λ e. choice (OfWord (λ (r : ℕ). value w r ≡ quot_z (value w a) (value w b))) (no_word w a b) Division (Word (quotient w a b)) (λ e'. tt) quotient-value)
+      choice (OfWord (λ (r : ℕ). value w r ≡ quot_z (value w a) (value w b))) (eqb b 0) (Err Division)
+      (pick (no_word w a b) (Err Division) (Ok (quotient w a b))) (λ e. tt)
+      (λ e. choice (OfWord (λ (r : ℕ). value w r ≡ quot_z (value w a) (value w b))) (no_word w a b) (Err Division) (Ok (quotient w a b)) (λ e'. tt) quotient-value)
 
   -- where `mod` is not refused, its word's signed value is the remainder with the sign of the first
   pub mod-value : OfWord (λ (r : ℕ). value w r ≡ rem_z (value w a) (value w b)) (mod_of w a b)
   unfolding mod_of
   mod-value =
-      choice (OfWord (λ (r : ℕ). value w r ≡ rem_z (value w a) (value w b))) (eqb b 0) Division (Word (remainder w a b))
+      choice (OfWord (λ (r : ℕ). value w r ≡ rem_z (value w a) (value w b))) (eqb b 0) (Err Division) (Ok (remainder w a b))
       (λ e. tt) (λ e. remainder-value)
 
 -- the word of -1 is not 0
@@ -104,13 +105,13 @@ least-quotient w p =
     in rw (le-leb (2 ^ (w - 1)) (2 ^ (w - 1)) (omega arith), le-leb (2 ^ (w - 1)) (2 ^ w - 1) (omega arith), d, z) (ap pos (div-one (2 ^ (w - 1))))
 
 -- "`div` of -2147483648 by -1: stop 30"
-pub div-least : (w : ℕ) → 0 < w → div_of w (2 ^ (w - 1)) (2 ^ w - 1) ≡ Division
+pub div-least : (w : ℕ) → 0 < w → div_of w (2 ^ (w - 1)) (2 ^ w - 1) ≡ Err Division
 unfolding div_of
 div-least w p =
     rw (ne_eqb (2 ^ w - 1) 0 (least-divisor w p), eq-eqb (2 ^ (w - 1)) (2 ^ (w - 1)) refl, eq-eqb (2 ^ w - 1) (2 ^ w - 1) refl)
 
 -- "`mod` there is 0"
-pub mod-least : (w : ℕ) → 0 < w → mod_of w (2 ^ (w - 1)) (2 ^ w - 1) ≡ Word 0
+pub mod-least : (w : ℕ) → 0 < w → mod_of w (2 ^ (w - 1)) (2 ^ w - 1) ≡ Ok 0
 unfolding mod_of
 mod-least w p =
     let e : 2 ^ w ≡ 2 ^ (w - 1) + 2 ^ (w - 1) = halves w p

@@ -1,12 +1,13 @@
 -- A rotate by n, for every count, is n rotates by one bit.
 -- Assumes nothing.
+use Rattle.std.proofs.Common.{Err, Ok}
 use Rattle.std.proofs.Common.{◌≡◌, ℕ, zero, suc, ◌+◌, ◌-◌, ◌*◌, ◌/◌, ◌%◌, ◌^◌, ◌<◌, ◌≤◌, Bool, true, false, ltb, [], ◌∷◌, sym, refl, ap, ◌∙◌, subst, ap₂, add-zero, add_assoc, mod-lt, mod-eq_of_lt, mul_assoc, mul_comm, add-mul, pow-suc, div-add-mod', zero-add, zero-mul, sub-le, arith, pow_pos, pow-add, shr_lt, ltb-false, ltb-true}
 use native.Mathlib.Nat.{mod-add-mod, mod_self}
 use lib.Arith.{digits_lt}
 use lib.Pow.{split, high, low}
 use Rattle.base_word.specs.Shifts.{turn, turns}
 use Rattle.base_word.specs.Word.{negative, shift_answer, rol_by, ror_by, rol_of, ror_of}
-use Rattle.base_word.specs.declared.Answer.TheVariants.{Word, Shift}
+use Rattle.base_word.specs.declared.WordError.TheVariants.{Shift}
 use Rattle.base_word.specs.Answers.{OfWord}
 use Rattle.base_word.proofs.Answers.{choice}
 use Rattle.base_word.proofs.Bounds.{rol-by-below}
@@ -112,7 +113,7 @@ rol-every w a n p h = ap (shift_answer w n) (sym (turns-rol w a n p h))
 pub ror-every : (w a n : ℕ) → 0 < w → a < 2 ^ w → OfWord (λ (r : ℕ). turns w n r ≡ a) (ror_of w a n)
 unfolding ror_of
 ror-every w a n p h =
-    choice (OfWord (λ (r : ℕ). turns w n r ≡ a)) (negative w n) Shift (Word (ror_by w a (n % w))) (λ e. tt)
+    choice (OfWord (λ (r : ℕ). turns w n r ≡ a)) (negative w n) (Err Shift) (Ok (ror_by w a (n % w))) (λ e. tt)
     (λ e. turns-rol w (ror_by w a (n % w)) n p (rol-by-below w a (w - n % w) h (sub-le w (n % w))) ∙ back)
   where
     wide : n % w + (w - n % w) ≡ w

@@ -1,16 +1,24 @@
 -- Machine words of w bits, two's complement, as natural numbers below 2 ^ w. The rules are those of the word machine, each
 -- for every width; a comment quotes the rule at 32 bits.
 -- Assumes nothing.
-use Rattle.std.specs.Prelude.{ℕ, ◌+◌, ◌-◌, ◌*◌, ◌/◌, ◌%◌, ◌^◌, Bool, true, false, not, ◌==◌, bit_and, bit_or, bit_xor, nat_le, nat_lt}
+use Rattle.std.specs.Prelude.{ℕ, ◌+◌, ◌-◌, ◌*◌, ◌/◌, ◌%◌, ◌^◌, Bool, true, false, not, ◌==◌, bit_and, bit_or, bit_xor, nat_le, nat_lt, Result, Ok, Err}
 use Rattle.base_prelude.specs.Choice.{pick}
-use Rattle.base_word.specs.declared.Answer.{Answer}
-use Rattle.base_word.specs.declared.Answer.TheVariants.{Word, Division, Shift}
+use Rattle.base_word.specs.declared.WordError.{WordError}
+use Rattle.base_word.specs.declared.WordError.TheVariants.{Division, Shift}
 
--- the stop's number for each answer, 0 for a word: 30 division, 31 shift count
+-- a word, or why there is none
+abbrev pub Answer : Type 0
+Answer = Result ℕ WordError
+
+-- the stop's number: 30 division, 31 shift count
+abbrev pub error_stop : WordError → ℕ
+error_stop Division = 30
+error_stop Shift = 31
+
+-- the stop's number for each answer, 0 for a word
 abbrev pub stop_of : Answer → ℕ
-stop_of (Word a) = 0
-stop_of Division = 30
-stop_of Shift = 31
+stop_of (Ok a) = 0
+stop_of (Err e) = error_stop e
 
 -- ---- sum, difference, product
 
@@ -65,17 +73,17 @@ no_word w a b = pick (a == 2 ^ (w - 1)) (b == 2 ^ w - 1) false
 
 -- "zero divisor, or `div` of -2147483648 by -1: stop 30"
 unfoldable pub div_of : ℕ → ℕ → ℕ → Answer
-div_of w a b = pick (b == 0) Division (pick (no_word w a b) Division (Word (quotient w a b)))
+div_of w a b = pick (b == 0) (Err Division) (pick (no_word w a b) (Err Division) (Ok (quotient w a b)))
 
 -- "zero divisor [..]: stop 30; `mod` there is 0": -2147483648 by -1 is not refused
 unfoldable pub mod_of : ℕ → ℕ → ℕ → Answer
-mod_of w a b = pick (b == 0) Division (Word (remainder w a b))
+mod_of w a b = pick (b == 0) (Err Division) (Ok (remainder w a b))
 
 -- ---- shifts and rotates
 
 -- "a negative count is stop 31"
 abbrev pub shift_answer : ℕ → ℕ → ℕ → Answer
-shift_answer w n r = pick (negative w n) Shift (Word r)
+shift_answer w n r = pick (negative w n) (Err Shift) (Ok r)
 
 -- what a shift by n gives: `near` for a count below the width, `far` for "a count of 32 or more"
 abbrev pub shifted : ℕ → ℕ → ℕ → ℕ → Answer

@@ -11,10 +11,9 @@ ghost use Rattle.base_word.specs.Word.{shl_of, bsr_of, asr_of, rol_of, ror_of};
 ghost use Rattle.base_word.specs.Word.{and_of, or_of, xor_of, not_of};
 ghost use Rattle.base_word.specs.Word.{lt_of, gt_of, ge_of, le_of, eq_of, ne_of};
 
-// A word, or why there is none.
-#[derive(Drop)]
-pub enum Answer {
-    Word(u32),
+// Why there is no word: a divisor, or the count of a shift.
+#[derive(Clone, Copy, Debug, PartialEq, Eq)]
+pub enum WordError {
     Division,
     Shift,
 }
@@ -22,19 +21,19 @@ pub enum Answer {
 pub fn add(a: u32, b: u32) -> u32
     ensures { result ≡ add_of 32 a b }
 {
-    std::num::wrapping_add_u32(a, b)
+    a.wrapping_add(b)
 }
 
 pub fn sub(a: u32, b: u32) -> u32
     ensures { result ≡ sub_of 32 a b }
 {
-    std::num::wrapping_sub_u32(a, b)
+    a.wrapping_sub(b)
 }
 
 pub fn mul(a: u32, b: u32) -> u32
     ensures { result ≡ mul_of 32 a b }
 {
-    ((a as u64 * b as u64) % 4294967296) as u32
+    a.wrapping_mul(b)
 }
 
 fn is_negative(a: u32) -> bool
@@ -56,7 +55,7 @@ fn magnitude_of(a: u32) -> u32
 fn negate(n: u32) -> u32
     ensures { result ≡ negated 32 n }
 {
-    std::num::wrapping_sub_u32(0, n)
+    n.wrapping_neg()
 }
 
 fn with_sign(s: bool, n: u32) -> u32
@@ -68,7 +67,7 @@ fn with_sign(s: bool, n: u32) -> u32
 fn differs(s: bool, t: bool) -> bool
     ensures { result ≡ differ s t }
 {
-    if s { !t } else { t }
+    s != t
 }
 
 // The quotient of the magnitudes with its sign.
@@ -94,55 +93,47 @@ fn left_over(a: u32, b: u32) -> u32
 fn lacks_word(a: u32, b: u32) -> bool
     ensures { result ≡ no_word 32 a b }
 {
-    if a == 2147483648 {
-        b == 4294967295
-    } else {
-        false
-    }
+    a == 2147483648 && b == 4294967295
 }
 
 // The refusals come first.
-pub fn div(a: u32, b: u32) -> Answer
+pub fn div(a: u32, b: u32) -> Result<u32, WordError>
     ensures { result ≡ div_of 32 a b }
 {
     if b == 0 {
-        return Answer::Division;
+        return Err(WordError::Division);
     }
     if lacks_word(a, b) {
-        return Answer::Division;
+        return Err(WordError::Division);
     }
-    Answer::Word(divide(a, b))
+    Ok(divide(a, b))
 }
 
-pub fn rem(a: u32, b: u32) -> Answer
+pub fn rem(a: u32, b: u32) -> Result<u32, WordError>
     ensures { result ≡ mod_of 32 a b }
 {
     if b == 0 {
-        return Answer::Division;
+        return Err(WordError::Division);
     }
-    Answer::Word(left_over(a, b))
+    Ok(left_over(a, b))
 }
 
 // The word that a shift gives, unless its count is negative.
-fn with_count(n: u32, r: u32) -> Answer
+fn with_count(n: u32, r: u32) -> Result<u32, WordError>
     ensures { result ≡ shift_answer 32 n r }
 {
     if n < 2147483648 {
-        Answer::Word(r)
+        Ok(r)
     } else {
-        Answer::Shift
+        Err(WordError::Shift)
     }
 }
 
 // `near` for a count below the width, `far` for a longer one; a count below the width is not negative.
-fn with_width(n: u32, near: u32, far: u32) -> Answer
+fn with_width(n: u32, near: u32, far: u32) -> Result<u32, WordError>
     ensures { result ≡ shifted 32 n near far }
 {
-    if n < 32 {
-        Answer::Word(near)
-    } else {
-        with_count(n, far)
-    }
+    if n < 32 { Ok(near) } else { with_count(n, far) }
 }
 
 // How far a rotate moves, and a shift by less than the width.
@@ -199,32 +190,32 @@ fn ror_by(a: u32, n: u32) -> u32
 }
 
 // The word moved by the count modulo 32 serves counts below 32 alone.
-pub fn shl(a: u32, n: u32) -> Answer
+pub fn shl(a: u32, n: u32) -> Result<u32, WordError>
     ensures { result ≡ shl_of 32 a n }
 {
     with_width(n, shl_by(a, count_modulo(n)), 0)
 }
 
 // Serves `shr` too.
-pub fn bsr(a: u32, n: u32) -> Answer
+pub fn bsr(a: u32, n: u32) -> Result<u32, WordError>
     ensures { result ≡ bsr_of 32 a n }
 {
     with_width(n, bsr_by(a, count_modulo(n)), 0)
 }
 
-pub fn asr(a: u32, n: u32) -> Answer
+pub fn asr(a: u32, n: u32) -> Result<u32, WordError>
     ensures { result ≡ asr_of 32 a n }
 {
     with_width(n, asr_by(a, count_modulo(n)), sign_fill(a))
 }
 
-pub fn rol(a: u32, n: u32) -> Answer
+pub fn rol(a: u32, n: u32) -> Result<u32, WordError>
     ensures { result ≡ rol_of 32 a n }
 {
     with_count(n, rol_by(a, count_modulo(n)))
 }
 
-pub fn ror(a: u32, n: u32) -> Answer
+pub fn ror(a: u32, n: u32) -> Result<u32, WordError>
     ensures { result ≡ ror_of 32 a n }
 {
     with_count(n, ror_by(a, count_modulo(n)))
@@ -257,8 +248,8 @@ pub fn not(a: u32) -> u32
 pub fn less(a: u32, b: u32) -> bool
     ensures { result ≡ lt_of 32 a b }
 {
-    let x = std::num::wrapping_add_u32(a, 2147483648);
-    let y = std::num::wrapping_add_u32(b, 2147483648);
+    let x = a.wrapping_add(2147483648);
+    let y = b.wrapping_add(2147483648);
     x < y
 }
 

@@ -1,5 +1,6 @@
 -- One law for each way through a function of this crate.
 -- Assumes nothing.
+use Rattle.std.proofs.Common.{Option, Some, None}
 use mathlib.Core.Path.{◌≡◌, refl, sym, ◌∙◌, ap, ap₂}
 use mathlib.Core.List.{List, [], ◌∷◌}
 use Prim.Native.Nat.{ℕ, ◌%◌, ◌<◌, ◌≤◌}
@@ -24,8 +25,6 @@ use Rattle.vm_start.specs.Opening.{Opened, opened, opening_of}
 use Rattle.c_words.specs.Words.{record_size}
 use Rattle.c_words.specs.Record.{record_of}
 use Rattle.c_words.specs.Reply.{Reply, reply, unfit_number, refusal_words, refusal_reply, outcome_reply, resumed_reply, opening_reply}
-use Rattle.c_words.specs.declared.Loaded.{Loaded}
-use Rattle.c_words.specs.declared.Loaded.TheVariants.{Fit, Unfit}
 use Rattle.c_voodoo.specs.Answer.{answer_number, result_words, Told, told, told_of}
 use Rattle.c_voodoo.specs.Calls.{Answered, answered, replied, unfit, outcome_answer, resumed_answer, opening_answer, step_by, step_call, run_by, run_call, resume_by, resume_call, start_call}
 
@@ -64,31 +63,31 @@ module _ (ws st m out : List ℕ) (n : ℕ) (out' : List ℕ) where
   unfolding unfit refusal_reply
   none number q = rw (q.0, q.1)
 
-  module _ (x : Loaded) (e : x ≡ record_of ws) (t : List ℕ) (c : ℕ) (l : List ℕ) (k : ℕ) (names : List ℕ) (d : ℕ) where
+  module _ (x : Option Machine) (e : x ≡ record_of ws) (t : List ℕ) (c : ℕ) (l : List ℕ) (k : ℕ) (names : List ℕ) (d : ℕ) where
     abbrev T : Tables
     T = tables_of t c l k names d
 
-    pub step-unfit : x ≡ Unfit → (n ≡ 35) × (out' ≡ overlay (refusal_words 35) out) → answered n ws st m out' ≡ step_call ws st m out T
+    pub step-unfit : x ≡ None → (n ≡ 35) × (out' ≡ overlay (refusal_words 35) out) → answered n ws st m out' ≡ step_call ws st m out T
     unfolding step_call step_by
     step-unfit h q = none 35 q ∙ ap (step_by ws st m out T) (sym h ∙ e)
 
-    pub run-unfit : (budget number : ℕ) → x ≡ Unfit → number ≡ unfit_number budget
+    pub run-unfit : (budget number : ℕ) → x ≡ None → number ≡ unfit_number budget
         → (n ≡ number) × (out' ≡ overlay (refusal_words number) out) → answered n ws st m out' ≡ run_call ws st m out T budget
     unfolding run_call run_by
     run-unfit budget number h g q = none number q ∙ ap (unfit ws st m out) g ∙ ap (run_by ws st m out T budget) (sym h ∙ e)
 
-    pub resume-unfit : (v : ℕ) → x ≡ Unfit → (n ≡ 37) × (out' ≡ overlay (refusal_words 37) out)
+    pub resume-unfit : (v : ℕ) → x ≡ None → (n ≡ 37) × (out' ≡ overlay (refusal_words 37) out)
         → answered n ws st m out' ≡ resume_call ws st m out T v
     unfolding resume_call resume_by
     resume-unfit v h q = none 37 q ∙ ap (resume_by ws st m out T v) (sym h ∙ e)
 
-    pub resume-fit : (r : Machine) (o : Resumed) (ws' st' m' : List ℕ) (v : ℕ) → x ≡ Fit r → reply n ws' out' ≡ resumed_reply o ws out
+    pub resume-fit : (r : Machine) (o : Resumed) (ws' st' m' : List ℕ) (v : ℕ) → x ≡ Some r → reply n ws' out' ≡ resumed_reply o ws out
         → lent.resumed o st' m' ≡ resume_of (program_from Bits32 T) v (world r st m) → answered n ws' st' m' out' ≡ resume_call ws st m out T v
     unfolding resume_call resume_by resumed_answer
     resume-fit r o ws' st' m' v h q g =
         ap (λ (p : Reply). replied p st' m') q ∙ ap (resumed_answer ws st m out) g ∙ ap (resume_by ws st m out T v) (sym h ∙ e)
 
-    module _ (r : Machine) (h : x ≡ Fit r) (o : Outcome) (ws' st' m' : List ℕ) (q : reply n ws' out' ≡ outcome_reply o ws out) where
+    module _ (r : Machine) (h : x ≡ Some r) (o : Outcome) (ws' st' m' : List ℕ) (q : reply n ws' out' ≡ outcome_reply o ws out) where
       after : (y : After) → lent.left o st' m' ≡ y → answered n ws' st' m' out' ≡ outcome_answer ws st m out y
       unfolding outcome_answer
       after y g = ap (λ (p : Reply). replied p st' m') q ∙ ap (outcome_answer ws st m out) g

@@ -1,6 +1,7 @@
 -- What start, step, run and going on answer the tracker, and what they leave in the lent buffers.
 -- Assumes nothing.
-use Rattle.std.specs.Prelude.{ℕ, List, length}
+use Rattle.base_limits.specs.declared.Machine.{Machine}
+use Rattle.std.specs.Prelude.{ℕ, List, length, Option, Some, None}
 use Rattle.base_prelude.specs.Choice.{if_lt}
 use Rattle.base_limits.specs.declared.Width.TheVariants.{Bits32}
 use Rattle.base_limits.specs.Record.{fresh_of}
@@ -15,8 +16,6 @@ use Rattle.vm_start.specs.Opening.{Opened, opening_of}
 use Rattle.c_words.specs.Words.{record_size}
 use Rattle.c_words.specs.Record.{record_of}
 use Rattle.c_words.specs.Reply.{Reply, unfit_number, refusal_reply, outcome_reply, resumed_reply, opening_reply}
-use Rattle.c_words.specs.declared.Loaded.{Loaded}
-use Rattle.c_words.specs.declared.Loaded.TheVariants.{Fit, Unfit}
 
 -- the number given back, and what the record, the stack, the memory and the result then hold
 pub record Answered : Type 0 where
@@ -57,25 +56,25 @@ module _ (ws st m out : List ℕ) where
   unfoldable pub opening_answer : Opened → Answered
   opening_answer y = replied (opening_reply (opening_with y) ws out) y.world.stack y.world.memory
 
-  unfoldable pub step_by : Tables → Loaded → Answered
-  step_by t (Fit r) = outcome_answer (step_of (program_from Bits32 t) (world r st m))
-  step_by t Unfit = unfit 35
+  unfoldable pub step_by : Tables → Option Machine → Answered
+  step_by t (Some r) = outcome_answer (step_of (program_from Bits32 t) (world r st m))
+  step_by t None = unfit 35
 
   unfoldable pub step_call : Tables → Answered
   step_call t = step_by t (record_of ws)
 
   -- a budget of 0 is answered whatever the lent words hold
-  unfoldable pub run_by : Tables → ℕ → Loaded → Answered
-  run_by t budget (Fit r) = outcome_answer (run_of (program_from Bits32 t) budget (world r st m))
-  run_by t budget Unfit = unfit (unfit_number budget)
+  unfoldable pub run_by : Tables → ℕ → Option Machine → Answered
+  run_by t budget (Some r) = outcome_answer (run_of (program_from Bits32 t) budget (world r st m))
+  run_by t budget None = unfit (unfit_number budget)
 
   unfoldable pub run_call : Tables → ℕ → Answered
   run_call t budget = run_by t budget (record_of ws)
 
   -- "37, before 35, for going on with a record that isn't paused" (02, 3): words that hold no record are none that is
-  unfoldable pub resume_by : Tables → ℕ → Loaded → Answered
-  resume_by t v (Fit r) = resumed_answer (resume_of (program_from Bits32 t) v (world r st m))
-  resume_by t v Unfit = unfit 37
+  unfoldable pub resume_by : Tables → ℕ → Option Machine → Answered
+  resume_by t v (Some r) = resumed_answer (resume_of (program_from Bits32 t) v (world r st m))
+  resume_by t v None = unfit 37
 
   unfoldable pub resume_call : Tables → ℕ → Answered
   resume_call t v = resume_by t v (record_of ws)

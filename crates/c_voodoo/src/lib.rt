@@ -11,7 +11,7 @@ ghost use Rattle.c_voodoo.specs.Answer.{answer_number, result_words, told, told_
 ghost use Rattle.c_voodoo.specs.Calls.{answered, start_call, step_call, run_call, resume_call};
 
 use base_limits::{Machine, Refusal, Width};
-use c_words::{Loaded, RecordWord};
+use c_words::RecordWord;
 use check_source::Counts;
 
 // Writes an answer in six words, and gives its number.
@@ -115,7 +115,7 @@ pub fn voodoo_step(
 {
     let x = c_words::load_record(record);
     match x {
-        Loaded::Fit(r) => {
+        Some(r) => {
             let stepped = vm_run::step(
                 statements,
                 count,
@@ -129,7 +129,7 @@ pub fn voodoo_step(
             );
             c_words::reply_outcome(stepped, record, res)
         }
-        Loaded::Unfit => c_words::reply_refusal(35, res),
+        None => c_words::reply_refusal(35, res),
     }
 }
 
@@ -151,7 +151,7 @@ pub fn voodoo_run(
 {
     let x = c_words::load_record(record);
     match x {
-        Loaded::Fit(r) => {
+        Some(r) => {
             let ran = vm_run::run(
                 statements,
                 count,
@@ -166,7 +166,7 @@ pub fn voodoo_run(
             );
             c_words::reply_outcome(ran, record, res)
         }
-        Loaded::Unfit => c_words::reply_refusal(c_words::unfit_number(budget), res),
+        None => c_words::reply_refusal(c_words::unfit_number(budget), res),
     }
 }
 
@@ -188,7 +188,7 @@ pub fn voodoo_resume(
 {
     let x = c_words::load_record(record);
     match x {
-        Loaded::Fit(r) => {
+        Some(r) => {
             let resumed = vm_resume::resume(
                 statements,
                 count,
@@ -203,6 +203,6 @@ pub fn voodoo_resume(
             );
             c_words::reply_resumed(resumed, record, res)
         }
-        Loaded::Unfit => c_words::reply_refusal(37, res),
+        None => c_words::reply_refusal(37, res),
     }
 }

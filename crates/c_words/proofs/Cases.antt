@@ -1,5 +1,7 @@
 -- The ways through the functions of this crate.
 -- Assumes nothing.
+use Rattle.vm_definitions.specs.declared.StartError.{StartError}
+use Rattle.std.proofs.Common.{Ok, Err, Option, Some, None}
 use mathlib.Core.Path.{◌≡◌, refl, sym, ◌∙◌, ap, ap₂}
 use mathlib.Core.Bool.{Bool, true, false, not}
 use mathlib.Core.List.{List, [], ◌∷◌}
@@ -18,32 +20,16 @@ use Rattle.base_limits.specs.declared.Machine.{Machine}
 use Rattle.base_limits.specs.Record.{of_parts, pause_of, eight_words}
 use Rattle.vm_definitions.specs.Access.{store_from}
 use Rattle.vm_definitions.specs.declared.Broken.{Broken}
-use Rattle.vm_definitions.specs.declared.Started.{Started}
-use Rattle.vm_definitions.specs.declared.Started.TheVariants.{Begun, Refused, Unsound}
+use Rattle.vm_definitions.specs.Start.{Started}
+use Rattle.vm_definitions.specs.declared.StartError.TheVariants.{Refused, Unsound}
 use Rattle.vm_definitions.specs.declared.Opening.{Opening}
 use Rattle.vm_definitions.specs.declared.Outcome.{Outcome}
 use Rattle.vm_definitions.specs.declared.Resumed.{Resumed}
-use Rattle.c_words.specs.declared.Loaded.{Loaded}
-use Rattle.c_words.specs.declared.Loaded.TheVariants.{Fit, Unfit}
 use Rattle.c_words.specs.Placed.{placed, three_at}
 use Rattle.c_words.specs.Words as word
 use Rattle.c_words.specs.Words.{record_size, nowhere}
 use Rattle.c_words.specs.Record.{is_stop, is_listed, state_of, state_in, machine_of, record_of, state_number, state_value, state_place, state_pause, record_words, record_over}
 use Rattle.c_words.specs.Reply.{Reply, reply, refusal_words, refusal_reply, broken_number, broken_place, state_flag, flagged_word, outcome_number, outcome_words, changes, record_after, outcome_reply, resumed_reply, start_number, start_place, start_words, record_begun, opening_reply}
-
-set_past : (out : List ℕ) (i v : ℕ) → length out ≤ i → out ≡ set out i v
-set_past [] i v h = refl
-set_past (x ∷ xs) zero v h = let z : ⊥ = omega arith in absurd z
-set_past (x ∷ xs) (suc i) v h = ap (λ (l : List ℕ). x ∷ l) (set_past xs i v (omega arith))
-
-module _ (out : List ℕ) (i v : ℕ) where
-  pub placed-in : i < length out → set out i v ≡ placed out i v
-  unfolding placed
-  placed-in h = refl
-
-  pub placed_past : length out ≤ i → out ≡ placed out i v
-  unfolding placed
-  placed_past h = set_past out i v h
 
 pub overlay-none : (out : List ℕ) → out ≡ overlay [] out
 unfolding overlay
@@ -145,33 +131,33 @@ module _ (s a b : ℕ) (q : Pause) where
 pub ruleset state-ways = (state-running, state-finished, state-stopped, state-paused)
 
 module _ (ws : List ℕ) where
-  pub load-short : length ws < record_size → Unfit ≡ record_of ws
+  pub load-short : length ws < record_size → None ≡ record_of ws
   unfolding record_of
-  load-short h = sym (if_lt-yes Unfit _ h)
+  load-short h = sym (if_lt-yes None _ h)
 
   module _ (b : Bool) (h : record_size ≤ length ws) (e : b ≡ is_listed (get_or ws word.state 0) (get_or ws word.value 0)) where
-    pub load-unlisted : b ≡ false → Unfit ≡ record_of ws
+    pub load-unlisted : b ≡ false → None ≡ record_of ws
     unfolding record_of
-    load-unlisted q = sym (if_lt-no Unfit _ h ∙ if_true-no (Fit (machine_of ws)) Unfit (sym e ∙ q))
+    load-unlisted q = sym (if_lt-no None _ h ∙ if_true-no (Some (machine_of ws)) None (sym e ∙ q))
 
     pub load-fit : (s : State) (r : Machine) → b ≡ true → s ≡ state_in ws
-        → r ≡ of_parts s (get_or ws word.next 0) (get_or ws word.frame 0) (get_or ws word.used 0) (get_or ws word.top 0) → Fit r ≡ record_of ws
+        → r ≡ of_parts s (get_or ws word.next 0) (get_or ws word.frame 0) (get_or ws word.used 0) (get_or ws word.top 0) → Some r ≡ record_of ws
     unfolding record_of machine_of
     load-fit s r q p d =
-        ap Fit (d ∙ ap (λ (z : State). of_parts z (get_or ws word.next 0) (get_or ws word.frame 0) (get_or ws word.used 0) (get_or ws word.top 0)) p)
-        ∙ sym (if_lt-no Unfit _ h ∙ if_true-yes (Fit (machine_of ws)) Unfit (sym e ∙ q))
+        ap Some (d ∙ ap (λ (z : State). of_parts z (get_or ws word.next 0) (get_or ws word.frame 0) (get_or ws word.used 0) (get_or ws word.top 0)) p)
+        ∙ sym (if_lt-no None _ h ∙ if_true-yes (Some (machine_of ws)) None (sym e ∙ q))
 
 pub ruleset load-ways = (load-short, load-unlisted, load-fit)
 
 pub pause-stored : (q : Pause) (ws o₀ o₁ o₂ o₃ : List ℕ) → o₀ ≡ three_at ws 8 q.first q.second q.third
-    → o₁ ≡ three_at o₀ 11 q.fourth q.fifth q.sixth → o₂ ≡ placed o₁ 14 q.seventh → o₃ ≡ placed o₂ 15 q.eighth
+    → o₁ ≡ three_at o₀ 11 q.fourth q.fifth q.sixth → o₂ ≡ set o₁ 14 q.seventh → o₃ ≡ set o₂ 15 q.eighth
     → o₃ ≡ store_from ws word.arguments (eight_words q)
 unfolding three_at placed eight_words store_from
 pause-stored q ws o₀ o₁ o₂ o₃ a b c d = rw (d, c, b, a)
 
 pub record-stored : (r : Machine) (s v p : ℕ) (q : Pause) (ws o₀ o₁ o₂ o₃ : List ℕ) → s ≡ state_number r.state → v ≡ state_value r.state
     → p ≡ state_place r.state → q ≡ state_pause r.state → o₀ ≡ three_at ws 0 s r.next r.frame
-    → o₁ ≡ three_at o₀ 3 r.used r.top v → o₂ ≡ placed o₁ 6 p → o₃ ≡ store_from o₂ word.arguments (eight_words q) → o₃ ≡ record_over r ws
+    → o₁ ≡ three_at o₀ 3 r.used r.top v → o₂ ≡ set o₁ 6 p → o₃ ≡ store_from o₂ word.arguments (eight_words q) → o₃ ≡ record_over r ws
 unfolding three_at placed record_words record_over store_from
 record-stored r s v p q ws o₀ o₁ o₂ o₃ e g h k a b c d = rw (d, c, b, a, e, g, h, k)
 
@@ -242,19 +228,15 @@ unfolding start_words
 start-worded a n p out out' e q s = rw (← e, ← q) s
 
 module _ (a : Started) (r : Machine) (ws : List ℕ) where
-  pub begun_kept : (ws' : List ℕ) → a ≡ Begun → ws' ≡ record_over r ws → ws' ≡ record_begun a r ws
+  pub begun_kept : (ws' : List ℕ) → a ≡ Ok tt → ws' ≡ record_over r ws → ws' ≡ record_begun a r ws
   unfolding record_begun
   begun_kept ws' e q = q ∙ sym (ap (λ (x : Started). record_begun x r ws) e)
 
-  pub refused-kept : (k : ℕ) → a ≡ Refused k → ws ≡ record_begun a r ws
+  pub refused-kept : (k : StartError) → a ≡ Err k → ws ≡ record_begun a r ws
   unfolding record_begun
   refused-kept k e = sym (ap (λ (x : Started). record_begun x r ws) e)
 
-  pub unsound-kept : (b : Broken) → a ≡ Unsound b → ws ≡ record_begun a r ws
-  unfolding record_begun
-  unsound-kept b e = sym (ap (λ (x : Started). record_begun x r ws) e)
-
-pub ruleset begun-ways = (begun_kept, refused-kept, unsound-kept)
+pub ruleset begun-ways = (begun_kept, refused-kept)
 
 pub opening-replied : (o : Opening) (n : ℕ) (ws ws' out out' : List ℕ) → ws' ≡ record_begun o.answer o.machine ws
     → (n ≡ start_number o.answer) × (out' ≡ overlay (start_words o.answer) out) → reply n ws' out' ≡ opening_reply o ws out

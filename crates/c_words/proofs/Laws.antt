@@ -1,5 +1,6 @@
 -- A record that was written is read back as it was, and word 7 stays.
 -- Assumes nothing.
+use Rattle.std.proofs.Common.{Option, Some, None}
 use mathlib.Core.Path.{◌≡◌, refl, sym, ◌∙◌, ap, subst}
 use mathlib.Core.Bool.{Bool, true, false}
 use mathlib.Core.List.{List, [], ◌∷◌}
@@ -17,8 +18,6 @@ use Rattle.base_limits.specs.declared.Machine.{Machine}
 use Rattle.base_limits.specs.Record.{of_parts, pause_of, eight_words}
 use Rattle.vm_definitions.specs.Access.{store_from}
 use Rattle.vm_definitions.proofs.Stores.{store-before, store-behind}
-use Rattle.c_words.specs.declared.Loaded.{Loaded}
-use Rattle.c_words.specs.declared.Loaded.TheVariants.{Fit, Unfit}
 use Rattle.c_words.specs.Words as word
 use Rattle.c_words.specs.Words.{record_size}
 use Rattle.c_words.specs.Record.{is_stop, is_listed, pause_held, state_of, state_in, machine_of, record_of, state_number, state_value, state_place, state_pause, record_words, record_over}
@@ -36,25 +35,25 @@ read_back : (s : State) (next frame used top x : ℕ) (ws : List ℕ) → Listed
     (state_number s ∷ next ∷ frame ∷ used ∷ top ∷ state_value s ∷ state_place s ∷ x ∷ (state_pause s).first ∷ (state_pause s).second
     ∷ (state_pause s).third ∷ (state_pause s).fourth ∷ (state_pause s).fifth ∷ (state_pause s).sixth ∷ (state_pause s).seventh
     ∷ (state_pause s).eighth ∷ ws)
-    ≡ Fit (of_parts s next frame used top)
+    ≡ Some (of_parts s next frame used top)
 unfolding Listed record_of machine_of state_in is_listed state_of pause_held state_number state_value state_place state_pause if_eq if_true
-read_back Running next frame used top x ws l = if_lt-no Unfit _ (omega arith)
-read_back (Finished v) next frame used top x ws l = if_lt-no Unfit _ (omega arith)
+read_back Running next frame used top x ws l = if_lt-no None _ (omega arith)
+read_back (Finished v) next frame used top x ws l = if_lt-no None _ (omega arith)
 read_back (Stopped k i) next frame used top x ws l =
-    if_lt-no Unfit _ (omega arith) ∙ ap (λ (b : Bool). pick b (Fit (of_parts (Stopped k i) next frame used top)) Unfit) l
-read_back (Paused q) next frame used top x ws l = if_lt-no Unfit _ (omega arith)
+    if_lt-no None _ (omega arith) ∙ ap (λ (b : Bool). pick b (Some (of_parts (Stopped k i) next frame used top)) None) l
+read_back (Paused q) next frame used top x ws l = if_lt-no None _ (omega arith)
 
 -- ---- what a record that was read says of its words
 
-abbrev is_fit : Loaded → Bool
-is_fit (Fit r) = true
-is_fit Unfit = false
+abbrev is_fit : Option Machine → Bool
+is_fit (Some r) = true
+is_fit None = false
 
-abbrev machine_in : Machine → Loaded → Machine
-machine_in d (Fit r) = r
-machine_in d Unfit = d
+abbrev machine_in : Machine → Option Machine → Machine
+machine_in d (Some r) = r
+machine_in d None = d
 
-fit-ways : (u v : Bool) (q r : Machine) → pick u Unfit (pick v (Fit q) Unfit) ≡ Fit r → (u ≡ false) × (v ≡ true) × (q ≡ r)
+fit-ways : (u v : Bool) (q r : Machine) → pick u None (pick v (Some q) None) ≡ Some r → (u ≡ false) × (v ≡ true) × (q ≡ r)
 fit-ways true v q r e = true-false (sym (ap is_fit e))
 fit-ways false true q r e = (refl, refl, ap (machine_in r) e)
 fit-ways false false q r e = true-false (sym (ap is_fit e))
@@ -82,7 +81,7 @@ module _ (s a b : ℕ) (q : Pause) where
   unfolding Listed
   listed-state = ways-of Listed (λ h. tt) (λ h. tt) (λ h d. d) (λ h. tt)
 
-module _ (ws : List ℕ) (r : Machine) (e : record_of ws ≡ Fit r) where
+module _ (ws : List ℕ) (r : Machine) (e : record_of ws ≡ Some r) where
   ways : (ltb (length ws) record_size ≡ false) × (is_listed (get_or ws word.state 0) (get_or ws word.value 0) ≡ true) × (machine_of ws ≡ r)
   unfolding record_of if_lt if_true
   ways = fit-ways (ltb (length ws) record_size) (is_listed (get_or ws word.state 0) (get_or ws word.value 0)) (machine_of ws) r e
@@ -106,7 +105,7 @@ module _ (ws : List ℕ) (r : Machine) (e : record_of ws ≡ Fit r) where
 short : {P : Type 0} (n : ℕ) → n < record_size → record_size ≤ n → P
 short n h q = absurd (let z : ⊥ = omega arith in z)
 
-pub record-back : (r : Machine) (ws : List ℕ) → Listed r.state → record_size ≤ length ws → record_of (record_over r ws) ≡ Fit r
+pub record-back : (r : Machine) (ws : List ℕ) → Listed r.state → record_size ≤ length ws → record_of (record_over r ws) ≡ Some r
 unfolding record_over record_words store_from eight_words of_parts
 record-back r (x0 ∷ x1 ∷ x2 ∷ x3 ∷ x4 ∷ x5 ∷ x6 ∷ x7 ∷ x8 ∷ x9 ∷ x10 ∷ x11 ∷ x12 ∷ x13 ∷ x14 ∷ x15 ∷ ws) l h =
     read_back r.state r.next r.frame r.used r.top x7 ws l

@@ -1,6 +1,6 @@
 -- The run record in the words that a host lends.
 -- Assumes nothing.
-use Rattle.std.specs.Prelude.{ℕ, ◌+◌, Bool, true, false, List, [], ◌∷◌, leb, eqb, length, get_or}
+use Rattle.std.specs.Prelude.{ℕ, ◌+◌, Bool, true, false, List, [], ◌∷◌, leb, eqb, length, get_or, Option, Some, None}
 use Rattle.base_prelude.specs.Choice.{if_lt, if_eq, if_true}
 use Rattle.base_limits.specs.declared.State.{State}
 use Rattle.base_limits.specs.declared.State.TheVariants.{Running, Finished, Stopped, Paused}
@@ -10,8 +10,6 @@ use Rattle.c_words.specs.Words as word
 use Rattle.c_words.specs.Words.{record_size}
 use Rattle.base_limits.specs.Record.{of_parts, pause_of, eight_words}
 use Rattle.vm_definitions.specs.Access.{store_from}
-use Rattle.c_words.specs.declared.Loaded.{Loaded}
-use Rattle.c_words.specs.declared.Loaded.TheVariants.{Fit, Unfit}
 
 -- a stop that 01 lists: "30..34"
 unfoldable pub is_stop : ℕ → Bool
@@ -51,9 +49,9 @@ machine_of ws =
     of_parts (state_in ws) (get_or ws word.next 0) (get_or ws word.frame 0) (get_or ws word.used 0) (get_or ws word.top 0)
 
 -- the record that the words hold; none in fewer than 16 words, or where the state is not listed
-unfoldable pub record_of : List ℕ → Loaded
+unfoldable pub record_of : List ℕ → Option Machine
 record_of ws =
-    if_lt (length ws) record_size Unfit (if_true (is_listed (get_or ws word.state 0) (get_or ws word.value 0)) (Fit (machine_of ws)) Unfit)
+    if_lt (length ws) record_size None (if_true (is_listed (get_or ws word.state 0) (get_or ws word.value 0)) (Some (machine_of ws)) None)
 
 -- ---- the words of a record
 

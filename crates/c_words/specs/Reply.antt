@@ -1,7 +1,8 @@
 -- What a call answers: the number given back, the lent record and the six result words: number, place, count (low and high 32 bits),
 -- whether the record has finished or paused, and its word then.
 -- Assumes nothing.
-use Rattle.std.specs.Prelude.{ℕ, ◌/◌, ◌%◌, Bool, true, false, not, List, [], ◌∷◌, eqb, get_or}
+use Rattle.vm_definitions.specs.declared.StartError.{StartError}
+use Rattle.std.specs.Prelude.{ℕ, ◌/◌, ◌%◌, Bool, true, false, not, List, [], ◌∷◌, eqb, get_or, Ok, Err}
 use Rattle.base_limits.specs.Limits.{word_values}
 use Rattle.base_prelude.specs.Choice.{if_eq, if_true}
 use Rattle.base_prelude.specs.Lists.{overlay}
@@ -10,8 +11,8 @@ use Rattle.base_limits.specs.declared.State.TheVariants.{Running, Finished, Stop
 use Rattle.base_limits.specs.declared.Machine.{Machine}
 use Rattle.vm_definitions.specs.declared.Broken.{Broken}
 use Rattle.vm_definitions.specs.declared.Broken.TheVariants.{No, At, Somewhere}
-use Rattle.vm_definitions.specs.declared.Started.{Started}
-use Rattle.vm_definitions.specs.declared.Started.TheVariants.{Begun, Refused, Unsound}
+use Rattle.vm_definitions.specs.Start.{Started}
+use Rattle.vm_definitions.specs.declared.StartError.TheVariants.{Refused, Unsound}
 use Rattle.vm_definitions.specs.declared.Opening.{Opening}
 use Rattle.vm_definitions.specs.declared.Outcome.{Outcome}
 use Rattle.vm_definitions.specs.declared.Resumed.{Resumed}
@@ -108,24 +109,29 @@ unsound_place No = nowhere
 unsound_place (At i) = i
 unsound_place Somewhere = nowhere
 
+unfoldable pub error_number : StartError → ℕ
+error_number (Refused k) = k
+error_number (Unsound b) = 35
+
+unfoldable pub error_place : StartError → ℕ
+error_place (Refused k) = nowhere
+error_place (Unsound b) = unsound_place b
+
 unfoldable pub start_number : Started → ℕ
-start_number Begun = 0
-start_number (Refused k) = k
-start_number (Unsound b) = 35
+start_number (Ok _) = 0
+start_number (Err e) = error_number e
 
 unfoldable pub start_place : Started → ℕ
-start_place Begun = nowhere
-start_place (Refused k) = nowhere
-start_place (Unsound b) = unsound_place b
+start_place (Ok _) = nowhere
+start_place (Err e) = error_place e
 
 unfoldable pub start_words : Started → List ℕ
 start_words a = start_number a ∷ start_place a ∷ 0 ∷ 0 ∷ 0 ∷ 0 ∷ []
 
 -- the record r that a start leaves is written when it has begun
 unfoldable pub record_begun : Started → Machine → List ℕ → List ℕ
-record_begun Begun r ws = record_over r ws
-record_begun (Refused k) r ws = ws
-record_begun (Unsound b) r ws = ws
+record_begun (Ok _) r ws = record_over r ws
+record_begun (Err e) r ws = ws
 
 unfoldable pub opening_reply : Opening → List ℕ → List ℕ → Reply
 opening_reply o ws out =

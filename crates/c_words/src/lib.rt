@@ -6,14 +6,14 @@ ghost use Rattle.base_limits.specs.Limits.{word_values};
 ghost use Rattle.base_limits.specs.Record.{pause_of, eight_words};
 ghost use Rattle.base_prelude.specs.Lists.{overlay};
 ghost use Rattle.vm_definitions.specs.Access.{store_from};
-ghost use Rattle.c_words.specs.Placed.{placed, three_at};
+ghost use Rattle.c_words.specs.Placed.{three_at};
 ghost use Rattle.c_words.specs.Words as word;
 ghost use Rattle.c_words.specs.Words.{numbers_of, record_size};
 ghost use Rattle.c_words.specs.Record.{is_stop, is_listed, pause_held, state_of, state_in, record_of, state_number, state_value, state_place, state_pause, record_over};
-ghost use Rattle.c_words.specs.Reply.{reply, unfit_number, refusal_words, stop_number, stop_place, broken_number, broken_place, state_flag, flagged_word, outcome_number, outcome_words, changes, record_after, outcome_reply, resumed_reply, unsound_place, start_number, start_place, start_words, record_begun, opening_reply};
+ghost use Rattle.c_words.specs.Reply.{reply, unfit_number, refusal_words, stop_number, stop_place, broken_number, broken_place, state_flag, flagged_word, outcome_number, outcome_words, changes, record_after, outcome_reply, resumed_reply, unsound_place, error_number, error_place, start_number, start_place, start_words, record_begun, opening_reply};
 
 use base_limits::{Machine, Pause, State};
-use vm_definitions::{Broken, Opening, Outcome, Resumed, Started};
+use vm_definitions::{Broken, Opening, Outcome, Resumed, StartError};
 
 // Places of the words of the lent record that are used.
 #[derive(Drop)]
@@ -123,30 +123,14 @@ pub fn all_numbers() -> Numbers
     }
 }
 
-// The record of some lent words, or none.
-#[derive(Drop)]
-pub enum Loaded {
-    Fit(Machine),
-    Unfit,
-}
-
-// A word at a place of a buffer, if it is long enough.
-fn put_word(out: &mut [u32], i: usize, v: u32)
-    ensures { out.new ≡ placed out.old i v }
-{
-    if i < out.len() {
-        out[i] = v;
-    }
-}
-
 // Three words from a place on.
 fn put_three(out: &mut [u32], i: usize, a: u32, b: u32, c: u32)
     requires { i ≤ 11 }
     ensures { out.new ≡ three_at out.old i a b c }
 {
-    put_word(out, i, a);
-    put_word(out, i + 1, b);
-    put_word(out, i + 2, c);
+    vm_memory::put(out, i, a);
+    vm_memory::put(out, i + 1, b);
+    vm_memory::put(out, i + 2, c);
 }
 
 // Six words over the front of a buffer; gives the first.
@@ -243,16 +227,16 @@ fn has_state(record: &[u32]) -> bool
     is_listed(record[RecordWord::STATE], record[RecordWord::VALUE])
 }
 
-// The record that the words hold.
-pub fn load_record(record: &[u32]) -> Loaded
+// The record that the words hold, where they hold one.
+pub fn load_record(record: &[u32]) -> Option<Machine>
     ensures { result ≡ record_of «record».now }
 {
     if record.len() < RecordWord::COUNT {
-        return Loaded::Unfit;
+        return None;
     }
     if has_state(record) {
         let state = read_state(record);
-        return Loaded::Fit(Machine::of_parts(
+        return Some(Machine::of_parts(
             state,
             record[RecordWord::NEXT],
             record[RecordWord::FRAME],
@@ -260,7 +244,7 @@ pub fn load_record(record: &[u32]) -> Loaded
             record[RecordWord::TOP],
         ));
     }
-    Loaded::Unfit
+    None
 }
 
 // The pause of a record that is not paused: zeros.
@@ -341,8 +325,8 @@ fn put_pause(record: &mut [u32], q: Pause)
         q.fifth,
         q.sixth,
     );
-    put_word(record, RecordWord::ARGUMENTS + 6, q.seventh);
-    put_word(record, RecordWord::ARGUMENTS + 7, q.eighth);
+    vm_memory::put(record, RecordWord::ARGUMENTS + 6, q.seventh);
+    vm_memory::put(record, RecordWord::ARGUMENTS + 7, q.eighth);
 }
 
 // Writes a record into the lent words, all but word 7.
@@ -352,7 +336,7 @@ pub fn store_record(record: &mut [u32], r: Machine)
     let s = r.state;
     put_three(record, 0, state_number(s), r.next, r.frame);
     put_three(record, 3, r.used, r.top, state_value(s));
-    put_word(record, RecordWord::AT, state_place(s));
+    vm_memory::put(record, RecordWord::AT, state_place(s));
     put_pause(record, state_pause(s));
 }
 
@@ -527,43 +511,60 @@ fn unsound_place(b: Broken) -> u32
     }
 }
 
+// The number of a start that has not begun.
+fn error_number(e: StartError) -> u32
+    ensures { result ≡ error_number e }
+{
+    match e {
+        StartError::Refused(k) => k,
+        StartError::Unsound(_) => 35,
+    }
+}
+
+// The place of a start that has not begun.
+fn error_place(e: StartError) -> u32
+    ensures { result ≡ error_place e }
+{
+    match e {
+        StartError::Refused(_) => Place::NONE,
+        StartError::Unsound(b) => unsound_place(b),
+    }
+}
+
 // The number of a start's answer.
-fn start_number(a: Started) -> u32
+fn start_number(a: Result<(), StartError>) -> u32
     ensures { result ≡ start_number a }
 {
     match a {
-        Started::Begun => 0,
-        Started::Refused(k) => k,
-        Started::Unsound(_) => 35,
+        Ok(()) => 0,
+        Err(e) => error_number(e),
     }
 }
 
 // The place of a start's answer.
-fn start_place(a: Started) -> u32
+fn start_place(a: Result<(), StartError>) -> u32
     ensures { result ≡ start_place a }
 {
     match a {
-        Started::Begun => Place::NONE,
-        Started::Refused(_) => Place::NONE,
-        Started::Unsound(b) => unsound_place(b),
+        Ok(()) => Place::NONE,
+        Err(e) => error_place(e),
     }
 }
 
 // Writes a start's answer in six words, and gives its number.
-fn put_start(a: Started, res: &mut [u32]) -> u32
+fn put_start(a: Result<(), StartError>, res: &mut [u32]) -> u32
     ensures { (result ≡ start_number a) × (res.new ≡ overlay (start_words a) res.old) }
 {
     put_six(res, start_number(a), start_place(a), 0, 0, 0, 0)
 }
 
 // Writes the record that a start has begun.
-fn keep_begun(a: Started, r: Machine, record: &mut [u32])
+fn keep_begun(a: Result<(), StartError>, r: Machine, record: &mut [u32])
     ensures { «record».new ≡ record_begun a r «record».old }
 {
     match a {
-        Started::Begun => store_record(record, r),
-        Started::Refused(_) => {}
-        Started::Unsound(_) => {}
+        Ok(()) => store_record(record, r),
+        Err(_) => {}
     }
 }
 

@@ -1,6 +1,7 @@
 -- One law for each way through a function without a loop.
 -- Assumes nothing.
-use Rattle.std.proofs.Common.{◌≡◌, ℕ, zero, suc, ◌+◌, ◌-◌, ◌*◌, ◌/◌, ◌%◌, ◌<◌, ◌≤◌, Bool, true, false, List, [], ◌∷◌, ◌++◌, length, take, drop, sym, refl, ap, ◌∙◌, arith, length-drop, take_all}
+use Rattle.vm_definitions.specs.declared.StartError.{StartError}
+use Rattle.std.proofs.Common.{◌≡◌, ℕ, zero, suc, ◌+◌, ◌-◌, ◌*◌, ◌/◌, ◌%◌, ◌<◌, ◌≤◌, Bool, true, false, List, [], ◌∷◌, ◌++◌, length, take, drop, sym, refl, ap, ◌∙◌, arith, length-drop, take_all, Ok, Err}
 use Rattle.base_prelude.specs.Bytes.{byte_at}
 use Rattle.base_prelude.proofs.Bytes.{byte-within}
 use Rattle.base_prelude.proofs.Choice.{tests, if_lt-yes, if_lt-no, if_true-yes, if_true-no}
@@ -11,8 +12,8 @@ use Rattle.base_limits.specs.declared.Machine.{Machine}
 use Rattle.base_limits.specs.Record.{moved_to, with_state, eight_words, paused_words}
 use Rattle.vm_definitions.specs.declared.Broken.{Broken}
 use Rattle.vm_definitions.specs.declared.Broken.TheVariants.{No, At, Somewhere}
-use Rattle.vm_definitions.specs.declared.Started.{Started}
-use Rattle.vm_definitions.specs.declared.Started.TheVariants.{Begun, Refused, Unsound}
+use Rattle.vm_definitions.specs.Start.{Started}
+use Rattle.vm_definitions.specs.declared.StartError.TheVariants.{Refused, Unsound}
 use Rattle.vm_definitions.specs.declared.Outcome.{Outcome}
 use Rattle.vm_definitions.specs.declared.Resumed.{Resumed}
 use Rattle.app_page.specs.Bytes.{digits_within, decimal, field}
@@ -21,7 +22,7 @@ use Rattle.test_lines.specs.Fields.{no_number, field_start, field_of}
 use Rattle.test_lines.specs.Sources.{Source, source, add_byte}
 use Rattle.test_text.specs.Fields.{count_fields, has_word, word_end, raw_at}
 use Rattle.test_text.specs.Numbers.{negated_of, field_value, field_word, are_values, has_values, long_digit}
-use Rattle.test_text.specs.Answers.{add_all, field_bytes, none-word, begun-word, refused-word, broken-word, rejected-word, going-word, finished-word, stopped-word, paused-word, record-word, broken_bytes, started_bytes, rejected_bytes, counted_bytes, stopped_bytes, finished_bytes, list_bytes, paused_bytes, state_bytes, unsound_bytes, outcome_bytes, resumed_bytes, record_bytes}
+use Rattle.test_text.specs.Answers.{error_bytes, add_all, field_bytes, none-word, begun-word, refused-word, broken-word, rejected-word, going-word, finished-word, stopped-word, paused-word, record-word, broken_bytes, started_bytes, rejected_bytes, counted_bytes, stopped_bytes, finished_bytes, list_bytes, paused_bytes, state_bytes, unsound_bytes, outcome_bytes, resumed_bytes, record_bytes}
 use Rattle.test_text.specs.Records as poke
 use Rattle.test_text.specs.Records.{poke_number, pause_poked, is_pause_poke, poke_state, is_number_poke, is_state_poke, is_record_poke, poke_record}
 use Rattle.test_text.specs.Buffers.{lesser_of, behind_of}
@@ -193,19 +194,26 @@ module _ (b : Broken) (q : Source) where
 pub ruleset brokens = (broken-no, broken-at, broken-none)
 
 module _ (a : Started) (q : Source) where
-  pub started-begun : (z : Source) → a ≡ Begun → z ≡ add_all begun-word q → z ≡ add_all (started_bytes a) q
+  pub started-begun : (z : Source) → a ≡ Ok tt → z ≡ add_all begun-word q → z ≡ add_all (started_bytes a) q
   unfolding started_bytes
   started-begun z e f = rw e f
 
-  pub started-refused : (n : ℕ) (y z : Source) → a ≡ Refused n → y ≡ add_all refused-word q → z ≡ add_all (field n) y → z ≡ add_all (started_bytes a) q
+  pub started-not : (x : StartError) (z : Source) → a ≡ Err x → z ≡ add_all (error_bytes x) q → z ≡ add_all (started_bytes a) q
   unfolding started_bytes
-  started-refused n y z e f g = rw e (add-two refused-word (field n) q y z f g)
+  started-not x z e f = rw e f
 
-  pub started-broken : (b : Broken) (y z : Source) → a ≡ Unsound b → y ≡ add_all broken-word q → z ≡ add_all (broken_bytes b) y → z ≡ add_all (started_bytes a) q
-  unfolding started_bytes
-  started-broken b y z e f g = rw e (add-two broken-word (broken_bytes b) q y z f g)
+pub ruleset starteds = (started-begun, started-not)
 
-pub ruleset starteds = (started-begun, started-refused, started-broken)
+module _ (a : StartError) (q : Source) where
+  pub error-refused : (n : ℕ) (y z : Source) → a ≡ Refused n → y ≡ add_all refused-word q → z ≡ add_all (field n) y → z ≡ add_all (error_bytes a) q
+  unfolding error_bytes
+  error-refused n y z e f g = rw e (add-two refused-word (field n) q y z f g)
+
+  pub error-broken : (b : Broken) (y z : Source) → a ≡ Unsound b → y ≡ add_all broken-word q → z ≡ add_all (broken_bytes b) y → z ≡ add_all (error_bytes a) q
+  unfolding error_bytes
+  error-broken b y z e f g = rw e (add-two broken-word (broken_bytes b) q y z f g)
+
+pub ruleset start-errors = (error-refused, error-broken)
 
 pub rejected-added : (number place : ℕ) (q x y z : Source) → x ≡ add_all rejected-word q → y ≡ add_all (field number) x → z ≡ add_all (field place) y → z ≡ add_all (rejected_bytes number place) q
 unfolding rejected_bytes
@@ -274,7 +282,7 @@ module _ (o : Outcome) (q z : Source) where
 pub ruleset outcomes = (outcome-state, outcome-at, outcome-nowhere)
 
 module _ (o : Resumed) (q z : Source) where
-  pub resumed-not : o.unpaused ≡ true → z ≡ add_all (started_bytes (Refused 37)) q → z ≡ add_all (resumed_bytes o) q
+  pub resumed-not : o.unpaused ≡ true → z ≡ add_all (started_bytes (Err (Refused 37))) q → z ≡ add_all (resumed_bytes o) q
   unfolding resumed_bytes
   resumed-not e f = f ∙ ap (λ (x : List ℕ). add_all x q) (sym (if_true-yes _ _ e))
 

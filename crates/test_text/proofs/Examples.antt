@@ -1,6 +1,6 @@
 -- Numbers and answers as they stand in a case file, computed from their definitions.
 -- Assumes nothing.
-use Rattle.std.proofs.Common.{◌≡◌, ℕ, Bool, true, false, List, [], ◌∷◌, refl}
+use Rattle.std.proofs.Common.{◌≡◌, ℕ, Bool, true, false, List, [], ◌∷◌, refl, Err}
 use Rattle.base_prelude.specs.Choice.{if_lt, if_eq, if_true}
 use Rattle.base_prelude.specs.Bytes.{byte_at}
 use Rattle.base_prelude.specs.Walk.{walk}
@@ -9,7 +9,7 @@ use Rattle.base_limits.specs.declared.State.TheVariants.{Running, Finished, Stop
 use Rattle.base_limits.specs.Record.{of_parts, pause_of, eight_words, paused_words}
 use Rattle.vm_definitions.specs.declared.Broken.{Broken}
 use Rattle.vm_definitions.specs.declared.Broken.TheVariants.{No, At, Somewhere}
-use Rattle.vm_definitions.specs.declared.Started.TheVariants.{Refused}
+use Rattle.vm_definitions.specs.declared.StartError.TheVariants.{Refused}
 use Rattle.vm_definitions.specs.declared.Outcome.{Outcome}
 use Rattle.vm_definitions.specs.declared.Resumed.{Resumed}
 use Rattle.app_page.specs.Bytes.{digits_within, decimal, field}
@@ -17,15 +17,15 @@ use Rattle.test_lines.specs.Lines.{one_more}
 use Rattle.test_lines.specs.Fields.{field_step, field_start, with_digit, digit_step, number_from, number_at, field_of}
 use Rattle.test_text.specs.Fields.{count_step, count_fields, word_step, word_end, raw_at}
 use Rattle.test_text.specs.Numbers.{negated_of, field_value}
-use Rattle.test_text.specs.Answers.{field_bytes, fields_from, plain_bytes, broken_bytes, started_bytes, counted_bytes, stopped_bytes, finished_bytes, list_bytes, paused_bytes, state_bytes, unsound_bytes, outcome_bytes, resumed_bytes}
+use Rattle.test_text.specs.Answers.{error_bytes, field_bytes, fields_from, plain_bytes, broken_bytes, started_bytes, counted_bytes, stopped_bytes, finished_bytes, list_bytes, paused_bytes, state_bytes, unsound_bytes, outcome_bytes, resumed_bytes}
 
 outcome : State → ℕ → Broken → Outcome
 outcome state count broken =
     record { machine = of_parts state 1 0 6 4; count = count; broken = broken }
 
 -- `refused 23`
-refused-23 : started_bytes (Refused 23) ≡ 114 ∷ 101 ∷ 102 ∷ 117 ∷ 115 ∷ 101 ∷ 100 ∷ 32 ∷ 50 ∷ 51 ∷ []
-unfolding if_lt digits_within decimal field started_bytes
+refused-23 : started_bytes (Err (Refused 23)) ≡ 114 ∷ 101 ∷ 102 ∷ 117 ∷ 115 ∷ 101 ∷ 100 ∷ 32 ∷ 50 ∷ 51 ∷ []
+unfolding if_lt digits_within decimal field started_bytes error_bytes
 refused-23 = refl
 
 -- `going 7`
@@ -63,12 +63,12 @@ resumed unpaused = record { outcome = outcome Running 1 No; unpaused = unpaused 
 
 -- `refused 37`
 refused-37 : resumed_bytes (resumed true) ≡ 114 ∷ 101 ∷ 102 ∷ 117 ∷ 115 ∷ 101 ∷ 100 ∷ 32 ∷ 51 ∷ 55 ∷ []
-unfolding if_lt if_true digits_within decimal field broken_bytes started_bytes counted_bytes stopped_bytes finished_bytes paused_bytes state_bytes unsound_bytes outcome_bytes resumed_bytes outcome resumed of_parts
+unfolding if_lt if_true digits_within decimal field broken_bytes started_bytes error_bytes counted_bytes stopped_bytes finished_bytes paused_bytes state_bytes unsound_bytes outcome_bytes resumed_bytes outcome resumed of_parts
 refused-37 = refl
 
 -- `going 1`
 resumed-going : resumed_bytes (resumed false) ≡ 103 ∷ 111 ∷ 105 ∷ 110 ∷ 103 ∷ 32 ∷ 49 ∷ []
-unfolding if_lt if_true digits_within decimal field broken_bytes started_bytes counted_bytes stopped_bytes finished_bytes paused_bytes state_bytes unsound_bytes outcome_bytes resumed_bytes outcome resumed of_parts
+unfolding if_lt if_true digits_within decimal field broken_bytes started_bytes error_bytes counted_bytes stopped_bytes finished_bytes paused_bytes state_bytes unsound_bytes outcome_bytes resumed_bytes outcome resumed of_parts
 resumed-going = refl
 
 -- `run -1`, its field 1

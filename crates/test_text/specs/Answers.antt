@@ -1,6 +1,7 @@
 -- Answers as bytes, in the words of a case file, and bytes added to a text.
 -- Assumes nothing.
-use Rattle.std.specs.Prelude.{ℕ, zero, suc, ◌-◌, List, [], ◌∷◌, ◌++◌, length, slice_index}
+use Rattle.vm_definitions.specs.declared.StartError.{StartError}
+use Rattle.std.specs.Prelude.{ℕ, zero, suc, ◌-◌, List, [], ◌∷◌, ◌++◌, length, slice_index, Ok, Err}
 use Rattle.base_prelude.specs.Choice.{if_lt, if_true}
 use Rattle.base_limits.specs.declared.State.{State}
 use Rattle.base_limits.specs.declared.State.TheVariants.{Running, Finished, Stopped, Paused}
@@ -9,8 +10,8 @@ use Rattle.base_limits.specs.declared.Machine.{Machine}
 use Rattle.base_limits.specs.Record.{paused_words}
 use Rattle.vm_definitions.specs.declared.Broken.{Broken}
 use Rattle.vm_definitions.specs.declared.Broken.TheVariants.{No, At, Somewhere}
-use Rattle.vm_definitions.specs.declared.Started.{Started}
-use Rattle.vm_definitions.specs.declared.Started.TheVariants.{Begun, Refused, Unsound}
+use Rattle.vm_definitions.specs.Start.{Started}
+use Rattle.vm_definitions.specs.declared.StartError.TheVariants.{Refused, Unsound}
 use Rattle.vm_definitions.specs.declared.Outcome.{Outcome}
 use Rattle.vm_definitions.specs.declared.Resumed.{Resumed}
 use Rattle.app_page.specs.Bytes.{decimal, field}
@@ -92,10 +93,13 @@ broken_bytes (At i) = field i
 broken_bytes Somewhere = none-word
 
 -- what a start answers
+unfoldable pub error_bytes : StartError → List ℕ
+error_bytes (Refused n) = refused-word ++ field n
+error_bytes (Unsound b) = broken-word ++ broken_bytes b
+
 unfoldable pub started_bytes : Started → List ℕ
-started_bytes Begun = begun-word
-started_bytes (Refused n) = refused-word ++ field n
-started_bytes (Unsound b) = broken-word ++ broken_bytes b
+started_bytes (Ok _) = begun-word
+started_bytes (Err e) = error_bytes e
 
 -- a refusal of the source
 unfoldable pub rejected_bytes : ℕ → ℕ → List ℕ
@@ -140,7 +144,7 @@ outcome_bytes o = answer_bytes o.broken o.machine.state o.count
 
 -- what going on answers: 37 where the record is not paused
 unfoldable pub resumed_bytes : Resumed → List ℕ
-resumed_bytes o = if_true o.unpaused (started_bytes (Refused 37)) (outcome_bytes o.outcome)
+resumed_bytes o = if_true o.unpaused (started_bytes (Err (Refused 37))) (outcome_bytes o.outcome)
 
 -- the numbers of a record
 unfoldable pub record_bytes : Machine → List ℕ

@@ -9,14 +9,14 @@ ghost use Rattle.app_page.specs.Bytes.{digits_within, decimal, field};
 ghost use Rattle.vm_definitions.specs.Access.{store_from};
 ghost use Rattle.test_text.specs.Fields.{count_fields, has_word, word_end, raw_at};
 ghost use Rattle.test_text.specs.Numbers.{negated_of, field_value, field_word, are_values, has_values, is_digits, long_digit, long_number, listed, arguments_of};
-ghost use Rattle.test_text.specs.Answers.{add_all, field_bytes, plain_bytes, broken_bytes, started_bytes, rejected_bytes, counted_bytes, stopped_bytes, finished_bytes, list_bytes, paused_bytes, state_bytes, unsound_bytes, outcome_bytes, resumed_bytes, record_bytes, numbers_from, words_bytes, holds_bytes};
+ghost use Rattle.test_text.specs.Answers.{error_bytes, add_all, field_bytes, plain_bytes, broken_bytes, started_bytes, rejected_bytes, counted_bytes, stopped_bytes, finished_bytes, list_bytes, paused_bytes, state_bytes, unsound_bytes, outcome_bytes, resumed_bytes, record_bytes, numbers_from, words_bytes, holds_bytes};
 ghost use Rattle.test_text.specs.Records.{poke_number, pause_poked, is_pause_poke, poke_state, is_number_poke, is_state_poke, is_record_poke, poke_record};
 ghost use Rattle.test_text.specs.Buffers.{lesser_of, behind_of, changed_in, stored, bytes_stored};
 
 use base_limits::{Machine, Pause, State};
 use base_prelude::{byte_at, wide};
 use test_lines::{Case, add_byte, field, field_start, narrow, starts_with};
-use vm_definitions::{Broken, Outcome, Resumed, Started};
+use vm_definitions::{Broken, Outcome, Resumed, StartError};
 
 // Sizes of the buffers of a case.
 #[derive(Drop)]
@@ -284,20 +284,29 @@ fn add_broken(b: Broken, text: &mut Text, size: usize) -> usize
     }
 }
 
-// What a start answers.
-pub fn add_started(a: Started, text: &mut Text) -> usize
-    ensures { source result text.new ≡ add_all (started_bytes a) (source 0 text.old) }
+// Why a start has not begun.
+fn add_start_error(e: StartError, text: &mut Text) -> usize
+    ensures { source result text.new ≡ add_all (error_bytes e) (source 0 text.old) }
 {
-    match a {
-        Started::Begun => add_all(b"begun", text, 0),
-        Started::Refused(n) => {
+    match e {
+        StartError::Refused(n) => {
             let size = add_all(b"refused", text, 0);
             add_next(n as u64, text, size)
         }
-        Started::Unsound(b) => {
+        StartError::Unsound(b) => {
             let size = add_all(b"broken", text, 0);
             add_broken(b, text, size)
         }
+    }
+}
+
+// What a start answers.
+pub fn add_started(a: Result<(), StartError>, text: &mut Text) -> usize
+    ensures { source result text.new ≡ add_all (started_bytes a) (source 0 text.old) }
+{
+    match a {
+        Ok(()) => add_all(b"begun", text, 0),
+        Err(e) => add_start_error(e, text),
     }
 }
 
@@ -407,7 +416,7 @@ pub fn add_resumed(o: Resumed, text: &mut Text) -> usize
 {
     let a = o.outcome;
     if o.unpaused {
-        return add_started(Started::Refused(37), text);
+        return add_started(Err(StartError::Refused(37)), text);
     }
     add_outcome(a, text)
 }

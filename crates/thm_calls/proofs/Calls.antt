@@ -1,5 +1,6 @@
 -- Any list of `voodoo_start`, `voodoo_step`, `voodoo_run` and `voodoo_resume` on the words that the last one left is a list of demand 3.
 -- Assumes nothing.
+use Rattle.std.proofs.Common.{Ok, Err, Option, Some}
 use mathlib.Core.Path.{◌≡◌, refl, sym, ◌∙◌, ap, subst}
 use mathlib.Core.Bool.{Bool, true, false}
 use mathlib.Core.List.{List, [], ◌∷◌}
@@ -30,13 +31,11 @@ use Rattle.vm_definitions.specs.Claim.{Demand, NoneBroken, started_by}
 use Rattle.vm_definitions.specs.Lent.{world}
 use Rattle.vm_definitions.specs.declared.Broken.{Broken}
 use Rattle.vm_definitions.specs.declared.Broken.TheVariants.{No, At, Somewhere}
-use Rattle.vm_definitions.specs.declared.Started.{Started}
-use Rattle.vm_definitions.specs.declared.Started.TheVariants.{Begun, Refused, Unsound}
+use Rattle.vm_definitions.specs.Start.{Started}
+use Rattle.vm_definitions.specs.declared.StartError.TheVariants.{Refused, Unsound}
 use Rattle.c_words.specs.Words.{record_size}
 use Rattle.c_words.specs.Record.{is_stop, record_of}
 use Rattle.c_words.specs.Reply.{stop_number, broken_number, outcome_number, refusal_reply, outcome_reply, resumed_reply, start_number, record_begun, opening_reply}
-use Rattle.c_words.specs.declared.Loaded.{Loaded}
-use Rattle.c_words.specs.declared.Loaded.TheVariants.{Fit}
 use Rattle.c_words.proofs.Laws.{Listed, record-back, record-long, record-listed}
 use Rattle.c_voodoo.specs.Calls.{Answered, outcome_of, resumed_of, unfit, outcome_answer, resumed_answer, opening_answer, step_by, step_call, run_by, run_call, resume_by, resume_call, start_call}
 use Rattle.thm_calls.specs.Calls.{Held, held_in, world_of, HostCall, invocations, answer_to, answer_of, held_after, numbers_after, started_from, Without35, Holds, HostDemand}
@@ -76,11 +75,11 @@ resumed-not ws out y l e = by y.unpaused
 abbrev P : Started → Type 0
 P a = Not35 (start_number a)
 
-begun : P Begun
+begun : P (Ok tt)
 unfolding start_number
 begun h = absurd (omega (arith, h))
 
-refused : (k : ℕ) → eqb k 35 ≡ false → P (Refused k)
+refused : (k : ℕ) → eqb k 35 ≡ false → P (Err (Refused k))
 unfolding start_number
 refused k e h = absurd (true-false (sym (eq-eqb k 35 h) ∙ e))
 
@@ -121,15 +120,15 @@ module _ (t : Tables) (bytes : List ℕ) where
           memory = (begun_by (program_from Bits32 t) bytes name args (X st m) a).memory;
         }
 
-    begun-holds : (ws st m : List ℕ) (r : Machine) → record_size ≤ length ws → Holds (held_by ws st m Begun) (begun_by (program_from Bits32 t) bytes name args (world r st m) Begun)
+    begun-holds : (ws st m : List ℕ) (r : Machine) → record_size ≤ length ws → Holds (held_by ws st m (Ok tt)) (begun_by (program_from Bits32 t) bytes name args (world r st m) (Ok tt))
     unfolding begun_by start_world record_begun fresh_of Listed
     begun-holds ws st m r h = record { record-words = record-back _ ws tt h; stack-words = refl; memory-bytes = refl }
 
-    by-holds : (ws st m : List ℕ) (r : Machine) → record_of ws ≡ Fit r → (a : Started) → Holds (held_by ws st m a) (begun_by (program_from Bits32 t) bytes name args (world r st m) a)
+    by-holds : (ws st m : List ℕ) (r : Machine) → record_of ws ≡ Some r → (a : Started) → Holds (held_by ws st m a) (begun_by (program_from Bits32 t) bytes name args (world r st m) a)
     unfolding begun_by record_begun
-    by-holds ws st m r e Begun = begun-holds ws st m r (record-long ws r e)
-    by-holds ws st m r e (Refused k) = record { record-words = e; stack-words = refl; memory-bytes = refl }
-    by-holds ws st m r e (Unsound b) = record { record-words = e; stack-words = refl; memory-bytes = refl }
+    by-holds ws st m r e (Ok _) = begun-holds ws st m r (record-long ws r e)
+    by-holds ws st m r e (Err (Refused k)) = record { record-words = e; stack-words = refl; memory-bytes = refl }
+    by-holds ws st m r e (Err (Unsound b)) = record { record-words = e; stack-words = refl; memory-bytes = refl }
 
     held_start : (ws st m out : List ℕ) → record_size ≤ length ws
         → held_in (start_call ws st m out t bytes name args) ≡ held_by ws st m (start_of (program_from Bits32 t) bytes name args (X st m))
@@ -145,7 +144,7 @@ module _ (t : Tables) (bytes : List ℕ) where
     unfolding start_of
     same r st m = start-same (fresh_of 0 0 0) r st m (start_broken (program_from Bits32 t) (length bytes))
 
-    start-holds : (ws st m out : List ℕ) (r : Machine) → record_of ws ≡ Fit r
+    start-holds : (ws st m out : List ℕ) (r : Machine) → record_of ws ≡ Some r
         → Holds (held_in (start_call ws st m out t bytes name args)) (start_leaves (program_from Bits32 t) bytes name args (world r st m))
     unfolding start_leaves
     start-holds ws st m out r e =
@@ -154,7 +153,7 @@ module _ (t : Tables) (bytes : List ℕ) where
         (subst (λ (a : Started). Holds (held_by ws st m (start_of (program_from Bits32 t) bytes name args (X st m))) (begun_by (program_from Bits32 t) bytes name args (world r st m) a)) (same r st m)
         (by-holds ws st m r e (start_of (program_from Bits32 t) bytes name args (X st m))))
 
-    start-number : (ws st m out : List ℕ) (r : Machine) → record_of ws ≡ Fit r → start_broke (start_of (program_from Bits32 t) bytes name args (world r st m)) ≡ No
+    start-number : (ws st m out : List ℕ) (r : Machine) → record_of ws ≡ Some r → start_broke (start_of (program_from Bits32 t) bytes name args (world r st m)) ≡ No
         → Not35 (start_call ws st m out t bytes name args).number
     unfolding start_of
     start-number ws st m out r e h =
@@ -163,20 +162,20 @@ module _ (t : Tables) (bytes : List ℕ) where
 
   -- ---- a step and a run
 
-  module _ (ws st m out : List ℕ) (r : Machine) (e : record_of ws ≡ Fit r) where
+  module _ (ws st m out : List ℕ) (r : Machine) (e : record_of ws ≡ Some r) where
     step-holds : Holds (held_in (step_call ws st m out t)) (step_of (program_from Bits32 t) (world r st m)).world
     unfolding step_call step_by outcome_answer
     step-holds =
         record {
           record-words = step_words ws st m out t r e;
-          stack-words = ap (λ (x : Loaded). (step_by ws st m out t x).stack) e;
-          memory-bytes = ap (λ (x : Loaded). (step_by ws st m out t x).memory) e;
+          stack-words = ap (λ (x : Option Machine). (step_by ws st m out t x).stack) e;
+          memory-bytes = ap (λ (x : Option Machine). (step_by ws st m out t x).memory) e;
         }
 
     step-number : (step_of (program_from Bits32 t) (world r st m)).broken ≡ No → Not35 (step_call ws st m out t).number
     unfolding step_call step_by outcome_answer outcome_reply outcome_number
     step-number h =
-        subst (λ (x : Loaded). Not35 (step_by ws st m out t x).number) (sym e)
+        subst (λ (x : Option Machine). Not35 (step_by ws st m out t x).number) (sym e)
         (broken-not _ _ (step-listed t (world r st m) (record-listed ws r e)) h)
 
     run_holds : (budget : ℕ) → Holds (held_in (run_call ws st m out t budget)) (run_of (program_from Bits32 t) budget (world r st m)).world
@@ -184,14 +183,14 @@ module _ (t : Tables) (bytes : List ℕ) where
     run_holds budget =
         record {
           record-words = run-words ws st m out t r e budget;
-          stack-words = ap (λ (x : Loaded). (run_by ws st m out t budget x).stack) e;
-          memory-bytes = ap (λ (x : Loaded). (run_by ws st m out t budget x).memory) e;
+          stack-words = ap (λ (x : Option Machine). (run_by ws st m out t budget x).stack) e;
+          memory-bytes = ap (λ (x : Option Machine). (run_by ws st m out t budget x).memory) e;
         }
 
     run-number : (budget : ℕ) → (run_of (program_from Bits32 t) budget (world r st m)).broken ≡ No → Not35 (run_call ws st m out t budget).number
     unfolding run_call run_by outcome_answer outcome_reply outcome_number
     run-number budget h =
-        subst (λ (x : Loaded). Not35 (run_by ws st m out t budget x).number) (sym e)
+        subst (λ (x : Option Machine). Not35 (run_by ws st m out t budget x).number) (sym e)
         (broken-not _ _ (run-listed t budget (world r st m) (record-listed ws r e)) h)
 
     resume-holds : (v : ℕ) → Holds (held_in (resume_call ws st m out t v)) (resume_of (program_from Bits32 t) v (world r st m)).after.world
@@ -199,15 +198,15 @@ module _ (t : Tables) (bytes : List ℕ) where
     resume-holds v =
         record {
           record-words = resume-words ws st m out t r e v;
-          stack-words = ap (λ (x : Loaded). (resume_by ws st m out t v x).stack) e;
-          memory-bytes = ap (λ (x : Loaded). (resume_by ws st m out t v x).memory) e;
+          stack-words = ap (λ (x : Option Machine). (resume_by ws st m out t v x).stack) e;
+          memory-bytes = ap (λ (x : Option Machine). (resume_by ws st m out t v x).memory) e;
         }
 
     resume-number : (v : ℕ) → (resume_of (program_from Bits32 t) v (world r st m)).after.broken ≡ No
         → Not35 (resume_call ws st m out t v).number
     unfolding resume_call resume_by resumed_answer
     resume-number v h =
-        subst (λ (x : Loaded). Not35 (resume_by ws st m out t v x).number) (sym e)
+        subst (λ (x : Option Machine). Not35 (resume_by ws st m out t v x).number) (sym e)
         (resumed-not ws out (resume_of (program_from Bits32 t) v (world r st m)) (resume-listed t v (world r st m) (record-listed ws r e)) h)
 
     -- ---- any call
@@ -261,7 +260,7 @@ module _ (t : Tables) (bytes : List ℕ) where
 
   -- ---- a list that begins with an accepted start
 
-  module _ (h : Held) (name args out : List ℕ) (long : record_size ≤ length h.words) (e : start_of (program_from Bits32 t) bytes name args (world_of h) ≡ Begun) where
+  module _ (h : Held) (name args out : List ℕ) (long : record_size ≤ length h.words) (e : start_of (program_from Bits32 t) bytes name args (world_of h) ≡ Ok tt) where
     first_holds : Holds (held_in (start_call h.words h.stack h.memory out t bytes name args)) (start_leaves (program_from Bits32 t) bytes name args (world_of h))
     unfolding start_leaves
     first_holds =

@@ -1,5 +1,6 @@
 -- The words that a call leaves hold the record that the definition leaves.
 -- Assumes nothing.
+use Rattle.std.proofs.Common.{Ok, Option, Some, None}
 use mathlib.Core.Path.{◌≡◌, refl, sym, ◌∙◌, ap, subst}
 use mathlib.Core.Bool.{Bool, true, false, not}
 use mathlib.Core.List.{List, [], ◌∷◌}
@@ -24,13 +25,10 @@ use Rattle.vm_definitions.specs.Start.{start_of, start_leaves, start_world, begu
 use Rattle.vm_definitions.specs.Lent.{world}
 use Rattle.vm_definitions.specs.declared.Broken.{Broken}
 use Rattle.vm_definitions.specs.declared.Broken.TheVariants.{No, At, Somewhere}
-use Rattle.vm_definitions.specs.declared.Started.{Started}
-use Rattle.vm_definitions.specs.declared.Started.TheVariants.{Begun}
+use Rattle.vm_definitions.specs.Start.{Started}
 use Rattle.vm_definitions.specs.declared.Outcome.{Outcome}
 use Rattle.c_words.specs.Record.{is_stop, record_of, state_number, record_over}
 use Rattle.c_words.specs.Reply.{changes, record_after, refusal_reply, outcome_reply, resumed_reply, record_begun, opening_reply}
-use Rattle.c_words.specs.declared.Loaded.{Loaded}
-use Rattle.c_words.specs.declared.Loaded.TheVariants.{Fit, Unfit}
 use Rattle.c_words.specs.Words as word
 use Rattle.c_words.specs.Words.{record_size}
 use Rattle.c_words.proofs.Laws.{Listed, record-back, record-long, record-state, record-listed}
@@ -223,48 +221,48 @@ run-listed t (suc b) x l =
     (λ _. step-listed t x l) (λ _. run-listed t b (step_of (program_from Bits32 t) x).world (step-listed t x l))
 
 -- the record's words behind a step or a run that leaves y
-words-after : (ws : List ℕ) (x : World) (y : After) → record_of ws ≡ Fit x.machine → LeavesListed y → Quiet x y
-    → record_of (record_after (outcome_of y) ws) ≡ Fit y.world.machine
+words-after : (ws : List ℕ) (x : World) (y : After) → record_of ws ≡ Some x.machine → LeavesListed y → Quiet x y
+    → record_of (record_after (outcome_of y) ws) ≡ Some y.world.machine
 unfolding record_after if_true
 words-after ws x y e l q = by (changes (get_or ws word.state 0) (outcome_of y)) refl
   where
     by : (b : Bool) → changes (get_or ws word.state 0) (outcome_of y) ≡ b
-        → record_of (pick b (record_over y.world.machine ws) ws) ≡ Fit y.world.machine
+        → record_of (pick b (record_over y.world.machine ws) ws) ≡ Some y.world.machine
     by true h = record-back y.world.machine ws l (record-long ws x.machine e)
     by false h =
-        e ∙ ap Fit (sym (q (ap (λ (s : ℕ). changes s (outcome_of y)) (sym (record-state ws x.machine e)) ∙ h)))
+        e ∙ ap Some (sym (q (ap (λ (s : ℕ). changes s (outcome_of y)) (sym (record-state ws x.machine e)) ∙ h)))
 
 -- the same behind a going on
-words-resumed : (ws out : List ℕ) (x : World) (y : Continued) → record_of ws ≡ Fit x.machine → LeavesListed y.after
+words-resumed : (ws out : List ℕ) (x : World) (y : Continued) → record_of ws ≡ Some x.machine → LeavesListed y.after
     → Quiet x y.after → (y.unpaused ≡ true → y.after.world.machine ≡ x.machine)
-    → record_of (resumed_reply (resumed_of y) ws out).words ≡ Fit y.after.world.machine
+    → record_of (resumed_reply (resumed_of y) ws out).words ≡ Some y.after.world.machine
 unfolding resumed_reply refusal_reply outcome_reply if_true
 words-resumed ws out x y e l q u = by y.unpaused refl
   where
     by : (b : Bool) → y.unpaused ≡ b
-        → record_of (pick b (refusal_reply 37 ws out) (outcome_reply (outcome_of y.after) ws out)).words ≡ Fit y.after.world.machine
-    by true h = e ∙ ap Fit (sym (u h))
+        → record_of (pick b (refusal_reply 37 ws out) (outcome_reply (outcome_of y.after) ws out)).words ≡ Some y.after.world.machine
+    by true h = e ∙ ap Some (sym (u h))
     by false h = words-after ws x y.after e l q
 
-module _ (ws st m out : List ℕ) (t : Tables) (r : Machine) (e : record_of ws ≡ Fit r) where
+module _ (ws st m out : List ℕ) (t : Tables) (r : Machine) (e : record_of ws ≡ Some r) where
   -- a step of a lent record is a step of the record that it holds
-  pub step_words : record_of (step_call ws st m out t).words ≡ Fit (step_of (program_from Bits32 t) (world r st m)).world.machine
+  pub step_words : record_of (step_call ws st m out t).words ≡ Some (step_of (program_from Bits32 t) (world r st m)).world.machine
   unfolding step_call step_by outcome_answer outcome_reply
   step_words =
-      ap (λ (x : Loaded). record_of (step_by ws st m out t x).words) e
+      ap (λ (x : Option Machine). record_of (step_by ws st m out t x).words) e
       ∙ words-after ws (world r st m) (step_of (program_from Bits32 t) (world r st m)) e (step-listed t (world r st m) (record-listed ws r e)) (quiet_step t (world r st m))
 
-  pub run-words : (budget : ℕ) → record_of (run_call ws st m out t budget).words ≡ Fit (run_of (program_from Bits32 t) budget (world r st m)).world.machine
+  pub run-words : (budget : ℕ) → record_of (run_call ws st m out t budget).words ≡ Some (run_of (program_from Bits32 t) budget (world r st m)).world.machine
   unfolding run_call run_by outcome_answer outcome_reply
   run-words budget =
-      ap (λ (x : Loaded). record_of (run_by ws st m out t budget x).words) e
+      ap (λ (x : Option Machine). record_of (run_by ws st m out t budget x).words) e
       ∙ words-after ws (world r st m) (run_of (program_from Bits32 t) budget (world r st m)) e (run-listed t budget (world r st m) (record-listed ws r e)) (quiet-run t budget (world r st m))
 
   pub resume-words : (v : ℕ)
-      → record_of (resume_call ws st m out t v).words ≡ Fit (resume_of (program_from Bits32 t) v (world r st m)).after.world.machine
+      → record_of (resume_call ws st m out t v).words ≡ Some (resume_of (program_from Bits32 t) v (world r st m)).after.world.machine
   unfolding resume_call resume_by resumed_answer
   resume-words v =
-      ap (λ (x : Loaded). record_of (resume_by ws st m out t v x).words) e
+      ap (λ (x : Option Machine). record_of (resume_by ws st m out t v x).words) e
       ∙ words-resumed ws out (world r st m) (resume_of (program_from Bits32 t) v (world r st m)) e
       (resume-listed t v (world r st m) (record-listed ws r e)) (quiet-resume t v (world r st m)) (unpaused-same t v (world r st m))
 
@@ -273,12 +271,12 @@ module _ (ws st m out : List ℕ) (t : Tables) (bytes name args : List ℕ) wher
   abbrev S : Started
   S = start_of (program_from Bits32 t) bytes name args (world (fresh_of 0 0 0) st m)
 
-  begun-listed : S ≡ Begun → Listed (start_leaves (program_from Bits32 t) bytes name args (world (fresh_of 0 0 0) st m)).machine.state
+  begun-listed : S ≡ Ok tt → Listed (start_leaves (program_from Bits32 t) bytes name args (world (fresh_of 0 0 0) st m)).machine.state
   unfolding start_leaves begun_by start_world fresh_of Listed
   begun-listed e = subst (λ (a : Started). Listed (begun_by (program_from Bits32 t) bytes name args (world (fresh_of 0 0 0) st m) a).machine.state) (sym e) tt
 
-  pub start-words : record_size ≤ length ws → S ≡ Begun
-      → record_of (start_call ws st m out t bytes name args).words ≡ Fit (start_leaves (program_from Bits32 t) bytes name args (world (fresh_of 0 0 0) st m)).machine
+  pub start-words : record_size ≤ length ws → S ≡ Ok tt
+      → record_of (start_call ws st m out t bytes name args).words ≡ Some (start_leaves (program_from Bits32 t) bytes name args (world (fresh_of 0 0 0) st m)).machine
   unfolding start_call opening_answer opening_reply record_begun
   start-words h e =
       ap (λ (y : Answered). record_of y.words) (if_lt-no (unfit ws st m out 35) _ h)

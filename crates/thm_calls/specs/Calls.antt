@@ -1,6 +1,6 @@
 -- Lists of calls from C: each finds the record and the stack that the last one left, and any bytes of memory; its result words are any.
 -- Assumes nothing.
-use Rattle.std.specs.Prelude.{◌≡◌, List, [], ◌∷◌, ℕ, ◌≤◌, length}
+use Rattle.std.specs.Prelude.{◌≡◌, List, [], ◌∷◌, ℕ, ◌≤◌, length, Ok, Option, Some}
 use Rattle.base_limits.specs.Record.{fresh_of}
 use Rattle.base_limits.specs.declared.Width.TheVariants.{Bits32}
 use Rattle.prog_tables.specs.Program.{program_from}
@@ -11,10 +11,8 @@ use Rattle.vm_definitions.specs.Ledger.{ledger_of}
 use Rattle.vm_definitions.specs.Play.{Call, start, step, run, resume, Invocation, world_after, events_after}
 use Rattle.vm_definitions.specs.Claim.{Sound, stop_memory, AllLong, started_by}
 use Rattle.vm_definitions.specs.Lent.{world}
-use Rattle.vm_definitions.specs.declared.Started.TheVariants.{Begun}
 use Rattle.c_words.specs.Words.{record_size}
 use Rattle.c_words.specs.Record.{record_of}
-use Rattle.c_words.specs.declared.Loaded.TheVariants.{Fit}
 use Rattle.c_voodoo.specs.Calls.{Answered, start_call, step_call, run_call, resume_call}
 
 -- what a host holds between two calls: the words of the record, the stack, the memory
@@ -70,7 +68,7 @@ Without35 (n ∷ ns) = (n ≡ 35 → ⊥) × Without35 ns
 
 -- the words that the host holds are those of a world
 pub record Holds (h : Held) (x : World) : Type 0 where
-  pub record-words : record_of h.words ≡ Fit x.machine
+  pub record-words : record_of h.words ≡ Some x.machine
   pub stack-words : h.stack ≡ x.stack
   pub memory-bytes : h.memory ≡ x.memory
 
@@ -79,7 +77,7 @@ pub record Holds (h : Held) (x : World) : Type 0 where
 unfoldable pub HostDemand : Tables → List ℕ → Type 0
 HostDemand t bytes =
     (h : Held) (name args out : List ℕ) (cs : List HostCall) → record_size ≤ length h.words
-    → start_of (program_from Bits32 t) bytes name args (world_of h) ≡ Begun → AllLong (length h.memory) (invocations cs)
+    → start_of (program_from Bits32 t) bytes name args (world_of h) ≡ Ok tt → AllLong (length h.memory) (invocations cs)
     → Holds (held_after t bytes h (started_from name args out h cs))
     (world_after (program_from Bits32 t) bytes (world_of h) (started_by name args (world_of h) (invocations cs)))
     × Sound (program_from Bits32 t) (ledger_of (rows t) [] (events_after (program_from Bits32 t) bytes (world_of h) (started_by name args (world_of h) (invocations cs))))

@@ -1,6 +1,6 @@
 -- A source with an import, from its bytes to its end: its check, a pause, and the going on.
 -- Assumes nothing.
-use Rattle.std.specs.Prelude.{◌≡◌, List, [], ◌∷◌, ◌++◌, ℕ}
+use Rattle.std.specs.Prelude.{◌≡◌, List, [], ◌∷◌, ◌++◌, ℕ, Ok}
 use Rattle.base_limits.specs.declared.Width.TheVariants.{Bits32}
 use Rattle.base_limits.specs.declared.State.TheVariants.{Finished, Paused}
 use Rattle.base_limits.specs.Record.{pause_of}
@@ -10,7 +10,6 @@ use Rattle.prog_tables.specs.Hosts.{Hosts}
 use Rattle.check_source.specs.Check.{Filled, lent, check_of}
 use Rattle.vm_definitions.specs.Step.{World, After, run_of, Continued, resume_of}
 use Rattle.vm_definitions.specs.Start.{start_of, start_leaves}
-use Rattle.vm_definitions.specs.declared.Started.TheVariants.{Begun}
 use Rattle.thm_demand.specs.CaseTwo.{lent_stack}
 
 -- `section functions`, `import order`, `export f`, `f: function a`, `return call order a 2`, `end function`
@@ -42,6 +41,6 @@ given t = resume_of (program_from Bits32 t) 42 (asked t).world
 -- it pauses at once, with the number of `order` and its arguments, and returns the word handed in, as one step
 abbrev pub CaseImport : Tables → Type 0
 CaseImport t =
-    (start_of (program_from Bits32 t) [] (102 ∷ []) (30 ∷ []) (lent_stack 4) ≡ Begun)
+    (start_of (program_from Bits32 t) [] (102 ∷ []) (30 ∷ []) (lent_stack 4) ≡ Ok tt)
     × ((asked t).world.machine.state ≡ Paused (pause_of 1 (30 ∷ 2 ∷ []))) × ((asked t).count ≡ 0)
     × ((given t).after.world.machine.state ≡ Finished 42) × ((given t).after.count ≡ 1)

@@ -1,6 +1,6 @@
 -- Case 2 of the papers, on tables and data.
 -- Assumes nothing.
-use Rattle.std.specs.Prelude.{◌≡◌, List, [], ◌∷◌, ℕ, replicate}
+use Rattle.std.specs.Prelude.{◌≡◌, List, [], ◌∷◌, ℕ, replicate, Ok, Err}
 use Rattle.base_limits.specs.declared.Width.TheVariants.{Bits32}
 use Rattle.base_limits.specs.declared.State.TheVariants.{Finished}
 use Rattle.base_limits.specs.Record.{fresh_of}
@@ -11,7 +11,7 @@ use Rattle.check_source.specs.Check.{Filled, lent, check_of}
 use Rattle.app_listing.specs.Cases.{case1}
 use Rattle.vm_definitions.specs.Step.{World, After, run_of}
 use Rattle.vm_definitions.specs.Start.{start_of, start_leaves}
-use Rattle.vm_definitions.specs.declared.Started.TheVariants.{Begun, Refused}
+use Rattle.vm_definitions.specs.declared.StartError.TheVariants.{Refused}
 
 -- its check against the list of lister and case runner, with buffers that hold 125 tokens, 6 statements, 2 labels and 4 bytes of data
 abbrev pub case1-check : Filled
@@ -28,6 +28,6 @@ ran t d = run_of (program_from Bits32 t) 3 (start_leaves (program_from Bits32 t)
 -- "`top` with 30 gives 42 in 3 steps; 6 stack words suffice, 5 give 23"
 abbrev pub CaseTwo : Tables → List ℕ → Type 0
 CaseTwo t d =
-    (start_of (program_from Bits32 t) d (116 ∷ 111 ∷ 112 ∷ []) (30 ∷ []) (lent_stack 6) ≡ Begun)
+    (start_of (program_from Bits32 t) d (116 ∷ 111 ∷ 112 ∷ []) (30 ∷ []) (lent_stack 6) ≡ Ok tt)
     × ((ran t d).world.machine.state ≡ Finished 42) × ((ran t d).count ≡ 3)
-    × (start_of (program_from Bits32 t) d (116 ∷ 111 ∷ 112 ∷ []) (30 ∷ []) (lent_stack 5) ≡ Refused 23)
+    × (start_of (program_from Bits32 t) d (116 ∷ 111 ∷ 112 ∷ []) (30 ∷ []) (lent_stack 5) ≡ Err (Refused 23))

@@ -1,7 +1,7 @@
 -- The table "Orders to get right": each field is a row, or a part of one, and holds by computation.
 -- Assumes nothing.
+use Rattle.std.specs.Prelude.{Ok}
 use Rattle.std.specs.Prelude.{◌≡◌, List, [], ◌∷◌, ℕ, ◌-◌, ◌^◌, length}
-use Rattle.base_word.specs.declared.Answer.TheVariants.{Word}
 use Rattle.base_limits.specs.declared.Width.TheVariants.{Bits32}
 use Rattle.lex_source.specs.Token.{Token}
 use Rattle.lex_source.specs.Lex.{lex_of, accepted}
@@ -30,14 +30,14 @@ pub record Orders : Type 0 where
   -- "(4) `add 2147483647 1` is -2147483648"
   pub row4 : add_of 32 2147483647 1 ≡ minus 2147483648
   -- "(5) `div -7 2` is -3"
-  pub row5-div : div_of 32 (minus 7) 2 ≡ Word (minus 3)
+  pub row5-div : div_of 32 (minus 7) 2 ≡ Ok (minus 3)
   -- "(5) [..] `mod -7 2` is -1"
-  pub row5-mod : mod_of 32 (minus 7) 2 ≡ Word (minus 1)
+  pub row5-mod : mod_of 32 (minus 7) 2 ≡ Ok (minus 1)
   -- "(6) `bsr -8 1` is 2147483644"
-  pub row6-bsr : bsr_of 32 (minus 8) 1 ≡ Word 2147483644
+  pub row6-bsr : bsr_of 32 (minus 8) 1 ≡ Ok 2147483644
   -- "(6) [..] `asr -8 1` is -4"
-  pub row6-asr : asr_of 32 (minus 8) 1 ≡ Word (minus 4)
+  pub row6-asr : asr_of 32 (minus 8) 1 ≡ Ok (minus 4)
   -- "(7) `"a\\"` is two bytes"
   pub row7 : lex_of Bits32 (34 ∷ 97 ∷ 92 ∷ 92 ∷ 34 ∷ []) ≡ accepted (quoted 0 5 (97 ∷ 92 ∷ []) ∷ [])
   -- "(8) `shl 1 32`", which "becomes 0"
-  pub row8 : shl_of 32 1 32 ≡ Word 0
+  pub row8 : shl_of 32 1 32 ≡ Ok 0

@@ -1,5 +1,6 @@
 -- The ways through the functions of calls and returns.
 -- Assumes nothing.
+use Rattle.std.proofs.Common.{Option, Some, None}
 use mathlib.Core.Path.{◌≡◌, refl, sym, ◌∙◌, ap}
 use mathlib.Core.Bool.{Bool, true, false}
 use mathlib.Core.List.{List, [], ◌∷◌}
@@ -24,7 +25,7 @@ use Rattle.vm_definitions.specs.Lent.{world, left}
 use Rattle.vm_definitions.specs.declared.Outcome.{Outcome}
 use Rattle.vm_definitions.specs.declared.Resumption.{Resumption}
 use Rattle.vm_definitions.specs.declared.Resumption.TheVariants.{Ends, Caller}
-use Rattle.vm_calls.specs.Outcomes.{one_step, halted, after, calling, calling_with, at_calling, tail_calling, tail_calling_with, handing, handing_to, words_in, Calls}
+use Rattle.vm_calls.specs.Outcomes.{one_step, halted, after, calling, calling_with, at_calling, tail_calling, tail_calling_with, handing, handing_to, words_in, words_given, Calls}
 use Rattle.vm_guard.proofs.Passed.{caller-low}
 use Rattle.vm_calls.proofs.Reading.{arguments-are}
 use Rattle.prog_tables.proofs.Ranges.{one_more_lem}
@@ -82,26 +83,28 @@ module _ (t : List ℕ) (c : ℕ) (r : Machine) (st m : List ℕ) where
     unfolding tail_call_by effected if_lt if_true
     replace-fits st' h j s = rw (← size_is, ← e, le-ltb _ _ h, j, s)
 
-  -- ---- a call: b tells whether all arguments were read
+  -- ---- a call: x has the words, where all arguments were read
 
-  module _ (b : Bool) (ws : List ℕ) (k : ℕ) (d : Calls (row_at t r.next) c) (e : k ≡ min (row_at t r.next).count 8)
-      (u : words_in b ws k ≡ read_all Bits32 st r.frame m (take k (slots t (r.next * 27)))) where
-    v : words_in b ws k ≡ arguments_of (rows_alone t c) (world r st m)
-    v = arguments-are t c r st m b ws k d.used e u
+  module _ (x : Option (List ℕ)) (k : ℕ) (d : Calls (row_at t r.next) c) (e : k ≡ min (row_at t r.next).count 8)
+      (u : words_given x k ≡ read_all Bits32 st r.frame m (take k (slots t (r.next * 27)))) where
+    v : words_given x k ≡ arguments_of (rows_alone t c) (world r st m)
+    v = arguments-are t c r st m x k d.used e u
 
-    pub call-good : (o : Outcome) (st' : List ℕ) → b ≡ true → left o st' m ≡ after (calling_with (words_in true ws k)) t c r st m
+    pub call-good : (ws : List ℕ) (o : Outcome) (st' : List ℕ) → x ≡ Some ws → left o st' m ≡ after (calling_with (words_in true ws k)) t c r st m
         → left o st' m ≡ after calling t c r st m
-    call-good o st' h q = q ∙ ap (λ (z : Words). effected (world r st m) (call_by (rows_alone t c) (world r st m) z)) (ap (λ (y : Bool). words_in y ws k) (sym h) ∙ v)
+    unfolding effected if_true
+    call-good ws o st' h q = q ∙ ap (λ (z : Words). effected (world r st m) (call_by (rows_alone t c) (world r st m) z)) (ap (λ (y : Option (List ℕ)). words_given y k) (sym h) ∙ v)
 
-    pub call-bad : (o : Outcome) → b ≡ false → o ≡ halted r 32 → left o st m ≡ after calling t c r st m
+    pub call-bad : (o : Outcome) → x ≡ None → o ≡ halted r 32 → left o st m ≡ after calling t c r st m
     unfolding call_by effected if_true
     call-bad o h q = rw (← v, h, q)
 
-    pub tail-good : (o : Outcome) (st' : List ℕ) → b ≡ true → left o st' m ≡ after (tail_calling_with (words_in true ws k)) t c r st m
+    pub tail-good : (ws : List ℕ) (o : Outcome) (st' : List ℕ) → x ≡ Some ws → left o st' m ≡ after (tail_calling_with (words_in true ws k)) t c r st m
         → left o st' m ≡ after tail_calling t c r st m
-    tail-good o st' h q = q ∙ ap (λ (z : Words). effected (world r st m) (tail_call_by (rows_alone t c) (world r st m) z)) (ap (λ (y : Bool). words_in y ws k) (sym h) ∙ v)
+    unfolding effected if_true
+    tail-good ws o st' h q = q ∙ ap (λ (z : Words). effected (world r st m) (tail_call_by (rows_alone t c) (world r st m) z)) (ap (λ (y : Option (List ℕ)). words_given y k) (sym h) ∙ v)
 
-    pub tail-bad : (o : Outcome) → b ≡ false → o ≡ halted r 32 → left o st m ≡ after tail_calling t c r st m
+    pub tail-bad : (o : Outcome) → x ≡ None → o ≡ halted r 32 → left o st m ≡ after tail_calling t c r st m
     unfolding tail_call_by effected if_true
     tail-bad o h q = rw (← v, h, q)
 

@@ -1,5 +1,7 @@
 -- The operands of a row: those of its expression, and the arguments of a call by a loop over the slots.
 -- Assumes nothing.
+use Rattle.std.proofs.Common.{None, Option, Some}
+use Rattle.vm_definitions.specs.Operands.{Worked}
 use mathlib.Core.Path.{◌≡◌, refl, sym, ◌∙◌, ap, subst}
 use mathlib.Core.Bool.{Bool, true, false}
 use mathlib.Core.List.{List, [], ◌∷◌, ◌++◌, append_assoc, append-nil}
@@ -31,12 +33,9 @@ use Rattle.vm_definitions.specs.Operands.{Words, bad, with_word, read_of, on_rea
 use Rattle.vm_definitions.specs.Expressions.{eval_of}
 use Rattle.vm_definitions.specs.Step.{worked_of, arguments_of}
 use Rattle.vm_definitions.specs.Lent.{world}
-use Rattle.vm_definitions.specs.declared.Read.{Read}
-use Rattle.vm_definitions.specs.declared.Read.TheVariants.{Got, Bad}
-use Rattle.vm_definitions.specs.declared.Worked.{Worked}
 use Rattle.vm_quick_operands.specs.Fast.{read_each}
 use Rattle.vm_quick_operands.proofs.Reading.{Reading, reading-none, reading-more, reading-stops, reading-done}
-use Rattle.vm_calls.specs.Outcomes.{slot_read, words_in, Expressed}
+use Rattle.vm_calls.specs.Outcomes.{slot_read, words_given, Expressed}
 use Rattle.prog_tables.proofs.Ranges.{operator-most}
 
 -- ---- the expression of a row
@@ -130,20 +129,22 @@ each_all st s m [] = refl
 each_all st s m (o ∷ os) = ap (λ (w : Words). on_read (read_of Bits32 st s m o) bad (λ v. with_word v w)) (each_all st s m os)
 
 module _ (t : List ℕ) (n k : ℕ) (st : List ℕ) (s : ℕ) (m ws : List ℕ) (i : ℕ) (h : Reading (read_of Bits32 st s m) t (n * 27) k ws i) where
-  pub arguments-stop : (x : Read) → i < k → x ≡ slot_read t n st s m i → x ≡ Bad → words_in false ws k ≡ read_all Bits32 st s m (take k (slots t (n * 27)))
+  pub arguments-stop : (x : Option ℕ) → i < k → x ≡ slot_read t n st s m i → x ≡ None → words_given None k ≡ read_all Bits32 st s m (take k (slots t (n * 27)))
+  unfolding if_true
   arguments-stop x l e g = reading-stops (read_of Bits32 st s m) t (n * 27) k ws i x h l e g ∙ each_all st s m (take k (slots t (n * 27)))
 
-  pub arguments-read : k ≤ i → words_in true ws k ≡ read_all Bits32 st s m (take k (slots t (n * 27)))
+  pub arguments-read : k ≤ i → words_given (Some ws) k ≡ read_all Bits32 st s m (take k (slots t (n * 27)))
+  unfolding if_true
   arguments-read l = reading-done (read_of Bits32 st s m) t (n * 27) k ws i h l ∙ each_all st s m (take k (slots t (n * 27)))
 
 pub ruleset reading = (reading-none, reading-more, arguments-stop, arguments-read)
 
 -- a call's operands are its arguments
-pub arguments-are : (t : List ℕ) (c : ℕ) (r : Machine) (st m : List ℕ) (b : Bool) (ws : List ℕ) (k : ℕ)
-    → used_by (row_at t r.next).kind (row_at t r.next).expr (row_at t r.next).count ≡ (row_at t r.next).count → k ≡ min (row_at t r.next).count 8 → words_in b ws k ≡ read_all Bits32 st r.frame m (take k (slots t (r.next * 27)))
-    → words_in b ws k ≡ arguments_of (rows_alone t c) (world r st m)
+pub arguments-are : (t : List ℕ) (c : ℕ) (r : Machine) (st m : List ℕ) (x : Option (List ℕ)) (k : ℕ)
+    → used_by (row_at t r.next).kind (row_at t r.next).expr (row_at t r.next).count ≡ (row_at t r.next).count → k ≡ min (row_at t r.next).count 8 → words_given x k ≡ read_all Bits32 st r.frame m (take k (slots t (r.next * 27)))
+    → words_given x k ≡ arguments_of (rows_alone t c) (world r st m)
 unfolding arguments_of row_at row_from
-arguments-are t c r st m b ws k h e w =
+arguments-are t c r st m x k h e w =
     w ∙ ap (λ (z : List Operand). read_all Bits32 st r.frame m z)
     (ap (λ (j : ℕ). take j (slots t (r.next * 27))) e ∙ take_min (row_at t r.next).count (slots t (r.next * 27)) (slots-long t (r.next * 27)) ∙ ap (λ (j : ℕ). take j (slots t (r.next * 27))) (sym h))
   where

@@ -1,5 +1,6 @@
 -- What the functions of statements give back, as the machine's definitions say it.
 -- Assumes nothing.
+use Rattle.std.specs.Prelude.{Option, Some, None}
 use Rattle.std.specs.Prelude.{ℕ, suc, ◌<◌, ◌≡◌, Bool, true, false, List, take, length}
 use Rattle.base_prelude.specs.Choice.{if_true}
 use Rattle.base_limits.specs.declared.Width.TheVariants.{Bits32}
@@ -16,12 +17,16 @@ use Rattle.vm_definitions.specs.Step.{World, Effect, After, effected, worked_of,
 use Rattle.vm_definitions.specs.Access.{word_good}
 use Rattle.vm_definitions.specs.Lent.{world}
 use Rattle.vm_definitions.specs.declared.Outcome.{Outcome}
-use Rattle.vm_definitions.specs.declared.Read.{Read}
+use Rattle.vm_definitions.specs.declared.Broken.{Broken}
 use Rattle.vm_definitions.specs.declared.Broken.TheVariants.{No}
 
 -- a statement that took effect leaves this record
 abbrev pub one_step : Machine → Outcome
 one_step q = record { machine = q; count = 1; broken = No }
+
+-- nothing happened, but perhaps a 35
+abbrev pub given_back : Machine → Broken → Outcome
+given_back r b = record { machine = r; count = 0; broken = b }
 
 -- a statement that stopped
 abbrev pub halted : Machine → ℕ → Outcome
@@ -72,12 +77,16 @@ setting_word p x = set_word_by p x (arguments_of p x)
 -- ---- arguments
 
 -- the operand in slot i of row n, read in the frame at s
-abbrev pub slot_read : List ℕ → ℕ → List ℕ → ℕ → List ℕ → ℕ → Read
+abbrev pub slot_read : List ℕ → ℕ → List ℕ → ℕ → List ℕ → ℕ → Option ℕ
 slot_read t n st s m i = read_of Bits32 st s m (slot_at t n i)
 
 -- k words, where all were read
 abbrev pub words_in : Bool → List ℕ → ℕ → Words
 words_in b ws k = if_true b (words (take k ws)) bad
+
+abbrev pub words_given : Option (List ℕ) → ℕ → Words
+words_given (Some ws) k = words (take k ws)
+words_given None k = bad
 
 -- ---- rows
 

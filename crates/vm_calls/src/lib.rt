@@ -14,12 +14,12 @@ ghost use Rattle.vm_definitions.specs.Step.{worked_of};
 ghost use Rattle.vm_definitions.specs.Lent.{world, left};
 ghost use Rattle.prog_tables.specs.Layout.{operand_slots};
 ghost use Rattle.prog_tables.specs.Places.{place_of};
-ghost use Rattle.vm_calls.specs.Outcomes.{one_step, halted, after, calling, calling_with, at_calling, tail_calling, tail_calling_with, handing, handing_to, slot_read, words_in, Expressed, Calls};
+ghost use Rattle.vm_calls.specs.Outcomes.{one_step, given_back, halted, after, calling, calling_with, at_calling, tail_calling, tail_calling_with, handing, handing_to, slot_read, words_in, words_given, Expressed, Calls};
 
 use base_limits::Machine;
 use lang_kinds::Kind;
 use prog_tables::Table;
-use vm_definitions::{Broken, Outcome, Read, Resumption, Worked};
+use vm_definitions::{Broken, Outcome, Resumption, Value};
 
 // A statement that took effect.
 fn count_one(q: Machine) -> Outcome
@@ -46,19 +46,26 @@ fn finish(v: u32, top: u32) -> Outcome
     count_one(Machine::ended(v, top))
 }
 
+// Nothing happened, but perhaps a 35.
+pub fn give_back(r: Machine, b: Broken) -> Outcome
+    ensures { result ≡ given_back r b }
+{
+    Outcome {
+        machine: r,
+        count: 0,
+        broken: b,
+    }
+}
+
 // The statement stops; nothing is counted.
 pub fn stop(r: Machine, k: u32) -> Outcome
     ensures { result ≡ halted r k }
 {
-    Outcome {
-        machine: Machine::stopped(r, k),
-        count: 0,
-        broken: Broken::No,
-    }
+    give_back(Machine::stopped(r, k), Broken::No)
 }
 
 // The value of the row's expression, which is no call.
-pub fn work(t: &[u32], c: u32, r: Machine, st: &[u32], m: &[u8]) -> Worked
+pub fn work(t: &[u32], c: u32, r: Machine, st: &[u32], m: &[u8]) -> Result<Value, u32>
     requires { (Expressed (row_at t.now r.next)) × (length m.now ≤ memory_bytes) }
     ensures { result ≡ worked_of (rows_alone t.now c) (world r st.now m.now) }
 {
@@ -79,59 +86,38 @@ pub fn work(t: &[u32], c: u32, r: Machine, st: &[u32], m: &[u8]) -> Worked
 
 // ---- calls
 
-// The words of arguments, where all could be read.
-#[derive(Drop)]
-pub struct Arguments {
-    pub good: bool,
-    pub words: [u32; Table::OPERAND_SLOTS],
-}
-
 // Argument i of row n; s is where the frame starts.
-fn read_slot(t: &[u32], n: u32, i: u32, st: &[u32], s: u32, m: &[u8]) -> Read
+fn read_slot(t: &[u32], n: u32, i: u32, st: &[u32], s: u32, m: &[u8]) -> Option<u32>
     requires { i < operand_slots }
     ensures { result ≡ slot_read t.now n st.now s m.now i }
 {
     vm_operands::read_operand(st, s, m, prog_tables::slot_at(t, n, i))
 }
 
-// The first k arguments of row n, left to right.
-pub fn read_arguments(t: &[u32], n: u32, k: u32, st: &[u32], s: u32, m: &[u8]) -> Arguments
+// The first k arguments of row n, left to right, where all could be read.
+pub fn read_arguments(
+    t: &[u32],
+    n: u32,
+    k: u32,
+    st: &[u32],
+    s: u32,
+    m: &[u8],
+) -> Option<[u32; Table::OPERAND_SLOTS]>
     requires { k ≤ operand_slots }
-    ensures { words_in result.good result.words k ≡ read_all Bits32 st.now s m.now (take k (slots t.now (place_of n))) }
+    ensures { words_given result k ≡ read_all Bits32 st.now s m.now (take k (slots t.now (place_of n))) }
 {
     let mut words = [0u32; Table::OPERAND_SLOTS];
-    let mut i: u32 = 0;
-    while i < k {
-        let x = read_slot(t, n, i, st, s, m);
-        match x {
-            Read::Got(v) => {
-                words[i as usize] = v;
-            }
-            Read::Bad => {
-                return Arguments {
-                    good: false,
-                    words: words,
-                };
-            }
-        }
-        i += 1;
+    for i in 0..k {
+        words[i as usize] = read_slot(t, n, i, st, s, m)?;
     }
-    Arguments {
-        good: true,
-        words: words,
-    }
+    Some(words)
 }
 
 // How many arguments a row has: at most as many as its slots.
 pub fn arguments_at(t: &[u32], n: u32) -> u32
     ensures { (result ≡ min (row_at t.now n).count operand_slots) × (result ≤ operand_slots) }
 {
-    let k = prog_tables::count_at(t, n);
-    if k < Machine::PARAMETERS {
-        k
-    } else {
-        Machine::PARAMETERS
-    }
+    prog_tables::count_at(t, n).min(Machine::PARAMETERS)
 }
 
 // A new frame of function g at a place, with k arguments: the run goes on behind its `function` line.
@@ -188,13 +174,10 @@ pub fn call(t: &[u32], c: u32, r: Machine, st: &mut [u32], m: &[u8]) -> Outcome
     let n = r.next;
     let s = r.frame;
     let k = arguments_at(t, n);
-    let a = read_arguments(t, n, k, st, s, m);
-    let good = a.good;
-    let words = a.words;
-    if good {
-        return push_frame(t, c, r, words, k, st, m);
+    match read_arguments(t, n, k, st, s, m) {
+        Some(words) => push_frame(t, c, r, words, k, st, m),
+        None => stop(r, 32),
     }
-    stop(r, 32)
 }
 
 // `set @` with a call: the address is judged first.
@@ -262,13 +245,10 @@ pub fn tail_call(t: &[u32], c: u32, r: Machine, st: &mut [u32], m: &[u8]) -> Out
     let n = r.next;
     let s = r.frame;
     let k = arguments_at(t, n);
-    let a = read_arguments(t, n, k, st, s, m);
-    let good = a.good;
-    let words = a.words;
-    if good {
-        return replace_frame(t, c, r, words, k, st, m);
+    match read_arguments(t, n, k, st, s, m) {
+        Some(words) => replace_frame(t, c, r, words, k, st, m),
+        None => stop(r, 32),
     }
-    stop(r, 32)
 }
 
 // ---- returns

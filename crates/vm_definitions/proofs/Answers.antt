@@ -1,19 +1,20 @@
 -- Small programs: what the definitions make of them.
 -- Assumes nothing.
+use Rattle.std.proofs.Common.{Ok, Err}
 use mathlib.Core.Path.{◌≡◌, refl}
-use Prim.Native.Nat.{ℕ, zero, suc}
-use mathlib.Core.List.{List, [], ◌∷◌, ◌++◌}
-use lib.ListN.{length, replicate}
+use Prim.Native.Nat.{ℕ}
+use mathlib.Core.List.{List, [], ◌∷◌}
+use lib.ListN.{replicate}
 use Rattle.base_limits.specs.declared.Width.TheVariants.{Bits32, Bits16}
 use Rattle.base_limits.specs.declared.State.TheVariants.{Running, Finished, Stopped}
 use Rattle.prog_tables.specs.Label.{Tables, rows}
 use Rattle.prog_tables.specs.Program.{program_from}
 use Rattle.vm_definitions.specs.declared.Broken.TheVariants.{No, At, Somewhere}
 use Rattle.vm_definitions.specs.declared.Broken.{Broken}
-use Rattle.vm_definitions.specs.declared.Started.{Started}
+use Rattle.vm_definitions.specs.Start.{Started}
 use Rattle.base_limits.specs.declared.State.{State}
 use Rattle.base_limits.specs.Record.{fresh_of}
-use Rattle.vm_definitions.specs.declared.Started.TheVariants.{Begun, Refused, Unsound}
+use Rattle.vm_definitions.specs.declared.StartError.TheVariants.{Refused, Unsound}
 use Rattle.base_prelude.specs.Choice as m1
 use Rattle.prog_tables.specs.Statement as m10
 use Rattle.prog_tables.specs.declared.Operand.TheVariants.{Constant}
@@ -41,9 +42,9 @@ shown_by y (At i) = given35
 shown_by y Somewhere = given35
 
 abbrev outcome_by : Tables → ℕ → World → Started → Came
-outcome_by t b x Begun = shown_by (run_of (program_from Bits32 t) b x) (run_of (program_from Bits32 t) b x).broken
-outcome_by t b x (Refused k) = refused_start k
-outcome_by t b x (Unsound y) = given35
+outcome_by t b x (Ok _) = shown_by (run_of (program_from Bits32 t) b x) (run_of (program_from Bits32 t) b x).broken
+outcome_by t b x (Err (Refused k)) = refused_start k
+outcome_by t b x (Err (Unsound y)) = given35
 
 -- a world with s stack words and m bytes of memory, all of them in use before
 abbrev used : ℕ → ℕ → World

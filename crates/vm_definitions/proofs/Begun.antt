@@ -1,16 +1,16 @@
 -- An accepted start: the invariant holds, with the started function alone in the ledger.
 -- Assumes nothing.
+use Rattle.std.proofs.Common.{Ok, Err}
 use mathlib.Core.Path.{◌≡◌, refl, sym, ◌∙◌, ap, subst}
 use Prim.Native.Nat.{ℕ, zero, suc, ◌+◌, ◌<◌, ◌≤◌}
 use mathlib.Core.Bool.{Bool, true, false, not}
-use mathlib.Core.Option.{Option, none, some}
+use mathlib.Core.Option.{none}
 use mathlib.Core.List.{List, [], ◌∷◌}
-use native.Mathlib.Nat.{not-suc-le-zero}
 use native.Mathlib.Omega.{arith}
 use borrow.Author.Tests.{eqb-true, ltb-true, ltb-false}
 use lib.Dec.{eqb, ltb, leb}
 use lib.ListN.{get_or, length, take}
-use Rattle.base_prelude.specs.Choice.{pick, if_lt, if_eq, if_true}
+use Rattle.base_prelude.specs.Choice.{pick, if_eq}
 use Rattle.base_prelude.specs.Lists.{same_list}
 use Rattle.base_prelude.proofs.Choice.{true-false, either, either-eq, either_true, if_eq-no, if_true-yes, if_true-no}
 use Rattle.base_limits.specs.Limits.{parameters, stack_words}
@@ -32,11 +32,10 @@ use Rattle.vm_definitions.specs.Frames.{frame_words, top_at_entry}
 use Rattle.vm_definitions.specs.Broken.{start_broken}
 use Rattle.vm_definitions.specs.Step.{World}
 use Rattle.vm_definitions.specs.Start.{exports_as, export_of, started_function, start_answer, start_world, start_by, begun_by, start_of, start_leaves}
-use Rattle.vm_definitions.specs.Ledger.{Entry, Ledger}
 use Rattle.vm_definitions.specs.declared.Broken.{Broken}
 use Rattle.vm_definitions.specs.declared.Broken.TheVariants.{No, At, Somewhere}
-use Rattle.vm_definitions.specs.declared.Started.{Started}
-use Rattle.vm_definitions.specs.declared.Started.TheVariants.{Begun, Refused, Unsound}
+use Rattle.vm_definitions.specs.Start.{Started}
+use Rattle.vm_definitions.specs.declared.StartError.TheVariants.{Refused, Unsound}
 use Rattle.vm_definitions.proofs.Invariant.{FrameAt, FirstHead, Under, Invariant}
 use Rattle.vm_definitions.proofs.Stores.{store_length, store_at}
 use Rattle.vm_definitions.proofs.Words.{memory_word, mark-word}
@@ -86,15 +85,15 @@ neither_right true b e = true-false e
 neither_right false b e = e
 
 is_begun : Started → Bool
-is_begun Begun = true
-is_begun (Refused k) = false
-is_begun (Unsound b) = false
+is_begun (Ok _) = true
+is_begun (Err (Refused k)) = false
+is_begun (Err (Unsound b)) = false
 
-refused : {P : Type 0} (k : ℕ) → Refused k ≡ Begun → P
+refused : {P : Type 0} (k : ℕ) → ◌≡◌ {A = Started} (Err (Refused k)) (Ok tt) → P
 unfolding is_begun
 refused k q = true-false (sym (ap is_begun q))
 
-unsound : {P : Type 0} (b : Broken) → Unsound b ≡ Begun → P
+unsound : {P : Type 0} (b : Broken) → ◌≡◌ {A = Started} (Err (Unsound b)) (Ok tt) → P
 unfolding is_begun
 unsound b q = true-false (sym (ap is_begun q))
 
@@ -109,23 +108,23 @@ pub record Accepted (w : Width) (t : Tables) (name args : List ℕ) (x : World) 
   pub few : length x.stack ≤ stack_words
 
 module _ (w : Width) (t : Tables) (bytes name args : List ℕ) (x : World) where
-  answer-begun : start_by (program_from w t) bytes name args x (start_broken (program_from w t) (length bytes)) ≡ Begun → start_answer (program_from w t) bytes name args x ≡ Begun
+  answer-begun : start_by (program_from w t) bytes name args x (start_broken (program_from w t) (length bytes)) ≡ Ok tt → start_answer (program_from w t) bytes name args x ≡ Ok tt
   unfolding start_by
   answer-begun = by (start_broken (program_from w t) (length bytes))
     where
-      by : (b : Broken) → start_by (program_from w t) bytes name args x b ≡ Begun → start_answer (program_from w t) bytes name args x ≡ Begun
+      by : (b : Broken) → start_by (program_from w t) bytes name args x b ≡ Ok tt → start_answer (program_from w t) bytes name args x ≡ Ok tt
       by No e = e
       by (At i) e = unsound (At i) e
       by Somewhere e = unsound Somewhere e
 
-  answer-facts : start_answer (program_from w t) bytes name args x ≡ Begun → Accepted w t name args x
+  answer-facts : start_answer (program_from w t) bytes name args x ≡ Ok tt → Accepted w t name args x
   unfolding start_answer
   answer-facts h =
-      either (λ (z : Started). z ≡ Begun → Accepted w t name args x) (export_of (program_from w t) name) t.label_count _ (Refused 20)
-      (λ l. either-eq (λ (z : Started). z ≡ Begun → Accepted w t name args x) (length args) (rows t (labels_of t (export_of (program_from w t) name)).number).b _ (Refused 21)
-      (λ a. either_true (λ (z : Started). z ≡ Begun → Accepted w t name args x) (one_of (ltb (length x.memory) t.data_length) (ltb (memory_limit w) (length x.memory))) (Refused 22) _
+      either (λ (z : Started). z ≡ Ok tt → Accepted w t name args x) (export_of (program_from w t) name) t.label_count _ (Err (Refused 20))
+      (λ l. either-eq (λ (z : Started). z ≡ Ok tt → Accepted w t name args x) (length args) (rows t (labels_of t (export_of (program_from w t) name)).number).b _ (Err (Refused 21))
+      (λ a. either_true (λ (z : Started). z ≡ Ok tt → Accepted w t name args x) (one_of (ltb (length x.memory) t.data_length) (ltb (memory_limit w) (length x.memory))) (Err (Refused 22)) _
       (λ d. refused 22)
-      (λ d. either_true (λ (z : Started). z ≡ Begun → Accepted w t name args x) (one_of (ltb (length x.stack) (rows t (labels_of t (export_of (program_from w t) name)).number).a) (ltb stack_words (length x.stack))) (Refused 23) Begun
+      (λ d. either_true (λ (z : Started). z ≡ Ok tt → Accepted w t name args x) (one_of (ltb (length x.stack) (rows t (labels_of t (export_of (program_from w t) name)).number).a) (ltb stack_words (length x.stack))) (Err (Refused 23)) (Ok tt)
       (λ c. refused 23)
       (λ c q.
       record {
@@ -139,7 +138,7 @@ module _ (w : Width) (t : Tables) (bytes name args : List ℕ) (x : World) where
       (λ a. refused 21))
       (λ l. refused 20) h
 
-  pub start-facts : start_of (program_from w t) bytes name args x ≡ Begun → Accepted w t name args x
+  pub start-facts : start_of (program_from w t) bytes name args x ≡ Ok tt → Accepted w t name args x
   unfolding start_of
   start-facts h = answer-facts (answer-begun h)
 
@@ -209,7 +208,7 @@ module _ (w : Width) (t : Tables) (good : WellFormed (program_from w t)) (bytes 
       word : (j : ℕ) → j < 3 → get_or (store_from x.stack 0 written) (0 + j) 0 ≡ get_or written j 0
       word j l = store_at x.stack 0 written j (omega (arith, a.room, (marks w t good (labels_of t (export_of (program_from w t) name)).number g.within g.is-function).head)) (omega arith)
 
-  pub begun : start_of (program_from w t) bytes name args x ≡ Begun → Invariant w t (record { func = started_function (program_from w t) bytes name args x; call = none }) [] (start_leaves (program_from w t) bytes name args x)
+  pub begun : start_of (program_from w t) bytes name args x ≡ Ok tt → Invariant w t (record { func = started_function (program_from w t) bytes name args x; call = none }) [] (start_leaves (program_from w t) bytes name args x)
   unfolding start_leaves begun_by
   begun h =
       subst (λ (z : Started). Invariant w t (record { func = started_function (program_from w t) bytes name args x; call = none }) [] (begun_by (program_from w t) bytes name args x z)) (sym h)

@@ -1,7 +1,7 @@
 -- Calls and tail calls: the invariant holds for the function called.
 -- Assumes nothing.
 use mathlib.Core.Path.{◌≡◌, refl, sym, ◌∙◌, ap, subst}
-use Prim.Native.Nat.{ℕ, zero, suc, ◌+◌, ◌<◌, ◌≤◌}
+use Prim.Native.Nat.{ℕ, suc, ◌+◌, ◌<◌, ◌≤◌}
 use mathlib.Core.Bool.{Bool, true, false}
 use mathlib.Core.Option.{Option, none, some}
 use mathlib.Core.List.{List, [], ◌∷◌}
@@ -10,7 +10,7 @@ use native.Mathlib.Omega.{arith}
 use borrow.Author.Tests.{ne_eqb}
 use lib.Dec.{eqb}
 use lib.ListN.{get_or, length}
-use Rattle.base_prelude.specs.Choice.{if_lt, if_eq, if_true}
+use Rattle.base_prelude.specs.Choice.{if_eq, if_true}
 use Rattle.base_prelude.proofs.Choice.{true-false, either, either-eq, either_true, if_eq-yes, if_eq-no, if_true-yes}
 use Rattle.base_limits.specs.declared.Width.{Width}
 use Rattle.base_limits.specs.Record.{moved_to}
@@ -24,7 +24,7 @@ use Rattle.prog_laws.proofs.Rows.{Callee, callee-facts, few-rows, marks, size-at
 use Rattle.vm_definitions.specs.Access.{as_word, word_good, store_from}
 use Rattle.vm_definitions.specs.Operands.{Words, words, bad, number_in}
 use Rattle.vm_definitions.specs.Frames.{frame_words, returns_to, caller_frame, top_at_entry, is_calling, importing}
-use Rattle.vm_definitions.specs.Step.{World, Effect, stops, leaves, call_by, call_of, tail_call_by, arguments_of, address_of}
+use Rattle.vm_definitions.specs.Step.{World, stops, call_by, call_of, tail_call_by, arguments_of, address_of}
 use Rattle.vm_definitions.specs.Ledger.{Entry, Ledger}
 use Rattle.vm_definitions.proofs.Invariant.{FrameAt, Head, Under, Invariant}
 use Rattle.vm_definitions.proofs.Stores.{store_length, store-before, store_at}

@@ -1,8 +1,8 @@
 -- The frames of the invariant on another stack, which has the words that they speak of.
 -- Assumes nothing.
 use mathlib.Core.Path.{◌≡◌, refl, sym, ◌∙◌, ap, subst}
-use Prim.Native.Nat.{ℕ, zero, suc, ◌+◌, ◌<◌, ◌≤◌}
-use mathlib.Core.Bool.{Bool, true, false}
+use Prim.Native.Nat.{ℕ, ◌+◌, ◌<◌, ◌≤◌}
+use mathlib.Core.Bool.{true, false}
 use mathlib.Core.Option.{Option, none, some}
 use mathlib.Core.List.{List, [], ◌∷◌}
 use native.Mathlib.Omega.{arith}
@@ -24,10 +24,10 @@ use Rattle.prog_laws.proofs.Rows.{local-word, at-local-word, size-at, address-wo
 use Rattle.prog_laws.proofs.Words.{block_within}
 use Rattle.vm_definitions.specs.Access.{word_good}
 use Rattle.vm_definitions.specs.Operands.{number_in}
-use Rattle.vm_definitions.specs.Frames.{returns_to, caller_frame, top_at_entry}
+use Rattle.vm_definitions.specs.Frames.{caller_frame}
 use Rattle.vm_definitions.specs.Step.{World}
 use Rattle.vm_definitions.specs.Ledger.{Entry, Ledger}
-use Rattle.vm_definitions.proofs.Invariant.{FrameAt, Head, FirstHead, Under, Invariant}
+use Rattle.vm_definitions.proofs.Invariant.{FrameAt, Head, Under, Invariant}
 
 -- two stacks agree below n
 abbrev pub Agree : List ℕ → List ℕ → ℕ → Type 0

@@ -1,20 +1,19 @@
 -- A statement that calls no imported function stops exactly with the number of the first cause it meets.
 -- Assumes nothing.
+use Rattle.std.proofs.Common.{Err, Ok}
+use Rattle.vm_definitions.specs.Operands.{Worked, valued}
 use mathlib.Core.Path.{◌≡◌, refl, sym, ◌∙◌, ap, subst}
-use mathlib.Core.Bool.{Bool, true, false, not}
+use mathlib.Core.Bool.{Bool, true, false}
 use mathlib.Core.List.{List, [], ◌∷◌, ◌++◌, map}
-use Prim.Native.Nat.{ℕ, zero, suc, ◌+◌, ◌-◌, ◌*◌, ◌%◌, ◌<◌, ◌≤◌}
-use native.Mathlib.Decide.{ℕ_discrete, dec_lt}
+use Prim.Native.Nat.{ℕ, suc, ◌+◌, ◌-◌, ◌*◌, ◌<◌, ◌≤◌}
+use native.Mathlib.Decide.{ℕ_discrete}
 use native.Mathlib.Omega.{arith}
-use lib.Dec.{ltb, leb, eqb}
+use lib.Dec.{ltb, eqb}
 use lib.ListN.{get_or, length, take, get_or-map}
-use borrow.Author.Tests.{eqb-true, eq-eqb, ne_eqb, lt-ltb, ltb-true}
+use borrow.Author.Tests.{eqb-true, eq-eqb, ne_eqb, ltb-true}
 use Rattle.base_prelude.specs.Choice.{pick, if_lt, if_eq, if_true}
-use Rattle.base_prelude.proofs.Choice.{true-false, if_eq-yes, if_eq-no, if_lt-yes, if_lt-no, if_true-yes, if_true-no}
-use Rattle.base_limits.specs.Width.{bits_of, bytes_of}
+use Rattle.base_prelude.proofs.Choice.{true-false, if_eq-yes, if_eq-no, if_true-yes, if_true-no}
 use Rattle.base_limits.specs.declared.Width.{Width}
-use Rattle.base_limits.specs.declared.Machine.{Machine}
-use Rattle.base_word.specs.Bytes.{word_bytes}
 use Rattle.prog_tables.specs.Tests.{both, one_of}
 use Rattle.prog_tables.specs.Statement.{Row, has_expression, is_test, is_operator, is_call_expression, expression_uses, used_by, slots, operand_at, row_from, row_at}
 use Rattle.prog_tables.specs.Label.{Tables, rows}
@@ -25,14 +24,11 @@ use Rattle.prog_tables.proofs.CallRows.{expression-listed}
 use Rattle.prog_tables.specs.declared.Operand.{Operand}
 use Rattle.prog_tables.specs.declared.Operand.TheVariants.{Unlisted}
 use Rattle.vm_definitions.specs.Access.{byte_address, word_address, byte_good, word_good}
-use Rattle.vm_definitions.specs.Operands.{Words, words, bad, is_at, number_in, read_of, read_all, on_read}
-use Rattle.vm_definitions.specs.Expressions.{eval_of, operand_no, test_holds}
+use Rattle.vm_definitions.specs.Operands.{is_at, number_in, read_of, on_read}
+use Rattle.vm_definitions.specs.Expressions.{operand_no, test_holds}
 use Rattle.vm_definitions.specs.Frames.{is_return, is_calling, importing, resumption_of}
 use Rattle.vm_definitions.specs.Step.{World, Effect, stops, leaves, effect_stop, goes_to, keeps, stores, block_of, end_block_of, test_of, worked_of, assigned, assigned_at, set_at_of, set_byte_by, set_word_by, arguments_of, call_by, call_of, tail_call_by, handed_by, returned, return_of, effect_of}
 use Rattle.vm_definitions.specs.Causes.{cause_of, first_of, touched, word_of, with_frame, behind_operands, reads_of, meetings_of, first_cause}
-use Rattle.vm_definitions.specs.declared.Resumption.{Resumption}
-use Rattle.vm_definitions.specs.declared.Worked.{Worked}
-use Rattle.vm_definitions.specs.declared.Worked.TheVariants.{Value, Stop}
 use Rattle.vm_definitions.proofs.Importing.{calls_by, plain-calls, plain-calling, plain-return, no-import}
 use Rattle.vm_definitions.proofs.Operators.{stop_in, next, first-here, first-later, first_one, word_good_lem, word-bad, read-cause, all-cause, eval-cause}
 use Rattle.vm_definitions.specs.Operators.{Meeting, word_at, byte_at, stacks_to, operators, line_in, operator_of, operator_meets}
@@ -168,18 +164,18 @@ module _ (prog : Program) (x : World) (sum last : ℕ) (own : importing (prog.ro
 
   assigned-stop : (k : Worked) → effect_stop (assigned prog x k) ≡ stop_in k
   unfolding effect_stop assigned stop_in keeps
-  assigned-stop (Value v top) = refl
-  assigned-stop (Stop k) = refl
+  assigned-stop (Ok got) = refl
+  assigned-stop (Err k) = refl
 
   assigned-at-stop : (k : Worked) → effect_stop (assigned_at prog x k) ≡ stop_in k
   unfolding effect_stop assigned_at stop_in stores
-  assigned-at-stop (Value v top) = refl
-  assigned-at-stop (Stop k) = refl
+  assigned-at-stop (Ok got) = refl
+  assigned-at-stop (Err k) = refl
 
   returned-stop : ((v : ℕ) → effect_stop (handed_by prog x v (resumption_of w f c st (suc s) s)) ≡ 0) → (k : Worked) → effect_stop (returned prog x k) ≡ stop_in k
   unfolding effect_stop returned stop_in
-  returned-stop h (Value v top) = h v
-  returned-stop h (Stop k) = refl
+  returned-stop h (Ok got) = h got.word
+  returned-stop h (Err k) = refl
 
   -- the address of `set @` is judged first
   at_first : (e : Effect) (es : List Meeting) → effect_stop e ≡ first es
@@ -424,7 +420,7 @@ module _ (prog : Program) (x : World) (sum last : ℕ) (own : importing (prog.ro
         kind_2 : r.kind ≡ 2 → Caused
         unfolding Caused done_by dispatch has_expression is_test if_true if_eq if_lt met_by behind_by calls_by used_by touched first_of effect_stop return_of returned
         kind_2 h =
-            ap effect_stop (effect-as 2 h ∙ if_eq-yes (returned prog x (Value 0 0)) (if_eq r.expr 0 (returned prog x (Value 0 0)) (returned prog x (worked_of prog x))) h)
+            ap effect_stop (effect-as 2 h ∙ if_eq-yes (returned prog x (valued 0 0)) (if_eq r.expr 0 (returned prog x (valued 0 0)) (returned prog x (worked_of prog x))) h)
             ∙ home 0 (end_returns h)
             ∙ sym (cause-as 2 [] h (operands-as 2 h))
 
@@ -435,18 +431,18 @@ module _ (prog : Program) (x : World) (sum last : ℕ) (own : importing (prog.ro
               plain-return r.kind r.expr own
               ∙ ap (λ (i : ℕ). one_of (eqb i 2) (both (eqb i 13) (if_true (eqb r.expr 2) false true))) h ∙ if_true-no false true (ne_eqb r.expr 2 h2)
 
-          return-effect : effect_of prog x ≡ if_eq r.expr 0 (returned prog x (Value 0 0)) (returned prog x (worked_of prog x))
+          return-effect : effect_of prog x ≡ if_eq r.expr 0 (returned prog x (valued 0 0)) (returned prog x (worked_of prog x))
           unfolding Caused done_by dispatch has_expression is_test if_true if_eq if_lt met_by behind_by calls_by used_by touched first_of effect_stop return_of
           return-effect =
               effect-as 13 h
               ∙ if_true-no (call_of prog x) (if_true (if_true (eqb r.expr 2) false true) (return_of prog x) (goes_to prog x r.a)) (ne_eqb r.expr 2 h2)
               ∙ if_true-yes (return_of prog x) (goes_to prog x r.a) (if_true-no false true (ne_eqb r.expr 2 h2))
-              ∙ if_eq-no {a = r.kind} {b = 2} (returned prog x (Value 0 0)) (if_eq r.expr 0 (returned prog x (Value 0 0)) (returned prog x (worked_of prog x))) (λ q. omega (arith, q, h))
+              ∙ if_eq-no {a = r.kind} {b = 2} (returned prog x (valued 0 0)) (if_eq r.expr 0 (returned prog x (valued 0 0)) (returned prog x (worked_of prog x))) (λ q. omega (arith, q, h))
 
           bare-13 : r.expr ≡ 0 → Caused
           unfolding Caused done_by dispatch has_expression is_test if_true if_eq if_lt met_by behind_by calls_by used_by touched first_of effect_stop returned expression_uses is_operator operator_meets operator_of line_in operators
           bare-13 q =
-              ap effect_stop (return-effect ∙ if_eq-yes (returned prog x (Value 0 0)) (returned prog x (worked_of prog x)) q)
+              ap effect_stop (return-effect ∙ if_eq-yes (returned prog x (valued 0 0)) (returned prog x (worked_of prog x)) q)
               ∙ home 0 it-returns
               ∙ sym
               (cause-as 13 [] h (operands-as 13 h ∙ ap (λ (e : ℕ). take (used_by 13 e r.count) (o ∷ p ∷ rest)) q)
@@ -455,7 +451,7 @@ module _ (prog : Program) (x : World) (sum last : ℕ) (own : importing (prog.ro
           value-13 : (r.expr ≡ 0 → ⊥) → (r.expr ≡ 3 → ⊥) → expression_listed 13 r.expr ≡ true → Caused
           unfolding Caused done_by dispatch has_expression is_test if_true if_eq if_lt met_by behind_by calls_by used_by touched first_of effect_stop operates
           value-13 h0 h3 g =
-              ap effect_stop (return-effect ∙ if_eq-no (returned prog x (Value 0 0)) (returned prog x (worked_of prog x)) h0)
+              ap effect_stop (return-effect ∙ if_eq-no (returned prog x (valued 0 0)) (returned prog x (worked_of prog x)) h0)
               ∙ returned-stop (λ v. home v it-returns) (worked_of prog x)
               ∙ worked-stop h0 h2 h3 g (operands-as 13 h)
               ∙ ap (λ (i : List Meeting). first (touched w st s r.operands ++ i)) (sym (behind-is h0 h2 h3 g))

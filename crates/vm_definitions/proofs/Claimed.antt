@@ -1,21 +1,21 @@
 -- The claim from its parts: good worlds are sound, and every list of calls leaves one.
 -- Assumes nothing.
+use Rattle.std.proofs.Common.{Ok, Err}
 use mathlib.Core.Path.{◌≡◌, refl, sym, ◌∙◌, ap, subst}
 use mathlib.Core.Bool.{Bool, true, false}
-use mathlib.Core.Option.{Option, none, some}
+use mathlib.Core.Option.{none}
 use mathlib.Core.List.{List, [], ◌∷◌, ◌++◌}
-use Prim.Native.Nat.{ℕ, zero, suc, ◌+◌, ◌≤◌, ◌<◌}
+use Prim.Native.Nat.{ℕ, zero, suc, ◌≤◌, ◌<◌}
 use native.Mathlib.Decide.{ℕ_discrete}
 use native.Mathlib.Omega.{arith}
 use lib.ListN.{length}
-use Rattle.base_prelude.specs.Choice.{if_eq, if_true}
+use Rattle.base_prelude.specs.Choice.{if_true}
 use Rattle.base_prelude.proofs.Choice.{if_eq-yes, if_eq-no, true-false, either_true}
 use Rattle.base_limits.specs.Width.{memory_limit}
 use Rattle.base_limits.specs.declared.Width.{Width}
 use Rattle.base_limits.specs.declared.State.{State}
 use Rattle.base_limits.specs.declared.State.TheVariants.{Running, Finished, Stopped, Paused}
 use Rattle.base_limits.specs.declared.Pause.{Pause}
-use Rattle.base_limits.specs.declared.Machine.{Machine}
 use Rattle.base_limits.specs.Record.{stopped, with_state}
 use Rattle.prog_tables.specs.Tests.{both}
 use Rattle.prog_tables.proofs.Each.{both_left, both_right, both_true, one-no, one-rest}
@@ -24,15 +24,15 @@ use Rattle.prog_tables.specs.Program.{program_from}
 use Rattle.vm_definitions.specs.Step.{World, Effect, stops, leaves, effect_of, address_of, After, idle, effected, guarded, in_state_of, step_of, counting, run_of, handed_in, Continued, on_pause, resume_of}
 use Rattle.vm_definitions.specs.Access.{word_good}
 use Rattle.vm_definitions.specs.Broken.{resume_broken}
-use Rattle.vm_definitions.specs.Start.{start_of, start_leaves, start_by, start_answer, start_world, started_function, begun_by}
+use Rattle.vm_definitions.specs.Start.{start_of, start_leaves, start_by, start_answer, started_function, begun_by}
 use Rattle.vm_definitions.specs.Causes.{arguments_read}
-use Rattle.vm_definitions.specs.Ledger.{Event, started, counted, Entry, Ledger, fed, counted_in, ledger_of, sum_of, last_of}
+use Rattle.vm_definitions.specs.Ledger.{Event, counted, Entry, Ledger, fed, counted_in, ledger_of, sum_of}
 use Rattle.vm_definitions.specs.Play.{Call, start, step, run, resume, Invocation, CallResult, events_of, resume_events, start_events, start_broke, called_on, invoked_on, world_after, events_after, refusals_after}
-use Rattle.vm_definitions.specs.Claim.{running_with, cause_in, Listed, at_import, pause_in, paused_as, is_stopped, is_paused, is_held, stopped_by, with_memory, StopSound, StepSound, ResumeSound, PauseSound, stack_full, StateSound, is_finished, Sound, stop_memory_in, stop_memory, AllLong, NoneBroken, started_by, Demand}
+use Rattle.vm_definitions.specs.Claim.{running_with, cause_in, at_import, pause_in, paused_as, is_stopped, is_paused, is_held, stopped_by, with_memory, StepSound, ResumeSound, PauseSound, StateSound, is_finished, Sound, stop_memory_in, stop_memory, AllLong, NoneBroken, started_by, Demand}
 use Rattle.vm_definitions.specs.declared.Broken.{Broken}
 use Rattle.vm_definitions.specs.declared.Broken.TheVariants.{No, At, Somewhere}
-use Rattle.vm_definitions.specs.declared.Started.{Started}
-use Rattle.vm_definitions.specs.declared.Started.TheVariants.{Begun, Refused, Unsound}
+use Rattle.vm_definitions.specs.Start.{Started}
+use Rattle.vm_definitions.specs.declared.StartError.TheVariants.{Refused, Unsound}
 use Rattle.vm_definitions.proofs.Invariant.{FrameAt, Under, Invariant}
 use Rattle.vm_definitions.proofs.Outcomes.{Fine, effect-fine, handed-in-fine}
 use Rattle.vm_definitions.proofs.Paused.{still-good}
@@ -309,7 +309,7 @@ module _ (w : Width) (t : Tables) (bytes : List ℕ) (p : Parts w t bytes) where
           | no z ↦ ap (λ (y : After). y.world) (if_eq-no (step_of (program_from w t) x) (counting 1 (run_of (program_from w t) 0 (step_of (program_from w t) x).world)) z)
         ]
 
-    begun-good : (h name args : List ℕ) (es : Ledger) (x : World) → length x.memory ≡ m → start_of (program_from w t) bytes name args x ≡ Begun
+    begun-good : (h name args : List ℕ) (es : Ledger) (x : World) → length x.memory ≡ m → start_of (program_from w t) bytes name args x ≡ Ok tt
         → InvocationGood h (called_on (program_from w t) bytes (start name args) x) es
     unfolding called_on start_events start_broke ledger_of fed
     begun-good h name args es x l q =
@@ -329,14 +329,14 @@ module _ (w : Width) (t : Tables) (bytes : List ℕ) (p : Parts w t bytes) where
       where
         go : (a : Started) → start_of (program_from w t) bytes name args x ≡ a
             → InvocationGood (h (start_leaves (program_from w t) bytes name args x)) (called_on (program_from w t) bytes (start name args) x) es
-        go Begun q = begun-good (h (start_leaves (program_from w t) bytes name args x)) name args es x l q
-        go (Refused k) q =
+        go (Ok _) q = begun-good (h (start_leaves (program_from w t) bytes name args x)) name args es x l q
+        go (Err (Refused k)) q =
             record {
               good =
                   subst (λ (a : Started). Good w t m (h (begun_by (program_from w t) bytes name args x a)) (ledger_of (rows t) es (start_events (started_function (program_from w t) bytes name args x) a)) (begun_by (program_from w t) bytes name args x a)) (sym q) g;
               whole = ap start_broke q;
             }
-        go (Unsound b) q = absurd (p.unbroken name args x b q)
+        go (Err (Unsound b)) q = absurd (p.unbroken name args x b q)
 
     -- going on
 

@@ -9,6 +9,7 @@
 -- and in its list the going on, refused ones too" (02, 3).
 -- Worlds inside a run are those of a run with a smaller budget, which is another list.
 -- Assumes nothing.
+use Rattle.std.proofs.Common.{Ok, Err}
 use mathlib.Core.Path.{◌≡◌, refl, sym, ◌∙◌, ap, subst}
 use mathlib.Core.Bool.{Bool, true, false}
 use mathlib.Core.Option.{none}
@@ -31,18 +32,18 @@ use Rattle.prog_tables.specs.WellFormed.{WellFormed}
 use Rattle.prog_tables.proofs.Sound.{kind-sound}
 use Rattle.prog_tables.proofs.Whole.{row-sound}
 use Rattle.prog_tables.proofs.Unbroken.{tables-sound}
-use Rattle.vm_definitions.specs.Step.{World, Effect, stops, leaves, effect_stop, effect_of, address_of, pausing, handed_in}
+use Rattle.vm_definitions.specs.Step.{World, stops, leaves, effect_stop, effect_of, address_of, pausing, handed_in}
 use Rattle.vm_definitions.specs.Access.{word_good}
 use Rattle.vm_definitions.specs.Frames.{importing}
 use Rattle.vm_definitions.specs.Causes.{arguments_read}
-use Rattle.vm_definitions.specs.Broken.{lowest, or_else, numbers_below, start_broken}
+use Rattle.vm_definitions.specs.Broken.{or_else, numbers_below, start_broken}
 use Rattle.vm_definitions.specs.Start.{start_of, start_by, start_answer, start_leaves, start_world, begun_by, started_function}
 use Rattle.vm_definitions.specs.Ledger.{Entry, Ledger, sum_of, last_of, counted_in}
 use Rattle.vm_definitions.specs.Claim.{cause_in, pause_in, paused_as, stopped_by, Demand}
 use Rattle.vm_definitions.specs.declared.Broken.{Broken}
 use Rattle.vm_definitions.specs.declared.Broken.TheVariants.{No, At, Somewhere}
-use Rattle.vm_definitions.specs.declared.Started.{Started}
-use Rattle.vm_definitions.specs.declared.Started.TheVariants.{Begun, Refused, Unsound}
+use Rattle.vm_definitions.specs.Start.{Started}
+use Rattle.vm_definitions.specs.declared.StartError.TheVariants.{Refused, Unsound}
 use Rattle.vm_definitions.proofs.Invariant.{Invariant}
 use Rattle.vm_definitions.proofs.Chain.{invariant-sum, invariant-frame}
 use Rattle.vm_definitions.proofs.Guard.{Low, low-none, low-cons, lowest-none, statements-sound, labels-sound, gate-open, resume-open, hand-safe, neither}
@@ -95,11 +96,11 @@ module _ (w : Width) (t : Tables) (good : WellFormed (program_from w t)) (bytes 
 
   module _ (name args : List ℕ) (x : World) where
     unfoldable Whole : Started → Type 0
-    Whole Begun = Unit {0}
-    Whole (Refused k) = Unit {0}
-    Whole (Unsound b) = ⊥
+    Whole (Ok _) = Unit {0}
+    Whole (Err (Refused k)) = Unit {0}
+    Whole (Err (Unsound b)) = ⊥
 
-    refusals : (n : ℕ) → Whole (Refused n)
+    refusals : (n : ℕ) → Whole (Err (Refused n))
     unfolding Whole
     refusals n = tt
 
@@ -116,12 +117,12 @@ module _ (w : Width) (t : Tables) (good : WellFormed (program_from w t)) (bytes 
     unfolding start_of start_by
     started-whole = subst (λ (b : Broken). Whole (start_by (program_from w t) bytes name args x b)) (sym start-whole) answer-whole
 
-    unsound : (b : Broken) → start_of (program_from w t) bytes name args x ≡ Unsound b → ⊥
+    unsound : (b : Broken) → start_of (program_from w t) bytes name args x ≡ Err (Unsound b) → ⊥
     unfolding Whole
     unsound b q = subst Whole q started-whole
 
     -- an accepted start leaves a good world
-    begins : start_of (program_from w t) bytes name args x ≡ Begun
+    begins : start_of (program_from w t) bytes name args x ≡ Ok tt
         → (s : List ℕ) → Good w t (length x.memory) s (record { func = started_function (program_from w t) bytes name args x; call = none } ∷ []) (start_leaves (program_from w t) bytes name args x)
     unfolding start_leaves begun_by start_world fresh_of
     begins q s =

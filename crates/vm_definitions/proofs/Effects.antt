@@ -1,34 +1,29 @@
 -- A stop has a number; a statement that is no return leaves a running record and a memory of the same length.
 -- Assumes nothing.
-use mathlib.Core.Path.{◌≡◌, refl, sym, ◌∙◌, ap, subst}
-use Prim.Native.Nat.{ℕ, zero, suc, ◌+◌, ◌*◌, ◌%◌, ◌<◌, ◌≤◌}
-use mathlib.Core.Bool.{Bool, true, false}
-use mathlib.Core.List.{List, [], ◌∷◌}
+use Rattle.std.proofs.Common.{Err, None, Ok, Option, Some}
+use Rattle.vm_definitions.specs.Operands.{Worked, valued}
+use mathlib.Core.Path.{◌≡◌, refl}
+use Prim.Native.Nat.{ℕ, ◌+◌, ◌*◌, ◌<◌}
+use mathlib.Core.List.{List}
 use native.Mathlib.Omega.{arith}
 use lib.ListN.{get_or, length}
-use Rattle.base_prelude.specs.Choice.{if_lt, if_eq, if_true}
+use Rattle.base_prelude.specs.Choice.{if_eq}
 use Rattle.base_prelude.proofs.Choice.{either, either-eq, either_true}
 use Rattle.base_limits.specs.Width.{bits_of, bytes_of}
 use Rattle.base_limits.specs.declared.Width.{Width}
-use Rattle.base_limits.specs.Record.{going_on, moved_to, ended}
+use Rattle.base_limits.specs.Record.{going_on, moved_to}
 use Rattle.lang_words.specs.Words.{least_operands}
-use Rattle.base_word.specs.Bytes.{word_bytes}
 use Rattle.base_word.specs.Word.{div_of, mod_of, shl_of, shr_of, bsr_of, asr_of, rol_of, ror_of}
-use Rattle.base_word.specs.declared.Answer.{Answer}
-use Rattle.base_word.specs.declared.Answer.TheVariants.{Word, Division, Shift}
+use Rattle.base_word.specs.Word.{Answer}
+use Rattle.base_word.specs.declared.WordError.TheVariants.{Division, Shift}
 use Rattle.prog_tables.specs.Layout.{plain, no_expression}
-use Rattle.prog_tables.specs.Statement.{Row, is_test}
+use Rattle.prog_tables.specs.Statement.{Row}
 use Rattle.prog_tables.specs.Program.{Program}
 use Rattle.prog_tables.specs.declared.Operand.{Operand}
-use Rattle.vm_definitions.specs.Access.{byte_address, word_address, byte_good, word_good, store_from}
-use Rattle.vm_definitions.specs.Operands.{Words, words, bad, number_in, fetch_of, read_of, on_read}
-use Rattle.vm_definitions.specs.Expressions.{eval_of, operand_no, test_holds}
-use Rattle.vm_definitions.specs.Frames.{is_return, is_calling, resumption_of}
-use Rattle.vm_definitions.specs.Step.{World, Effect, stops, leaves, goes_to, keeps, stores, block_of, end_block_of, test_of, worked_of, assigned, assigned_at, address_of, set_at_of, set_byte_by, set_word_by, arguments_of, call_by, call_of, tail_call_by, handed_to, handed_by, returned, return_of, row_of, effect_of}
-use Rattle.vm_definitions.specs.declared.Read.{Read}
-use Rattle.vm_definitions.specs.declared.Read.TheVariants.{Got, Bad}
-use Rattle.vm_definitions.specs.declared.Worked.{Worked}
-use Rattle.vm_definitions.specs.declared.Worked.TheVariants.{Value, Stop}
+use Rattle.vm_definitions.specs.Access.{byte_address, word_address, byte_good}
+use Rattle.vm_definitions.specs.Operands.{Words, words, bad, fetch_of, read_of, on_read}
+use Rattle.vm_definitions.specs.Expressions.{eval_of, operand_no}
+use Rattle.vm_definitions.specs.Step.{World, Effect, stops, leaves, goes_to, keeps, stores, block_of, end_block_of, test_of, worked_of, assigned, assigned_at, set_at_of, set_byte_by, set_word_by, call_by, call_of, tail_call_by, handed_to, handed_by, returned, return_of}
 use Rattle.vm_definitions.specs.declared.Resumption.{Resumption}
 use Rattle.vm_definitions.specs.declared.Resumption.TheVariants.{Ends, Caller}
 use Rattle.vm_definitions.proofs.Stores.{store_length}
@@ -39,33 +34,33 @@ use Rattle.vm_definitions.proofs.OperatorTable.{Every, each-operator}
 -- ---- expressions
 
 unfoldable pub StopSome : Worked → Type 0
-StopSome (Value v top) = Unit {0}
-StopSome (Stop k) = 0 < k
+StopSome (Ok got) = Unit {0}
+StopSome (Err k) = 0 < k
 
 some-answered : (top : ℕ) (r : Answer) → StopSome (answered top r)
 unfolding StopSome answered
-some-answered top (Word v) = tt
-some-answered top Division = omega arith
-some-answered top Shift = omega arith
+some-answered top (Ok v) = tt
+some-answered top (Err Division) = omega arith
+some-answered top (Err Shift) = omega arith
 
-some-fetched : (top : ℕ) (r : Read) → StopSome (fetched top r)
+some-fetched : (top : ℕ) (r : Option ℕ) → StopSome (fetched top r)
 unfolding StopSome fetched
-some-fetched top (Got v) = tt
-some-fetched top Bad = omega arith
+some-fetched top (Some v) = tt
+some-fetched top None = omega arith
 
 some-reserved : (w : Width) (m top n : ℕ) → StopSome (reserved w m top n)
 unfolding StopSome reserved
-some-reserved w m top n = either StopSome m (round_up w top + n) (Stop 34) (Value (round_up w top) (round_up w top + n)) (λ h. omega arith) (λ h. tt)
+some-reserved w m top n = either StopSome m (round_up w top + n) (Err 34) (valued (round_up w top) (round_up w top + n)) (λ h. omega arith) (λ h. tt)
 
 some_byte : (l : List ℕ) (top a : ℕ) → StopSome (byte_of l top a)
 unfolding StopSome byte_of
-some_byte l top a = either_true StopSome (byte_good (length l) a) (Value (get_or l a 0) top) (Stop 32) (λ e. tt) (λ e. omega arith)
+some_byte l top a = either_true StopSome (byte_good (length l) a) (valued (get_or l a 0) top) (Err 32) (λ e. tt) (λ e. omega arith)
 
-some-value : (v top : ℕ) → StopSome (Value v top)
+some-value : (v top : ℕ) → StopSome (valued v top)
 unfolding StopSome
 some-value v top = tt
 
-some-stop : StopSome (Stop 32)
+some-stop : StopSome (Err 32)
 unfolding StopSome
 some-stop = omega arith
 
@@ -136,10 +131,10 @@ some-eval : (w : Width) (st : List ℕ) (s : ℕ) (m : List ℕ) (top e : ℕ) (
 unfolding eval_of
 some-eval w st s m top e os =
     either-eq StopSome e plain _ _ (λ d. some-fetched top (read_of w st s m (operand_no os 0)))
-    (λ d. on_read_lem StopSome (read_of w st s m (operand_no os 0)) (Stop 32)
-    (λ x. if_eq (least_operands e) 1 (applied w m top e x 0) (on_read (read_of w st s m (operand_no os 1)) (Stop 32) (applied w m top e x))) some-stop
+    (λ d. on_read_lem StopSome (read_of w st s m (operand_no os 0)) (Err 32)
+    (λ x. if_eq (least_operands e) 1 (applied w m top e x 0) (on_read (read_of w st s m (operand_no os 1)) (Err 32) (applied w m top e x))) some-stop
     (λ x. either-eq StopSome (least_operands e) 1 _ _ (λ q. some-applied w m top e x 0)
-    (λ q. on_read_lem StopSome (read_of w st s m (operand_no os 1)) (Stop 32) (applied w m top e x) some-stop (λ y. some-applied w m top e x y))))
+    (λ q. on_read_lem StopSome (read_of w st s m (operand_no os 1)) (Err 32) (applied w m top e x) some-stop (λ y. some-applied w m top e x y))))
 
 -- ---- effects
 
@@ -204,13 +199,13 @@ module _ (prog : Program) (x : World) where
 
   pub fine-assigned : (r : Worked) → StopSome r → Fine x (assigned prog x r)
   unfolding StopSome assigned Fine
-  fine-assigned (Value v top) h = fine-keeps top _ _
-  fine-assigned (Stop k) h = h
+  fine-assigned (Ok got) h = fine-keeps got.top _ _
+  fine-assigned (Err k) h = h
 
   fine-assigned-at : (r : Worked) → StopSome r → Fine x (assigned_at prog x r)
   unfolding StopSome assigned_at Fine
-  fine-assigned-at (Value v top) h = fine-stores top _ _
-  fine-assigned-at (Stop k) h = h
+  fine-assigned-at (Ok got) h = fine-stores got.top _ _
+  fine-assigned-at (Err k) h = h
 
   pub some-worked : StopSome (worked_of prog x)
   unfolding worked_of
@@ -255,11 +250,11 @@ module _ (prog : Program) (x : World) where
 
   numbered-returned : (r : Worked) → StopSome r → Numbered (returned prog x r)
   unfolding returned StopSome Numbered
-  numbered-returned (Value v top) h = numbered-to v _
-  numbered-returned (Stop k) h = h
+  numbered-returned (Ok got) h = numbered-to got.word _
+  numbered-returned (Err k) h = h
 
   pub numbered-return : Numbered (return_of prog x)
   unfolding return_of
   numbered-return =
-      either-eq Numbered _ 2 _ _ (λ e. numbered-returned (Value 0 0) (some-value 0 0))
-      (λ e. either-eq Numbered _ no_expression _ _ (λ d. numbered-returned (Value 0 0) (some-value 0 0)) (λ d. numbered-returned (worked_of prog x) some-worked))
+      either-eq Numbered _ 2 _ _ (λ e. numbered-returned (valued 0 0) (some-value 0 0))
+      (λ e. either-eq Numbered _ no_expression _ _ (λ d. numbered-returned (valued 0 0) (some-value 0 0)) (λ d. numbered-returned (worked_of prog x) some-worked))

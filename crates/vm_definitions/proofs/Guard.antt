@@ -12,7 +12,7 @@ use Rattle.base_prelude.specs.Choice.{if_true}
 use Rattle.base_prelude.proofs.Choice.{either, either-eq, either_true, if_lt-yes, if_true-yes, if_true-no}
 use Rattle.base_limits.specs.declared.Width.{Width}
 use Rattle.base_limits.specs.declared.Machine.{Machine}
-use Rattle.prog_tables.specs.Tests.{both, one_of, all, some}
+use Rattle.prog_tables.specs.Tests.{both, one_of, some}
 use Rattle.prog_tables.specs.Statement.{Row, is_call}
 use Rattle.prog_tables.specs.Label.{Tables, rows}
 use Rattle.prog_tables.specs.Program.{Program, program_from}

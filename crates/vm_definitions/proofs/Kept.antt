@@ -1,25 +1,25 @@
 -- Statements of one frame keep the invariant: those that go on or jump, `let` and `set`, `block` and `end block`, and the stores.
 -- Assumes nothing.
+use Rattle.std.proofs.Common.{Err, None, Ok, Option, Some}
+use Rattle.vm_definitions.specs.Operands.{Worked, valued}
 use mathlib.Core.Path.{◌≡◌, refl, sym, ◌∙◌, ap, subst}
 use Prim.Native.Nat.{ℕ, zero, suc, ◌+◌, ◌*◌, ◌%◌, ◌<◌, ◌≤◌}
-use mathlib.Core.Bool.{Bool, true, false}
+use mathlib.Core.Bool.{true}
 use mathlib.Core.List.{List, [], ◌∷◌}
-use native.Mathlib.Decide.{ℕ_discrete}
 use native.Mathlib.Omega.{arith}
-use lib.Dec.{eqb, ltb}
+use lib.Dec.{eqb}
 use lib.ListN.{get_or, length, replicate}
-use Rattle.base_prelude.specs.Choice.{if_lt, if_eq, if_true}
-use Rattle.base_prelude.proofs.Choice.{true-false, either, either-eq, either_true, if_true-yes}
+use Rattle.base_prelude.specs.Choice.{if_eq}
+use Rattle.base_prelude.proofs.Choice.{either, either-eq, either_true, if_true-yes}
 use Rattle.base_limits.specs.Width.{bits_of, bytes_of}
 use Rattle.base_limits.specs.declared.Width.{Width}
-use Rattle.base_limits.specs.Record.{going_on}
 use Rattle.lang_words.specs.Words.{least_operands}
 use Rattle.base_word.specs.Bytes.{word_bytes}
 use Rattle.base_word.specs.Word.{add_of, sub_of, mul_of, div_of, mod_of, and_of, or_of, xor_of, not_of, shl_of, shr_of, bsr_of, asr_of, rol_of, ror_of}
-use Rattle.base_word.specs.declared.Answer.{Answer}
-use Rattle.base_word.specs.declared.Answer.TheVariants.{Word, Division, Shift}
+use Rattle.base_word.specs.Word.{Answer}
+use Rattle.base_word.specs.declared.WordError.TheVariants.{Division, Shift}
 use Rattle.prog_tables.specs.Layout.{plain}
-use Rattle.prog_tables.specs.Statement.{Row, is_test}
+use Rattle.prog_tables.specs.Statement.{is_test}
 use Rattle.prog_tables.specs.Label.{Tables, rows}
 use Rattle.prog_tables.specs.Program.{program_from}
 use Rattle.prog_tables.specs.Nesting.{encloses, has_target}
@@ -31,17 +31,13 @@ use Rattle.prog_laws.proofs.Next.{next-in, next-other, next-block, next-end-bloc
 use Rattle.prog_laws.proofs.Targets.{goto-target, target-scope}
 use Rattle.prog_laws.proofs.Words.{around-self, frame-shallow, block-low, block_within, end-facts, Apart, destination-apart}
 use Rattle.vm_definitions.specs.Access.{byte_address, word_address, byte_good, word_good, store_from}
-use Rattle.vm_definitions.specs.Operands.{Words, words, bad, number_in, fetch_of, read_of, read_all, on_read}
+use Rattle.vm_definitions.specs.Operands.{Words, words, bad, fetch_of, read_of, on_read}
 use Rattle.vm_definitions.specs.Expressions.{eval_of, operand_no, test_holds}
 use Rattle.vm_definitions.specs.Step.{World, Effect, stops, leaves, goes_to, keeps, stores, block_of, end_block_of, test_of, worked_of, assigned, assigned_at, address_of, set_at_of, set_byte_by, set_word_by}
 use Rattle.vm_definitions.specs.Ledger.{Entry, Ledger}
-use Rattle.vm_definitions.specs.declared.Read.{Read}
-use Rattle.vm_definitions.specs.declared.Read.TheVariants.{Got, Bad}
-use Rattle.vm_definitions.specs.declared.Worked.{Worked}
-use Rattle.vm_definitions.specs.declared.Worked.TheVariants.{Value, Stop}
-use Rattle.vm_definitions.proofs.Invariant.{FrameAt, Under, Invariant}
+use Rattle.vm_definitions.proofs.Invariant.{FrameAt, Invariant}
 use Rattle.vm_definitions.proofs.Stores.{set_other, store_length, store-before, store_at, store-most, zeros-most}
-use Rattle.vm_definitions.proofs.Carried.{Agree, frame-to, kept}
+use Rattle.vm_definitions.proofs.Carried.{frame-to, kept}
 use Rattle.vm_definitions.proofs.Words.{memory_word}
 use Rattle.vm_definitions.proofs.Places.{target-inside, goto-inside, around-cases, around-more, around-outside}
 use Rattle.vm_definitions.specs.Operators.{Operator, operators, round_up, reserved, answered, fetched, byte_of, applied}
@@ -55,10 +51,10 @@ Kept w t e es (leaves y) = Invariant w t e es y
 
 -- ---- small facts
 
-pub on_read_lem : {X : Type 0} (P : X → Type 0) (r : Read) (x : X) (g : ℕ → X) → P x → ((v : ℕ) → P (g v)) → P (on_read r x g)
+pub on_read_lem : {X : Type 0} (P : X → Type 0) (r : Option ℕ) (x : X) (g : ℕ → X) → P x → ((v : ℕ) → P (g v)) → P (on_read r x g)
 unfolding on_read
-on_read_lem P (Got v) x g a b = b v
-on_read_lem P Bad x g a b = a
+on_read_lem P (Some v) x g a b = b v
+on_read_lem P None x g a b = a
 
 store_other : (l : List ℕ) (a v i : ℕ) → (i ≡ a → ⊥) → get_or (store_from l a (v ∷ [])) i 0 ≡ get_or l i 0
 unfolding store_from
@@ -75,34 +71,34 @@ first-most x n (suc j) m h = zeros-most n j m
 -- ---- the auto top that an expression leaves is within the memory
 
 unfoldable pub TopIn : ℕ → Worked → Type 0
-TopIn m (Value v top) = top ≤ m
-TopIn m (Stop k) = Unit {0}
+TopIn m (Ok got) = got.top ≤ m
+TopIn m (Err k) = Unit {0}
 
 top-answered : (m top : ℕ) (r : Answer) → top ≤ m → TopIn m (answered top r)
 unfolding TopIn answered
-top-answered m top (Word v) h = h
-top-answered m top Division h = tt
-top-answered m top Shift h = tt
+top-answered m top (Ok v) h = h
+top-answered m top (Err Division) h = tt
+top-answered m top (Err Shift) h = tt
 
-top-fetched : (m top : ℕ) (r : Read) → top ≤ m → TopIn m (fetched top r)
+top-fetched : (m top : ℕ) (r : Option ℕ) → top ≤ m → TopIn m (fetched top r)
 unfolding TopIn fetched
-top-fetched m top (Got v) h = h
-top-fetched m top Bad h = tt
+top-fetched m top (Some v) h = h
+top-fetched m top None h = tt
 
 top-reserved : (w : Width) (m top n : ℕ) → TopIn m (reserved w m top n)
 unfolding TopIn reserved
 top-reserved w m top n =
-    either (TopIn m) m (round_up w top + n) (Stop 34) (Value (round_up w top) (round_up w top + n)) (λ h. tt) (λ h. h)
+    either (TopIn m) m (round_up w top + n) (Err 34) (valued (round_up w top) (round_up w top + n)) (λ h. tt) (λ h. h)
 
 top_byte : (l : List ℕ) (m top a : ℕ) → top ≤ m → TopIn m (byte_of l top a)
 unfolding TopIn byte_of
-top_byte l m top a h = either_true (TopIn m) (byte_good (length l) a) (Value (get_or l a 0) top) (Stop 32) (λ e. h) (λ e. tt)
+top_byte l m top a h = either_true (TopIn m) (byte_good (length l) a) (valued (get_or l a 0) top) (Err 32) (λ e. h) (λ e. tt)
 
-top-value : (m v top : ℕ) → top ≤ m → TopIn m (Value v top)
+top-value : (m v top : ℕ) → top ≤ m → TopIn m (valued v top)
 unfolding TopIn
 top-value m v top h = h
 
-top-stop : (m k : ℕ) → TopIn m (Stop k)
+top-stop : (m k : ℕ) → TopIn m (Err k)
 unfolding TopIn
 top-stop m k = tt
 
@@ -173,15 +169,15 @@ pub top-eval : (w : Width) (st : List ℕ) (s : ℕ) (m : List ℕ) (top e : ℕ
 unfolding eval_of
 top-eval w st s m top e os h =
     either-eq (TopIn (length m)) e plain (fetched top (read_of w st s m (operand_no os 0)))
-    (on_read (read_of w st s m (operand_no os 0)) (Stop 32)
-    (λ x. if_eq (least_operands e) 1 (applied w m top e x 0) (on_read (read_of w st s m (operand_no os 1)) (Stop 32) (applied w m top e x))))
+    (on_read (read_of w st s m (operand_no os 0)) (Err 32)
+    (λ x. if_eq (least_operands e) 1 (applied w m top e x 0) (on_read (read_of w st s m (operand_no os 1)) (Err 32) (applied w m top e x))))
     (λ d. top-fetched (length m) top (read_of w st s m (operand_no os 0)) h)
-    (λ d. on_read_lem (TopIn (length m)) (read_of w st s m (operand_no os 0)) (Stop 32)
-    (λ x. if_eq (least_operands e) 1 (applied w m top e x 0) (on_read (read_of w st s m (operand_no os 1)) (Stop 32) (applied w m top e x)))
+    (λ d. on_read_lem (TopIn (length m)) (read_of w st s m (operand_no os 0)) (Err 32)
+    (λ x. if_eq (least_operands e) 1 (applied w m top e x 0) (on_read (read_of w st s m (operand_no os 1)) (Err 32) (applied w m top e x)))
     (top-stop (length m) 32)
-    (λ x. either-eq (TopIn (length m)) (least_operands e) 1 (applied w m top e x 0) (on_read (read_of w st s m (operand_no os 1)) (Stop 32) (applied w m top e x))
+    (λ x. either-eq (TopIn (length m)) (least_operands e) 1 (applied w m top e x 0) (on_read (read_of w st s m (operand_no os 1)) (Err 32) (applied w m top e x))
     (λ q. top-applied w m top e x 0 h)
-    (λ q. on_read_lem (TopIn (length m)) (read_of w st s m (operand_no os 1)) (Stop 32) (applied w m top e x) (top-stop (length m) 32) (λ y. top-applied w m top e x y h))))
+    (λ q. on_read_lem (TopIn (length m)) (read_of w st s m (operand_no os 1)) (Err 32) (applied w m top e x) (top-stop (length m) 32) (λ y. top-applied w m top e x y h))))
 
 -- ---- statements
 
@@ -237,7 +233,7 @@ module _ (w : Width) (t : Tables) (good : WellFormed (program_from w t)) (e : En
   -- ---- `let` and `set`
 
   pub kept-value : 5 ≤ (rows t x.machine.next).kind → (rows t x.machine.next).kind ≤ 6 → (v top : ℕ) → top ≤ length x.memory
-      → Kept w t e es (assigned (program_from w t) x (Value v top))
+      → Kept w t e es (assigned (program_from w t) x (valued v top))
   unfolding Kept assigned keeps
   kept-value k l v top h =
       kept w t good e es x i (suc x.machine.next) top (store_from x.stack (x.machine.frame + (rows t x.machine.next).a) (v ∷ [])) x.memory
@@ -272,8 +268,8 @@ module _ (w : Width) (t : Tables) (good : WellFormed (program_from w t)) (e : En
   kept-assigned : 5 ≤ (rows t x.machine.next).kind → (rows t x.machine.next).kind ≤ 6 → (r : Worked) → TopIn (length x.memory) r
       → Kept w t e es (assigned (program_from w t) x r)
   unfolding TopIn Kept assigned
-  kept-assigned k l (Value v top) h = kept-value k l v top h
-  kept-assigned k l (Stop n) h = tt
+  kept-assigned k l (Ok got) h = kept-value k l got.word got.top h
+  kept-assigned k l (Err n) h = tt
 
   pub kept-let : 5 ≤ (rows t x.machine.next).kind → (rows t x.machine.next).kind ≤ 6
       → Kept w t e es (assigned (program_from w t) x (worked_of (program_from w t) x))
@@ -292,8 +288,8 @@ module _ (w : Width) (t : Tables) (good : WellFormed (program_from w t)) (e : En
 
   kept-assigned-at : 5 ≤ (rows t x.machine.next).kind → (r : Worked) → TopIn (length x.memory) r → Kept w t e es (assigned_at (program_from w t) x r)
   unfolding TopIn Kept assigned_at
-  kept-assigned-at k (Value v top) h = kept_store k top (address_of (program_from w t) x) (word_bytes (bytes_of w) v) h
-  kept-assigned-at k (Stop n) h = tt
+  kept-assigned-at k (Ok got) h = kept_store k got.top (address_of (program_from w t) x) (word_bytes (bytes_of w) got.word) h
+  kept-assigned-at k (Err n) h = tt
 
   -- `set @` without a call
   pub kept-set-at : (rows t x.machine.next).kind ≡ 7 → Kept w t e es (set_at_of (program_from w t) x)

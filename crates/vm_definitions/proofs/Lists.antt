@@ -1,38 +1,37 @@
 -- From single steps and starts to any list of calls.
 -- Assumes nothing.
+use Rattle.std.proofs.Common.{Ok, Err}
 use mathlib.Core.Path.{◌≡◌, refl, sym, ◌∙◌, ap, subst}
 use mathlib.Core.Bool.{Bool, true, false}
-use mathlib.Core.Option.{Option, none, some}
-use mathlib.Core.List.{List, [], ◌∷◌, ◌++◌}
-use Prim.Native.Nat.{ℕ, zero, suc, ◌+◌, ◌≤◌, ◌<◌}
+use mathlib.Core.Option.{none}
+use mathlib.Core.List.{List, [], ◌∷◌}
+use Prim.Native.Nat.{ℕ, zero, suc, ◌≤◌, ◌<◌}
 use native.Mathlib.Decide.{ℕ_discrete}
 use native.Mathlib.Omega.{arith}
 use lib.ListN.{length}
-use Rattle.base_prelude.specs.Choice.{if_eq}
 use Rattle.base_prelude.proofs.Choice.{true-false, if_eq-yes, if_eq-no, if_true-yes, if_true-no}
 use Rattle.base_limits.specs.Width.{memory_limit}
 use Rattle.base_limits.specs.declared.Width.{Width}
 use Rattle.base_limits.specs.declared.State.{State}
 use Rattle.base_limits.specs.declared.State.TheVariants.{Running, Finished, Stopped, Paused}
 use Rattle.base_limits.specs.declared.Pause.{Pause}
-use Rattle.base_limits.specs.declared.Machine.{Machine}
 use Rattle.base_limits.specs.Record.{stopped, with_state, pause_of}
 use Rattle.prog_tables.specs.Label.{Tables, rows}
 use Rattle.prog_tables.specs.Statement.{Row}
 use Rattle.prog_tables.specs.declared.Operand.{Operand}
 use Rattle.prog_tables.specs.Program.{Program, program_from}
-use Rattle.vm_definitions.specs.Step.{World, Effect, stops, leaves, effect_stop, effect_of, address_of, After, idle, effected, guarded, pausing, statement_of, in_state, step_of, counting, run_of, handed_in, Continued, on_pause, resume_of}
+use Rattle.vm_definitions.specs.Step.{World, Effect, stops, leaves, effect_stop, effect_of, address_of, After, idle, effected, guarded, pausing, statement_of, in_state, step_of, counting, run_of, handed_in, on_pause, resume_of}
 use Rattle.vm_definitions.specs.Access.{word_good}
 use Rattle.vm_definitions.specs.Frames.{importing}
 use Rattle.vm_definitions.specs.Broken.{step_broken, resume_broken}
-use Rattle.vm_definitions.specs.Start.{start_of, start_leaves, started_function, begun_by}
-use Rattle.vm_definitions.specs.Ledger.{Event, started, counted, Entry, Ledger, fed, counted_in, ledger_of, sum_of, last_of}
-use Rattle.vm_definitions.specs.Play.{Call, start, step, run, Invocation, CallResult, events_of, start_events, start_broke, called_on, invoked_on, world_after, events_after, refusals_after}
-use Rattle.vm_definitions.specs.Claim.{running_with, cause_in, Listed, words_of, pause_in, paused_as, is_paused, stopped_by, StopSound, StepSound, stack_full, StateSound, is_finished, Sound, AllLong, NoneBroken, started_by, Demand}
+use Rattle.vm_definitions.specs.Start.{start_of, start_leaves, started_function}
+use Rattle.vm_definitions.specs.Ledger.{Event, counted, Entry, Ledger, fed, counted_in, ledger_of, sum_of}
+use Rattle.vm_definitions.specs.Play.{events_of}
+use Rattle.vm_definitions.specs.Claim.{running_with, cause_in, Listed, words_of, pause_in, paused_as, is_paused, stopped_by, StopSound, stack_full}
 use Rattle.vm_definitions.specs.declared.Broken.{Broken}
 use Rattle.vm_definitions.specs.declared.Broken.TheVariants.{No, At, Somewhere}
-use Rattle.vm_definitions.specs.declared.Started.{Started}
-use Rattle.vm_definitions.specs.declared.Started.TheVariants.{Begun, Refused, Unsound}
+use Rattle.vm_definitions.specs.Start.{Started}
+use Rattle.vm_definitions.specs.declared.StartError.TheVariants.{Refused, Unsound}
 use Rattle.vm_definitions.specs.Causes.{word_of, first_cause, meetings_of, reads_of, arguments_read}
 use Rattle.vm_definitions.proofs.Invariant.{FrameAt, Under, Invariant}
 
@@ -117,9 +116,9 @@ pub record Parts (w : Width) (t : Tables) (bytes : List ℕ) : Type 0 where
       → effect_of (program_from w t) x ≡ leaves y
       → GoodNow w t (length x.memory) (counted_in (rows t) x.machine.next (e ∷ es)) y
   pub sums : (e : Entry) (es : Ledger) (x : World) → Invariant w t e es x → x.machine.used ≡ sum_of (rows t) (e ∷ es)
-  pub begun : (name args : List ℕ) (x : World) → start_of (program_from w t) bytes name args x ≡ Begun
+  pub begun : (name args : List ℕ) (x : World) → start_of (program_from w t) bytes name args x ≡ Ok tt
       → (s : List ℕ) → Good w t (length x.memory) s (record { func = started_function (program_from w t) bytes name args x; call = none } ∷ []) (start_leaves (program_from w t) bytes name args x)
-  pub unbroken : (name args : List ℕ) (x : World) (b : Broken) → start_of (program_from w t) bytes name args x ≡ Unsound b → ⊥
+  pub unbroken : (name args : List ℕ) (x : World) (b : Broken) → start_of (program_from w t) bytes name args x ≡ Err (Unsound b) → ⊥
   -- a stop's number is no 0
   pub numbered : (e : Entry) (es : Ledger) (x : World) (k : ℕ) → x.machine.state ≡ Running → Invariant w t e es x → importing (rows t x.machine.next) ≡ false
       → effect_of (program_from w t) x ≡ stops k → 0 < k

@@ -2,7 +2,7 @@
 -- Assumes nothing.
 use mathlib.Core.Path.{◌≡◌, refl, sym, ◌∙◌, ap, subst}
 use mathlib.Core.Bool.{Bool, true, false}
-use mathlib.Core.List.{List, [], ◌∷◌}
+use mathlib.Core.List.{List, ◌∷◌}
 use Prim.Native.Nat.{ℕ, suc, ◌<◌, ◌≤◌}
 use native.Mathlib.Omega.{arith}
 use borrow.Author.Tests.{ltb-true, ltb-false, leb-false, eq-eqb, eqb-false}
@@ -20,7 +20,7 @@ use Rattle.prog_tables.specs.Faults.{kind_fault, row_fault}
 use Rattle.prog_tables.proofs.Each.{one-no, one-rest}
 use Rattle.vm_definitions.specs.Frames.{is_return, is_calling}
 use Rattle.vm_definitions.specs.Broken.{lower, lowest, or_else, next_bad, rows_used, next_past, record_fault, step_broken}
-use Rattle.vm_definitions.specs.Step.{World, Effect, effect_else, effect_of, no_statement}
+use Rattle.vm_definitions.specs.Step.{World, Effect, effect_else, effect_of}
 use Rattle.vm_definitions.specs.declared.Broken.{Broken}
 use Rattle.vm_definitions.specs.declared.Broken.TheVariants.{No, At, Somewhere}
 

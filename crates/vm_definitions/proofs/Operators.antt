@@ -1,13 +1,15 @@
 -- A statement stops exactly with the number of the first cause it meets: operands and operators.
 -- Assumes nothing.
+use Rattle.std.proofs.Common.{Err, None, Ok, Option, Some}
+use Rattle.vm_definitions.specs.Operands.{Worked, valued}
 use mathlib.Core.Path.{◌≡◌, refl, sym, ◌∙◌, ap, subst}
-use mathlib.Core.Bool.{Bool, true, false, not}
+use mathlib.Core.Bool.{Bool, true, false}
 use mathlib.Core.List.{List, [], ◌∷◌, ◌++◌, map}
-use Prim.Native.Nat.{ℕ, zero, suc, ◌+◌, ◌-◌, ◌*◌, ◌^◌, ◌<◌, ◌≤◌}
+use Prim.Native.Nat.{ℕ, suc, ◌+◌, ◌-◌, ◌*◌, ◌^◌, ◌<◌, ◌≤◌}
 use native.Mathlib.Decide.{ℕ_discrete, dec_lt}
 use native.Mathlib.Omega.{arith}
-use lib.Dec.{ltb, leb, eqb}
-use lib.ListN.{get_or, length, take}
+use lib.Dec.{ltb, eqb}
+use lib.ListN.{length, take}
 use borrow.Author.Tests.{eqb-true, ne_eqb, lt-ltb, ltb-true}
 use Rattle.base_prelude.specs.Choice.{pick, if_lt, if_eq, if_true}
 use Rattle.base_prelude.proofs.Choice.{true-false, if_eq-yes, if_eq-no, if_lt-yes, if_lt-no, if_true-yes, if_true-no}
@@ -16,9 +18,8 @@ use Rattle.base_limits.specs.declared.Width.{Width}
 use Rattle.lang_words.specs.Words as word_list
 use Rattle.lang_words.specs.Words.{least_operands}
 use Rattle.base_word.specs.Word as word
-use Rattle.base_word.specs.declared.Answer.{Answer}
-use Rattle.base_word.specs.declared.Answer.TheVariants.{Word, Division, Shift}
-use Rattle.prog_tables.specs.Layout.{plain}
+use Rattle.base_word.specs.Word.{Answer}
+use Rattle.base_word.specs.declared.WordError.TheVariants.{Division, Shift}
 use Rattle.prog_tables.specs.Tests.{both, one_of, all_below}
 use Rattle.prog_tables.specs.Statement.{is_operator, is_call_expression, expression_uses}
 use Rattle.prog_tables.specs.Faults.{expression_listed}
@@ -29,17 +30,13 @@ use Rattle.vm_definitions.specs.Access.{byte_address, word_address, byte_good, w
 use Rattle.vm_definitions.specs.Operands.{Words, words, bad, is_at, number_in, fetch_of, read_of, with_word, on_read, read_all}
 use Rattle.vm_definitions.specs.Expressions.{operand_no, eval_of}
 use Rattle.vm_definitions.specs.Causes.{cause_of, first_of, touched, word_of}
-use Rattle.vm_definitions.specs.declared.Read.{Read}
 use Rattle.vm_definitions.proofs.OperatorTable.{Every, each-operator}
-use Rattle.vm_definitions.specs.declared.Read.TheVariants.{Got, Bad}
-use Rattle.vm_definitions.specs.declared.Worked.{Worked}
-use Rattle.vm_definitions.specs.declared.Worked.TheVariants.{Value, Stop}
-use Rattle.vm_definitions.specs.Operators.{Operator, operators, line_in, operator_of, round_up, reserved, answered, fetched, byte_of, applied, Meeting, word_at, byte_at, divides, leaves_over, shifts_by, reserves_to, stacks_to, operator_meets}
+use Rattle.vm_definitions.specs.Operators.{Operator, operators, line_in, operator_of, round_up, reserved, answered, fetched, byte_of, applied, Meeting, word_at, byte_at, divides, leaves_over, shifts_by, reserves_to, operator_meets}
 
 -- the number of a stop, 0 without one
 unfoldable pub stop_in : Worked → ℕ
-stop_in (Value v top) = 0
-stop_in (Stop k) = k
+stop_in (Ok got) = 0
+stop_in (Err k) = k
 
 -- one number, or a greater one
 pub next : (P : ℕ → Type 0) (a e : ℕ) → a ≤ e → P a → (suc a ≤ e → P e) → P e
@@ -100,18 +97,18 @@ module _ (w : Width) (st : List ℕ) (s : ℕ) (m : List ℕ) where
         by : (p : Bool) → is_at o ≡ p → (q : Bool) → word_good w (length m) at ≡ q
             → number (on_read (read_of w st s m o) stop go) ≡ first_of w (length m) l (touched w st s (o ∷ os) ++ more)
         by false a q b =
-            ap (λ (x : Read). number (on_read x stop go)) (if_true-no (fetch_of w m at) (Got at) a)
+            ap (λ (x : Option ℕ). number (on_read x stop go)) (if_true-no (fetch_of w m at) (Some at) a)
             ∙ ap (λ (v : ℕ). number (go v)) (sym (if_true-no (load_of w m at) at a))
             ∙ d
             ∙ ap (λ (x : List Meeting). first_of w (length m) l (x ++ more)) (sym (if_true-no (word_at at ∷ touched w st s os) (touched w st s os) a))
         by true a true b =
-            ap (λ (x : Read). number (on_read x stop go)) (if_true-yes (fetch_of w m at) (Got at) a ∙ if_true-yes (Got (load_of w m at)) Bad b)
+            ap (λ (x : Option ℕ). number (on_read x stop go)) (if_true-yes (fetch_of w m at) (Some at) a ∙ if_true-yes (Some (load_of w m at)) None b)
             ∙ ap (λ (v : ℕ). number (go v)) (sym (if_true-yes (load_of w m at) at a))
             ∙ d
             ∙ sym (first-later w (length m) l (word_at at) (touched w st s os ++ more) (word_good_lem w (length m) l at b))
             ∙ ap (λ (x : List Meeting). first_of w (length m) l (x ++ more)) (sym (if_true-yes (word_at at ∷ touched w st s os) (touched w st s os) a))
         by true a false b =
-            ap (λ (x : Read). number (on_read x stop go)) (if_true-yes (fetch_of w m at) (Got at) a ∙ if_true-no (Got (load_of w m at)) Bad b)
+            ap (λ (x : Option ℕ). number (on_read x stop go)) (if_true-yes (fetch_of w m at) (Some at) a ∙ if_true-no (Some (load_of w m at)) None b)
             ∙ e
             ∙ sym (first-here w (length m) l (word_at at) (touched w st s os ++ more) 31 (word-bad w (length m) l at b))
             ∙ ap (λ (x : List Meeting). first_of w (length m) l (x ++ more)) (sym (if_true-yes (word_at at ∷ touched w st s os) (touched w st s os) a))
@@ -128,34 +125,34 @@ module _ (w : Width) (st : List ℕ) (s : ℕ) (m : List ℕ) where
 
 -- ---- operators
 
-shift-cause : (top v : ℕ) (b : Bool) → stop_in (answered top (pick b Shift (Word v))) ≡ if_true b 31 0
+shift-cause : (top v : ℕ) (b : Bool) → stop_in (answered top (pick b (Err Shift) (Ok v))) ≡ if_true b 31 0
 unfolding stop_in answered if_true
 shift-cause top v true = refl
 shift-cause top v false = refl
 
-div-cause : (top v : ℕ) (a b c : Bool) → stop_in (answered top (pick a Division (pick (pick b c false) Division (Word v)))) ≡ if_true (one_of a (both b c)) 30 0
+div-cause : (top v : ℕ) (a b c : Bool) → stop_in (answered top (pick a (Err Division) (pick (pick b c false) (Err Division) (Ok v)))) ≡ if_true (one_of a (both b c)) 30 0
 unfolding stop_in answered if_true
 div-cause top v true b c = refl
 div-cause top v false true true = refl
 div-cause top v false true false = refl
 div-cause top v false false c = refl
 
-mod-cause : (top v : ℕ) (b : Bool) → stop_in (answered top (pick b Division (Word v))) ≡ pick b 30 0
+mod-cause : (top v : ℕ) (b : Bool) → stop_in (answered top (pick b (Err Division) (Ok v))) ≡ pick b 30 0
 unfolding stop_in answered
 mod-cause top v true = refl
 mod-cause top v false = refl
 
-reserve-cause : (x y : ℕ) (b : Bool) → stop_in (pick b (Stop 34) (Value x y)) ≡ pick b 34 0
+reserve-cause : (x y : ℕ) (b : Bool) → stop_in (pick b (Err 34) (valued x y)) ≡ pick b 34 0
 unfolding stop_in
 reserve-cause x y true = refl
 reserve-cause x y false = refl
 
-good-cause : (x y : ℕ) (b : Bool) → stop_in (if_true b (Value x y) (Stop 32)) ≡ if_true b 0 32
+good-cause : (x y : ℕ) (b : Bool) → stop_in (if_true b (valued x y) (Err 32)) ≡ if_true b 0 32
 unfolding stop_in if_true
 good-cause x y true = refl
 good-cause x y false = refl
 
-fetched-cause : (top v : ℕ) (b : Bool) → stop_in (fetched top (if_true b (Got v) Bad)) ≡ if_true b 0 32
+fetched-cause : (top v : ℕ) (b : Bool) → stop_in (fetched top (if_true b (Some v) None)) ≡ if_true b 0 32
 unfolding stop_in fetched if_true
 fetched-cause top v true = refl
 fetched-cause top v false = refl
@@ -166,7 +163,7 @@ module _ (w : Width) (m : List ℕ) (l top x y : ℕ) where
   Agrees o = stop_in (o.result w m top x y) ≡ first_of w (length m) l (o.meets w top x y)
 
   -- a word alone; a shift or rotate by a count
-  word-agrees : (v : ℕ) → stop_in (Value v top) ≡ first_of w (length m) l []
+  word-agrees : (v : ℕ) → stop_in (valued v top) ≡ first_of w (length m) l []
   unfolding stop_in first_of
   word-agrees v = refl
 
@@ -278,10 +275,10 @@ least-either {P} e a b f g =
     one-of (eqb (least_operands (33 + (e - 33))) 1) (eqb (least_operands (33 + (e - 33))) 2) (below_at least_good 19 (e - 33) least-good (omega arith))
     (λ h. f (ap least_operands (sym q) ∙ eqb-true _ _ h)) (λ h. g (ap least_operands (sym q) ∙ eqb-true _ _ h))
 
-fetched-is : (top : ℕ) (r : Read) → fetched top r ≡ on_read r (Stop 32) (λ v. Value v top)
+fetched-is : (top : ℕ) (r : Option ℕ) → fetched top r ≡ on_read r (Err 32) (λ v. valued v top)
 unfolding fetched on_read
-fetched-is top (Got v) = refl
-fetched-is top Bad = refl
+fetched-is top (Some v) = refl
+fetched-is top None = refl
 
 uses-plain : (n e : ℕ) → e ≡ 1 → expression_uses e n ≡ 1
 unfolding expression_uses
@@ -313,34 +310,34 @@ module _ (w : Width) (st : List ℕ) (s : ℕ) (m : List ℕ) (l top : ℕ) wher
 
   eval-plain : (o : Operand) → EvalAgrees 1 (o ∷ [])
   unfolding EvalAgrees eval_of if_eq operator_meets operator_of line_in operators stop_in first_of touched
-  eval-plain o = ap stop_in (fetched-is top (read_of w st s m o)) ∙ read-cause w st s m stop_in (Stop 32) (λ v. Value v top) o [] [] l refl refl
+  eval-plain o = ap stop_in (fetched-is top (read_of w st s m o)) ∙ read-cause w st s m stop_in (Err 32) (λ v. valued v top) o [] [] l refl refl
 
   module _ (e : ℕ) (a : 33 ≤ e) (b : e < 52) where
     -- behind the first operand
     second : List Operand → ℕ → Worked
     second os x =
         if_eq (least_operands e) 1 (applied w m top e x 0)
-        (on_read (read_of w st s m (operand_no os 1)) (Stop 32) (applied w m top e x))
+        (on_read (read_of w st s m (operand_no os 1)) (Err 32) (applied w m top e x))
 
-    eval-operator : (os : List Operand) → eval_of w st s m top e os ≡ on_read (read_of w st s m (operand_no os 0)) (Stop 32) (second os)
+    eval-operator : (os : List Operand) → eval_of w st s m top e os ≡ on_read (read_of w st s m (operand_no os 0)) (Err 32) (second os)
     unfolding eval_of second
-    eval-operator os = if_eq-no (fetched top (read_of w st s m (operand_no os 0))) (on_read (read_of w st s m (operand_no os 0)) (Stop 32) (second os)) (λ q. omega (arith, q))
+    eval-operator os = if_eq-no (fetched top (read_of w st s m (operand_no os 0))) (on_read (read_of w st s m (operand_no os 0)) (Err 32) (second os)) (λ q. omega (arith, q))
 
     eval-one : (o : Operand) → least_operands e ≡ 1 → EvalAgrees e (o ∷ [])
     unfolding EvalAgrees second stop_in touched word_of is_at number_in if_true
     eval-one o h =
         ap stop_in (eval-operator (o ∷ []))
-        ∙ read-cause w st s m stop_in (Stop 32) (second (o ∷ [])) o [] (operator_meets w top e (word_of w st s m o) 0) l refl
-        (ap stop_in (if_eq-yes (applied w m top e (word_of w st s m o) 0) (on_read (read_of w st s m Unlisted) (Stop 32) (applied w m top e (word_of w st s m o))) h)
+        ∙ read-cause w st s m stop_in (Err 32) (second (o ∷ [])) o [] (operator_meets w top e (word_of w st s m o) 0) l refl
+        (ap stop_in (if_eq-yes (applied w m top e (word_of w st s m o) 0) (on_read (read_of w st s m Unlisted) (Err 32) (applied w m top e (word_of w st s m o))) h)
         ∙ applied-cause w m l top (word_of w st s m o) 0 e)
 
     eval-two : (o p : Operand) → least_operands e ≡ 2 → EvalAgrees e (o ∷ p ∷ [])
     unfolding EvalAgrees second stop_in touched
     eval-two o p h =
         ap stop_in (eval-operator (o ∷ p ∷ []))
-        ∙ read-cause w st s m stop_in (Stop 32) (second (o ∷ p ∷ [])) o (p ∷ []) (operator_meets w top e (word_of w st s m o) (word_of w st s m p)) l refl
-        (ap stop_in (if_eq-no (applied w m top e (word_of w st s m o) 0) (on_read (read_of w st s m p) (Stop 32) (applied w m top e (word_of w st s m o))) (λ q. omega (arith, q, h)))
-        ∙ read-cause w st s m stop_in (Stop 32) (applied w m top e (word_of w st s m o)) p [] (operator_meets w top e (word_of w st s m o) (word_of w st s m p)) l refl
+        ∙ read-cause w st s m stop_in (Err 32) (second (o ∷ p ∷ [])) o (p ∷ []) (operator_meets w top e (word_of w st s m o) (word_of w st s m p)) l refl
+        (ap stop_in (if_eq-no (applied w m top e (word_of w st s m o) 0) (on_read (read_of w st s m p) (Err 32) (applied w m top e (word_of w st s m o))) (λ q. omega (arith, q, h)))
+        ∙ read-cause w st s m stop_in (Err 32) (applied w m top e (word_of w st s m o)) p [] (operator_meets w top e (word_of w st s m o) (word_of w st s m p)) l refl
         (applied-cause w m l top (word_of w st s m o) (word_of w st s m p) e))
 
     uses-operator : (n : ℕ) → expression_uses e n ≡ least_operands e

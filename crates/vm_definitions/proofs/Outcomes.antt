@@ -1,19 +1,19 @@
 -- Whatever the rows and the record are: a statement that stops has a listed number, and one that does not leaves its record in
 -- the state it had or finished. Said of any property N of numbers and S of states.
 -- Assumes nothing.
+use Rattle.std.proofs.Common.{Err, None, Ok, Option, Some}
+use Rattle.vm_definitions.specs.Operands.{Worked, valued}
 use mathlib.Core.Bool.{true, false}
 use mathlib.Core.List.{List, [], ◌∷◌}
 use Prim.Native.Nat.{ℕ}
-use Rattle.base_prelude.specs.Choice.{if_lt, if_eq, if_true}
 use Rattle.base_prelude.proofs.Choice.{either, either-eq, either_true}
 use Rattle.base_limits.specs.Record.{going_on, moved_to, ended, pause_of}
 use Rattle.base_limits.specs.declared.Width.{Width}
 use Rattle.base_limits.specs.declared.State.{State}
 use Rattle.base_limits.specs.declared.State.TheVariants.{Running, Finished, Stopped, Paused}
 use Rattle.base_limits.specs.declared.Machine.{Machine}
-use Rattle.base_word.specs.Word.{stop_of}
-use Rattle.base_word.specs.declared.Answer.{Answer}
-use Rattle.base_word.specs.declared.Answer.TheVariants.{Word, Division, Shift}
+use Rattle.base_word.specs.Word.{Answer}
+use Rattle.base_word.specs.declared.WordError.TheVariants.{Division, Shift}
 use Rattle.prog_tables.specs.Statement.{Row}
 use Rattle.prog_tables.specs.Program.{Program}
 use Rattle.prog_tables.specs.declared.Operand.{Operand}
@@ -23,51 +23,47 @@ use Rattle.vm_definitions.specs.Expressions.{eval_of}
 use Rattle.vm_definitions.specs.Step.{World, Effect, stops, leaves, goes_to, keeps, stores, block_of, end_block_of, test_of, worked_of, assigned, assigned_at, set_at_of, set_byte_by, set_word_by, call_by, call_of, tail_call_by, handed_to, handed_by, returned, return_of, effect_of, After, idle, effected, in_state_of, import_number, paused_by, pausing, statement_of, guarded, handed_in, Continued, on_pause, resume_of}
 use Rattle.vm_definitions.specs.declared.Broken.{Broken}
 use Rattle.vm_definitions.specs.declared.Broken.TheVariants.{No, At, Somewhere}
-use Rattle.vm_definitions.specs.declared.Read.{Read}
-use Rattle.vm_definitions.specs.declared.Read.TheVariants.{Got, Bad}
-use Rattle.vm_definitions.specs.declared.Worked.{Worked}
-use Rattle.vm_definitions.specs.declared.Worked.TheVariants.{Value, Stop}
 use Rattle.vm_definitions.specs.declared.Resumption.{Resumption}
 use Rattle.vm_definitions.specs.declared.Resumption.TheVariants.{Ends, Caller}
 
-on_read_lem : {X : Type 0} (P : X → Type 0) (r : Read) (x : X) (g : ℕ → X) → P x → ((v : ℕ) → P (g v)) → P (on_read r x g)
+on_read_lem : {X : Type 0} (P : X → Type 0) (r : Option ℕ) (x : X) (g : ℕ → X) → P x → ((v : ℕ) → P (g v)) → P (on_read r x g)
 unfolding on_read
-on_read_lem P (Got v) x g p q = q v
-on_read_lem P Bad x g p q = p
+on_read_lem P (Some v) x g p q = q v
+on_read_lem P None x g p q = p
 
 module _ (N : ℕ → Type 0) (n30 : N 30) (n31 : N 31) (n32 : N 32) (n33 : N 33) (n34 : N 34) where
   -- ---- expressions
 
   unfoldable Numbered : Worked → Type 0
-  Numbered (Value v top) = Unit {0}
-  Numbered (Stop k) = N k
+  Numbered (Ok got) = Unit {0}
+  Numbered (Err k) = N k
 
-  valued : (v top : ℕ) → Numbered (Value v top)
+  value_numbered : (v top : ℕ) → Numbered (valued v top)
   unfolding Numbered
-  valued v top = tt
+  value_numbered v top = tt
 
-  stopped_by_lem : (k : ℕ) → N k → Numbered (Stop k)
+  stopped_by_lem : (k : ℕ) → N k → Numbered (Err k)
   unfolding Numbered
   stopped_by_lem k h = h
 
   answer-numbered : (top : ℕ) (a : Answer) → Numbered (answered top a)
   unfolding answered
-  answer-numbered top (Word v) = valued v top
-  answer-numbered top Division = stopped_by_lem 30 n30
-  answer-numbered top Shift = stopped_by_lem 31 n31
+  answer-numbered top (Ok v) = value_numbered v top
+  answer-numbered top (Err Division) = stopped_by_lem 30 n30
+  answer-numbered top (Err Shift) = stopped_by_lem 31 n31
 
-  fetch-numbered : (top : ℕ) (r : Read) → Numbered (fetched top r)
+  fetch-numbered : (top : ℕ) (r : Option ℕ) → Numbered (fetched top r)
   unfolding fetched
-  fetch-numbered top (Got v) = valued v top
-  fetch-numbered top Bad = stopped_by_lem 32 n32
+  fetch-numbered top (Some v) = value_numbered v top
+  fetch-numbered top None = stopped_by_lem 32 n32
 
   reserve-numbered : (w : Width) (m top n : ℕ) → Numbered (reserved w m top n)
   unfolding reserved
-  reserve-numbered w m top n = either Numbered _ _ _ _ (λ h. stopped_by_lem 34 n34) (λ h. valued _ _)
+  reserve-numbered w m top n = either Numbered _ _ _ _ (λ h. stopped_by_lem 34 n34) (λ h. value_numbered _ _)
 
   byte-numbered : (m : List ℕ) (top a : ℕ) → Numbered (byte_of m top a)
   unfolding byte_of
-  byte-numbered m top a = either_true Numbered _ _ _ (λ h. valued _ _) (λ h. stopped_by_lem 32 n32)
+  byte-numbered m top a = either_true Numbered _ _ _ (λ h. value_numbered _ _) (λ h. stopped_by_lem 32 n32)
 
   -- every line of the table
   abbrev LineNumbered : Operator → Type 0
@@ -79,15 +75,15 @@ module _ (N : ℕ → Type 0) (n30 : N 30) (n31 : N 31) (n32 : N 32) (n33 : N 33
 
   line-numbered : (e : ℕ) (os : List Operator) → AllNumbered os → LineNumbered (line_in e os)
   unfolding AllNumbered line_in
-  line-numbered e [] h = λ w m top x y. valued 0 top
+  line-numbered e [] h = λ w m top x y. value_numbered 0 top
   line-numbered e (o ∷ os) h = either-eq LineNumbered e o.number o (line_in e os) (λ _. h.0) (λ _. line-numbered e os h.1)
 
   table-numbered : AllNumbered operators
   unfolding AllNumbered operators
   table-numbered = (
-    λ w m top x y. valued _ _,
+    λ w m top x y. value_numbered _ _,
     (
-      λ w m top x y. valued _ _,
+      λ w m top x y. value_numbered _ _,
       (
         λ w m top x y. answer-numbered top _,
         (
@@ -105,11 +101,11 @@ module _ (N : ℕ → Type 0) (n30 : N 30) (n31 : N 31) (n32 : N 32) (n33 : N 33
                     (
                       λ w m top x y. answer-numbered top _,
                       (
-                        λ w m top x y. valued _ _,
+                        λ w m top x y. value_numbered _ _,
                         (
-                          λ w m top x y. valued _ _,
+                          λ w m top x y. value_numbered _ _,
                           (
-                            λ w m top x y. valued _ _,
+                            λ w m top x y. value_numbered _ _,
                             (
                               λ w m top x y. answer-numbered top _,
                               (
@@ -119,9 +115,9 @@ module _ (N : ℕ → Type 0) (n30 : N 30) (n31 : N 31) (n32 : N 32) (n33 : N 33
                                   (
                                     λ w m top x y. answer-numbered top _,
                                     (
-                                      λ w m top x y. valued _ _,
+                                      λ w m top x y. value_numbered _ _,
                                       (
-                                        λ w m top x y. valued _ _,
+                                        λ w m top x y. value_numbered _ _,
                                         tt,
                                       ),
                                     ),
@@ -185,13 +181,13 @@ module _ (N : ℕ → Type 0) (n30 : N 30) (n31 : N 31) (n32 : N 32) (n33 : N 33
 
       assigned-fine : (v : Worked) → Numbered v → Fine (assigned p x v)
       unfolding assigned Numbered Fine
-      assigned-fine (Value v top) h = keeps-fine _ _ _
-      assigned-fine (Stop k) h = h
+      assigned-fine (Ok got) h = keeps-fine _ _ _
+      assigned-fine (Err k) h = h
 
       assigned-at-fine : (v : Worked) → Numbered v → Fine (assigned_at p x v)
       unfolding assigned_at Numbered Fine
-      assigned-at-fine (Value v top) h = stores-fine _ _ _
-      assigned-at-fine (Stop k) h = h
+      assigned-at-fine (Ok got) h = stores-fine _ _ _
+      assigned-at-fine (Err k) h = h
 
       worked-numbered : Numbered (worked_of p x)
       unfolding worked_of
@@ -255,14 +251,14 @@ module _ (N : ℕ → Type 0) (n30 : N 30) (n31 : N 31) (n32 : N 32) (n33 : N 33
 
       returned-fine : (v : Worked) → Numbered v → Fine (returned p x v)
       unfolding returned Numbered Fine
-      returned-fine (Value v top) h = handed-by-fine v _
-      returned-fine (Stop k) h = h
+      returned-fine (Ok got) h = handed-by-fine got.word _
+      returned-fine (Err k) h = h
 
       return-fine : Fine (return_of p x)
       unfolding return_of
       return-fine =
-          either-eq Fine _ _ _ _ (λ _. returned-fine _ (valued 0 0))
-          (λ _. either-eq Fine _ _ _ _ (λ _. returned-fine _ (valued 0 0)) (λ _. returned-fine _ worked-numbered))
+          either-eq Fine _ _ _ _ (λ _. returned-fine _ (value_numbered 0 0))
+          (λ _. either-eq Fine _ _ _ _ (λ _. returned-fine _ (value_numbered 0 0)) (λ _. returned-fine _ worked-numbered))
 
       block-fine : Fine (block_of p x)
       unfolding block_of

@@ -1,7 +1,7 @@
 -- Where a row goes is no `function` line; and which blocks are open behind a row.
 -- Assumes nothing.
-use mathlib.Core.Path.{◌≡◌, refl, sym, ◌∙◌, ap, subst}
-use Prim.Native.Nat.{ℕ, zero, suc, ◌+◌, ◌-◌, ◌<◌, ◌≤◌}
+use mathlib.Core.Path.{◌≡◌, refl, sym, ◌∙◌, ap}
+use Prim.Native.Nat.{ℕ, zero, suc, ◌-◌, ◌<◌, ◌≤◌}
 use mathlib.Core.Bool.{Bool, true, false, not}
 use mathlib.Core.List.{List, [], ◌∷◌}
 use native.Mathlib.Decide.{ℕ_discrete}
@@ -13,7 +13,7 @@ use Rattle.base_prelude.proofs.Choice.{true-false, either-eq, either_true, if_eq
 use Rattle.base_limits.specs.Limits.{parameters}
 use Rattle.base_limits.specs.declared.Width.{Width}
 use Rattle.prog_tables.specs.Layout.{import_label}
-use Rattle.prog_tables.specs.Tests.{both, given, all, first_from, some_below}
+use Rattle.prog_tables.specs.Tests.{both, all, first_from}
 use Rattle.prog_tables.specs.Statement.{Row, is_test}
 use Rattle.prog_tables.specs.Label.{Tables, rows, labels_of, is_data, is_function_label}
 use Rattle.prog_tables.specs.Program.{program_from}

@@ -1,5 +1,7 @@
 -- A return: it finishes the run, or the invariant holds in the frame it comes back to.
 -- Assumes nothing.
+use Rattle.std.proofs.Common.{Err, Ok}
+use Rattle.vm_definitions.specs.Operands.{Worked, valued}
 use mathlib.Core.Path.{◌≡◌, refl, sym, ◌∙◌, ap, subst}
 use mathlib.Core.Bool.{Bool, true, false}
 use mathlib.Core.List.{List, [], ◌∷◌}
@@ -31,8 +33,6 @@ use Rattle.vm_definitions.specs.Operands.{number_in}
 use Rattle.vm_definitions.specs.Frames.{is_return, is_return_call, is_calling, importing, resumption_of}
 use Rattle.vm_definitions.specs.Ledger.{Entry, Ledger, popped, counted_in, sum_of}
 use Rattle.vm_definitions.specs.Step.{World, Effect, stops, leaves, worked_of, handed_to, handed_by, returned, return_of, effect_of}
-use Rattle.vm_definitions.specs.declared.Worked.{Worked}
-use Rattle.vm_definitions.specs.declared.Worked.TheVariants.{Value, Stop}
 use Rattle.vm_definitions.specs.declared.Resumption.{Resumption}
 use Rattle.vm_definitions.proofs.Invariant.{FrameAt, Under, Invariant}
 use Rattle.vm_definitions.proofs.Chain.{CallerAt, Resumed, ends, to-caller, invariant-sum}
@@ -202,14 +202,14 @@ module _ (w : Width) (t : Tables) (good : WellFormed (program_from w t)) (e : En
 
   returns-by : (r : Worked) → Returns w t (popped (rows t) (e ∷ es)) x (returned (program_from w t) x r)
   unfolding Returns returned
-  returns-by (Value z top) = returns-value z
-  returns-by (Stop k) = tt
+  returns-by (Ok got) = returns-value got.word
+  returns-by (Err k) = tt
 
   pub returns_of_lem : Returns w t (popped (rows t) (e ∷ es)) x (return_of (program_from w t) x)
   unfolding return_of
   returns_of_lem =
-      either-eq (Returns w t (popped (rows t) (e ∷ es)) x) (rows t x.machine.next).kind 2 _ _ (λ k. returns-by (Value 0 0))
-      (λ k. either-eq (Returns w t (popped (rows t) (e ∷ es)) x) (rows t x.machine.next).expr no_expression _ _ (λ a. returns-by (Value 0 0))
+      either-eq (Returns w t (popped (rows t) (e ∷ es)) x) (rows t x.machine.next).kind 2 _ _ (λ k. returns-by (valued 0 0))
+      (λ k. either-eq (Returns w t (popped (rows t) (e ∷ es)) x) (rows t x.machine.next).expr no_expression _ _ (λ a. returns-by (valued 0 0))
       (λ a. returns-by (worked_of (program_from w t) x)))
 
   pub return-is : is_return (rows t x.machine.next) ≡ true → effect_of (program_from w t) x ≡ return_of (program_from w t) x

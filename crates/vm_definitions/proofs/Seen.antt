@@ -1,6 +1,8 @@
 -- What a statement's effect looks at: the width and the rows of the program, not its labels, data or counts; a pause looks at one
 -- label's number too. What a row's faults look at. The parts of a good way out.
 -- Assumes nothing.
+use Rattle.std.proofs.Common.{Err, Ok}
+use Rattle.vm_definitions.specs.Operands.{Worked, valued}
 use mathlib.Core.Path.{◌≡◌, refl, ap, ◌∙◌}
 use mathlib.Core.Bool.{Bool, true, false}
 use mathlib.Core.List.{List, [], ◌∷◌}
@@ -22,8 +24,6 @@ use Rattle.vm_definitions.specs.Frames.{caller_frame, top_at_entry, head_good, p
 use Rattle.vm_definitions.specs.Operands.{Words, words, bad}
 use Rattle.vm_definitions.specs.declared.Broken.TheVariants.{No}
 use Rattle.vm_definitions.specs.Step.{World, row_of, goes_to, keeps, stores, block_of, end_block_of, test_of, worked_of, assigned, assigned_at, set_at_of, set_byte_by, set_word_by, arguments_of, call_by, call_of, tail_call_by, handed_to, handed_by, returned, return_of, effect_of, idle, in_state_of, paused_by, pausing, statement_of, handed_in}
-use Rattle.vm_definitions.specs.declared.Worked.{Worked}
-use Rattle.vm_definitions.specs.declared.Worked.TheVariants.{Value, Stop}
 use Rattle.vm_definitions.specs.declared.Resumption.{Resumption}
 use Rattle.vm_definitions.specs.declared.Resumption.TheVariants.{Ends, Caller}
 
@@ -47,13 +47,13 @@ module _ (p : Program) (g : ℕ → Label) (k d : ℕ) (a b : Bool) (x : World) 
 
   assigned-seen : (v : Worked) → assigned p x v ≡ assigned q x v
   unfolding assigned keeps
-  assigned-seen (Value v top) = refl
-  assigned-seen (Stop n) = refl
+  assigned-seen (Ok got) = refl
+  assigned-seen (Err n) = refl
 
   assigned-at-seen : (v : Worked) → assigned_at p x v ≡ assigned_at q x v
   unfolding assigned_at stores
-  assigned-at-seen (Value v top) = refl
-  assigned-at-seen (Stop n) = refl
+  assigned-at-seen (Ok got) = refl
+  assigned-at-seen (Err n) = refl
 
   byte-seen : (vs : Words) → set_byte_by p x vs ≡ set_byte_by q x vs
   unfolding set_byte_by stores
@@ -82,8 +82,8 @@ module _ (p : Program) (g : ℕ → Label) (k d : ℕ) (a b : Bool) (x : World) 
 
   returned-seen : (v : Worked) → returned p x v ≡ returned q x v
   unfolding returned
-  returned-seen (Value v top) = handed-seen v _
-  returned-seen (Stop n) = refl
+  returned-seen (Ok got) = handed-seen got.word _
+  returned-seen (Err n) = refl
 
   pub effect-seen : effect_of p x ≡ effect_of q x
   unfolding effect_of call_of return_of test_of goes_to block_of end_block_of keeps set_at_of worked_of arguments_of
@@ -96,7 +96,7 @@ module _ (p : Program) (g : ℕ → Label) (k d : ℕ) (a b : Bool) (x : World) 
         assigned-seen (worked_of p x),
         assigned-at-seen (worked_of p x),
         returned-seen (worked_of p x),
-        returned-seen (Value 0 0),
+        returned-seen (valued 0 0),
       )
 
   -- what the host hands in

@@ -1,10 +1,10 @@
 -- Any statement leaves a good world, with the ledger that 01 gives.
 -- Assumes nothing.
 use mathlib.Core.Path.{◌≡◌, refl, sym, ◌∙◌, ap, subst}
-use Prim.Native.Nat.{ℕ, zero, suc, ◌+◌, ◌<◌, ◌≤◌}
+use Prim.Native.Nat.{ℕ, suc, ◌<◌, ◌≤◌}
 use mathlib.Core.Bool.{Bool, true, false}
-use mathlib.Core.Option.{Option, none, some}
-use mathlib.Core.List.{List, [], ◌∷◌}
+use mathlib.Core.Option.{some}
+use mathlib.Core.List.{◌∷◌}
 use native.Mathlib.Decide.{ℕ_discrete}
 use native.Mathlib.Omega.{arith}
 use borrow.Author.Tests.{eq-eqb, ltb-true, ltb-false}
@@ -24,16 +24,16 @@ use Rattle.prog_tables.specs.WellFormed.{WellFormed}
 use Rattle.prog_tables.proofs.Nested.{here}
 use Rattle.prog_tables.proofs.Sound.{ok}
 use Rattle.vm_definitions.specs.Frames.{is_return, is_calling, importing, returns_import}
-use Rattle.vm_definitions.specs.Step.{World, Effect, stops, leaves, goes_to, block_of, end_block_of, test_of, worked_of, assigned, set_at_of, set_byte_by, set_word_by, arguments_of, call_of, tail_call_by, return_of, effect_of, address_of, handed_in}
+use Rattle.vm_definitions.specs.Step.{World, Effect, stops, leaves, goes_to, effect_of, address_of, handed_in}
 use Rattle.vm_definitions.specs.Access.{as_word, word_good}
 use Rattle.vm_definitions.specs.Ledger.{Entry, Ledger, counted_in, replaced, popped}
 use Rattle.vm_definitions.proofs.Invariant.{Invariant}
 use Rattle.vm_definitions.proofs.Kept.{Kept, kept_next, kept-goto, kept-jump, kept_test, kept-let, kept-set-at, kept-set-byte, kept-set-word, kept_block, kept-end-block}
 use Rattle.vm_definitions.proofs.Called.{kept-call, kept-tail-call}
-use Rattle.vm_definitions.proofs.Returned.{Back, finishing, going_back, Returns, return-ledger, returns-value, returns_of_lem}
-use Rattle.vm_definitions.proofs.Effects.{Fine, Numbered, fine-numbered, fine-goes, fine-block, fine-end-block, fine-test, fine-assigned, some-worked, fine-set-at, fine-set-byte, fine-set-word, fine-call, fine-tail-call, numbered-to, numbered-return}
+use Rattle.vm_definitions.proofs.Returned.{finishing, going_back, Returns, return-ledger, returns-value, returns_of_lem}
+use Rattle.vm_definitions.proofs.Effects.{Fine, Numbered, fine-goes, fine-block, fine-end-block, fine-test, fine-assigned, some-worked, fine-set-at, fine-set-byte, fine-set-word, fine-call, fine-tail-call, numbered-to, numbered-return}
 use Rattle.vm_definitions.proofs.HandedIn.{kept_here, fine-here}
-use Rattle.vm_definitions.proofs.Lists.{Good, GoodNow, runs, ends}
+use Rattle.vm_definitions.proofs.Lists.{GoodNow, runs, ends}
 
 -- ---- kinds
 

@@ -1,6 +1,6 @@
 -- Refusal 35 of a step and of a start, decided before an operand is read.
 -- Assumes nothing.
-use Rattle.std.specs.Prelude.{ℕ, zero, suc, ◌+◌, min, Bool, true, false, not, List, [], ◌∷◌, ◌++◌, ltb, leb, eqb, get_or, length}
+use Rattle.std.specs.Prelude.{ℕ, zero, suc, ◌+◌, min, Bool, not, List, [], ◌∷◌, ◌++◌, ltb, leb, eqb, get_or, length}
 use Rattle.base_prelude.specs.Choice.{if_lt, if_true}
 use Rattle.base_limits.specs.Limits.{stack_words}
 use Rattle.base_limits.specs.Width.{memory_limit}

@@ -1,7 +1,7 @@
 -- The five causes of a stop, on their own: what a statement meets, in reading order, and which of it is a cause. Nothing here
 -- evaluates a statement.
 -- Assumes nothing.
-use Rattle.std.specs.Prelude.{ℕ, ◌+◌, ◌-◌, ◌%◌, ◌^◌, Bool, true, false, List, [], ◌∷◌, ◌++◌, ltb, leb, eqb, length}
+use Rattle.std.specs.Prelude.{ℕ, ◌+◌, ◌-◌, ◌%◌, ◌^◌, Bool, List, [], ◌∷◌, ◌++◌, ltb, leb, eqb, length}
 use Rattle.base_prelude.specs.Choice.{if_lt, if_eq, if_true}
 use Rattle.base_limits.specs.Width.{bits_of, bytes_of}
 use Rattle.base_limits.specs.declared.Width.{Width}

@@ -1,6 +1,6 @@
 -- Demand 3, said of a world that a list of calls led to and of the ledger it was fed: one claim for the whole list.
 -- Assumes nothing.
-use Rattle.std.specs.Prelude.{◌≡◌, ℕ, ◌≤◌, ◌<◌, Bool, true, false, not, List, [], ◌∷◌, length}
+use Rattle.std.specs.Prelude.{◌≡◌, ℕ, ◌≤◌, ◌<◌, Bool, true, false, not, List, [], ◌∷◌, length, Ok}
 use Rattle.base_prelude.specs.Choice.{if_true}
 use Rattle.base_limits.specs.declared.State.{State}
 use Rattle.base_limits.specs.declared.State.TheVariants.{Running, Finished, Stopped, Paused}
@@ -10,14 +10,13 @@ use Rattle.prog_tables.specs.Tests.{both, one_of}
 use Rattle.prog_tables.specs.declared.Operand.{Operand}
 use Rattle.prog_tables.specs.Program.{Program}
 use Rattle.vm_definitions.specs.Frames.{importing}
-use Rattle.vm_definitions.specs.Step.{World, After, step_of, Continued, resume_of}
+use Rattle.vm_definitions.specs.Step.{World, After, step_of, resume_of}
 use Rattle.vm_definitions.specs.Start.{start_of}
 use Rattle.vm_definitions.specs.Causes.{word_of, first_cause, arguments_read, passes_stack}
 use Rattle.vm_definitions.specs.Ledger.{Ledger, ledger_of, sum_of, last_of}
 use Rattle.vm_definitions.specs.Play.{Invocation, start, invoked_on, world_after, events_after, refusals_after}
 use Rattle.vm_definitions.specs.declared.Broken.{Broken}
 use Rattle.vm_definitions.specs.declared.Broken.TheVariants.{No}
-use Rattle.vm_definitions.specs.declared.Started.TheVariants.{Begun}
 
 -- the world with its record running and another memory
 unfoldable pub running_with : World → List ℕ → World
@@ -171,7 +170,7 @@ started_by name args x cs = record { call = start name args; memory = x.memory }
 -- ones too" (02, 3): from any record, stack and memory
 unfoldable pub Demand : Program → List ℕ → Type 0
 Demand p bytes =
-    (x : World) (name args : List ℕ) (cs : List Invocation) → start_of p bytes name args x ≡ Begun → AllLong (length x.memory) cs
+    (x : World) (name args : List ℕ) (cs : List Invocation) → start_of p bytes name args x ≡ Ok tt → AllLong (length x.memory) cs
     → Sound p (ledger_of p.rows [] (events_after p bytes x (started_by name args x cs)))
     (stop_memory p bytes x.memory x (started_by name args x cs)) (world_after p bytes x (started_by name args x cs))
     × NoneBroken (refusals_after p bytes x (started_by name args x cs))

@@ -1,5 +1,7 @@
 -- Expressions: an operand, or an operator with operands.
 -- Assumes nothing.
+use Rattle.std.specs.Prelude.{Err}
+use Rattle.vm_definitions.specs.Operands.{Worked}
 use Rattle.std.specs.Prelude.{ℕ, Bool, List, get_or}
 use Rattle.base_prelude.specs.Choice.{if_eq}
 use Rattle.base_limits.specs.Width.{bits_of}
@@ -12,8 +14,6 @@ use Rattle.prog_tables.specs.declared.Operand.{Operand}
 use Rattle.prog_tables.specs.declared.Operand.TheVariants.{Unlisted}
 use Rattle.vm_definitions.specs.Operands.{read_of, on_read}
 use Rattle.vm_definitions.specs.Operators.{fetched, applied}
-use Rattle.vm_definitions.specs.declared.Worked.{Worked}
-use Rattle.vm_definitions.specs.declared.Worked.TheVariants.{Stop}
 
 -- operand i of a row
 abbrev pub operand_no : List Operand → ℕ → Operand
@@ -23,9 +23,9 @@ operand_no os i = get_or os i Unlisted
 unfoldable pub eval_of : Width → List ℕ → ℕ → List ℕ → ℕ → ℕ → List Operand → Worked
 eval_of w st s m top e os =
     if_eq e plain (fetched top (read_of w st s m (operand_no os 0)))
-    (on_read (read_of w st s m (operand_no os 0)) (Stop 32)
+    (on_read (read_of w st s m (operand_no os 0)) (Err 32)
     (λ x. if_eq (least_operands e) 1 (applied w m top e x 0)
-    (on_read (read_of w st s m (operand_no os 1)) (Stop 32) (applied w m top e x))))
+    (on_read (read_of w st s m (operand_no os 1)) (Err 32) (applied w m top e x))))
 
 -- ---- tests
 

@@ -1,13 +1,12 @@
 -- Operands: "One statement is one step, operands left to right".
 -- Assumes nothing.
-use Rattle.std.specs.Prelude.{ℕ, ◌+◌, Bool, true, false, List, [], ◌∷◌, get_or, length}
+use Rattle.std.specs.Prelude.{ℕ, ◌+◌, Bool, true, false, List, [], ◌∷◌, get_or, length, Option, Some, None, Result, Ok}
 use Rattle.base_prelude.specs.Choice.{if_true}
 use Rattle.base_limits.specs.declared.Width.{Width}
 use Rattle.prog_tables.specs.declared.Operand.{Operand}
 use Rattle.prog_tables.specs.declared.Operand.TheVariants.{Constant, Local, Address, AtConstant, AtLocal, AtAddress, Unlisted}
+use Rattle.vm_definitions.specs.declared.Value.{Value}
 use Rattle.vm_definitions.specs.Access.{as_word, word_good, load_of}
-use Rattle.vm_definitions.specs.declared.Read.{Read}
-use Rattle.vm_definitions.specs.declared.Read.TheVariants.{Got, Bad}
 
 -- "An operand is an integer, a name, or `@` and one of these"
 unfoldable pub is_at : Operand → Bool
@@ -31,12 +30,12 @@ number_in w st s (AtAddress v) = as_word w v
 number_in w st s Unlisted = 0
 
 -- the word at an address, else stop 32
-unfoldable pub fetch_of : Width → List ℕ → ℕ → Read
-fetch_of w m a = if_true (word_good w (length m) a) (Got (load_of w m a)) Bad
+unfoldable pub fetch_of : Width → List ℕ → ℕ → Option ℕ
+fetch_of w m a = if_true (word_good w (length m) a) (Some (load_of w m a)) None
 
 -- an operand's word
-unfoldable pub read_of : Width → List ℕ → ℕ → List ℕ → Operand → Read
-read_of w st s m o = if_true (is_at o) (fetch_of w m (number_in w st s o)) (Got (number_in w st s o))
+unfoldable pub read_of : Width → List ℕ → ℕ → List ℕ → Operand → Option ℕ
+read_of w st s m o = if_true (is_at o) (fetch_of w m (number_in w st s o)) (Some (number_in w st s o))
 
 -- ---- several operands
 
@@ -49,11 +48,21 @@ with_word v (words vs) = words (v ∷ vs)
 with_word v bad = bad
 
 -- what comes of a read, where it gives a word
-unfoldable pub on_read : {X : Type 0} → Read → X → (ℕ → X) → X
-on_read (Got v) x g = g v
-on_read Bad x g = x
+unfoldable pub on_read : {X : Type 0} → Option ℕ → X → (ℕ → X) → X
+on_read (Some v) x g = g v
+on_read None x g = x
 
 -- all of some operands, left to right
 unfoldable pub read_all : Width → List ℕ → ℕ → List ℕ → List Operand → Words
 read_all w st s m [] = words []
 read_all w st s m (o ∷ os) = on_read (read_of w st s m o) bad (λ v. with_word v (read_all w st s m os))
+
+-- ---- the value of an expression
+
+-- a value, or the number of the stop
+abbrev pub Worked : Type 0
+Worked = Result Value ℕ
+
+-- a word with the auto top behind it
+abbrev pub valued : ℕ → ℕ → Worked
+valued v top = Ok (record { word = v; top = top })

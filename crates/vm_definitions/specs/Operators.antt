@@ -1,20 +1,17 @@
 -- The operators in one table: what each gives of two words, and what it meets with them. The two columns have their arithmetic apart.
 -- Assumes nothing.
+use Rattle.std.specs.Prelude.{Err, None, Ok, Option, Some}
+use Rattle.vm_definitions.specs.Operands.{Worked, valued}
 use Rattle.std.specs.Prelude.{ℕ, ◌+◌, ◌-◌, ◌*◌, ◌/◌, List, [], ◌∷◌, get_or, length}
 use Rattle.base_prelude.specs.Choice.{if_lt, if_eq, if_true}
 use Rattle.base_limits.specs.Width.{bits_of, bytes_of}
 use Rattle.base_limits.specs.declared.Width.{Width}
-use Rattle.base_word.specs.Word.{stop_of, add_of, sub_of, mul_of, div_of, mod_of, and_of, or_of, xor_of, not_of, shl_of, shr_of, bsr_of, asr_of, rol_of, ror_of}
-use Rattle.base_word.specs.declared.Answer.{Answer}
-use Rattle.base_word.specs.declared.Answer.TheVariants.{Word, Division, Shift}
+use Rattle.base_word.specs.Word.{error_stop, add_of, sub_of, mul_of, div_of, mod_of, and_of, or_of, xor_of, not_of, shl_of, shr_of, bsr_of, asr_of, rol_of, ror_of}
+use Rattle.base_word.specs.Word.{Answer}
 use Rattle.lang_words.specs.Numbers as op
 use Rattle.prog_tables.specs.Layout.{no_expression}
 use Rattle.vm_definitions.specs.Access.{byte_address, word_address, byte_good}
 use Rattle.vm_definitions.specs.Operands.{fetch_of}
-use Rattle.vm_definitions.specs.declared.Read.{Read}
-use Rattle.vm_definitions.specs.declared.Read.TheVariants.{Got, Bad}
-use Rattle.vm_definitions.specs.declared.Worked.{Worked}
-use Rattle.vm_definitions.specs.declared.Worked.TheVariants.{Value, Stop}
 
 -- ---- what an operator gives
 
@@ -25,26 +22,25 @@ round_up w top = (top + (bytes_of w - 1)) / bytes_of w * bytes_of w
 -- "and give that address; the exact end (count unsigned, words × 4) must not pass the memory's length, else stop 34": n bytes of
 -- m
 unfoldable pub reserved : Width → ℕ → ℕ → ℕ → Worked
-reserved w m top n = if_lt m (round_up w top + n) (Stop 34) (Value (round_up w top) (round_up w top + n))
+reserved w m top n = if_lt m (round_up w top + n) (Err 34) (valued (round_up w top) (round_up w top + n))
 
 -- an operator's answer, the auto top staying
 unfoldable pub answered : ℕ → Answer → Worked
-answered top (Word v) = Value v top
-answered top Division = Stop (stop_of Division)
-answered top Shift = Stop (stop_of Shift)
+answered top (Ok v) = valued v top
+answered top (Err e) = Err (error_stop e)
 
 -- a word read, the auto top staying
-unfoldable pub fetched : ℕ → Read → Worked
-fetched top (Got v) = Value v top
-fetched top Bad = Stop 32
+unfoldable pub fetched : ℕ → Option ℕ → Worked
+fetched top (Some v) = valued v top
+fetched top None = Err 32
 
 -- the byte at an address
 unfoldable pub byte_of : List ℕ → ℕ → ℕ → Worked
-byte_of m top a = if_true (byte_good (length m) a) (Value (get_or m a 0) top) (Stop 32)
+byte_of m top a = if_true (byte_good (length m) a) (valued (get_or m a 0) top) (Err 32)
 
 -- a word; a word or a stop
 abbrev pub gives : (ℕ → ℕ → ℕ → ℕ) → Width → List ℕ → ℕ → ℕ → ℕ → Worked
-gives f w m top x y = Value (f (bits_of w) x y) top
+gives f w m top x y = valued (f (bits_of w) x y) top
 
 abbrev pub answers : (ℕ → ℕ → ℕ → Answer) → Width → List ℕ → ℕ → ℕ → ℕ → Worked
 answers f w m top x y = answered top (f (bits_of w) x y)

@@ -1,15 +1,15 @@
 -- Any list of starts, steps, runs and goings on: "between calls the memory's bytes may become anything, its length stays".
 -- Assumes nothing.
-use Rattle.std.specs.Prelude.{ℕ, zero, suc, Bool, true, false, List, [], ◌∷◌, ◌++◌}
+use Rattle.std.specs.Prelude.{ℕ, zero, suc, Bool, true, false, List, [], ◌∷◌, ◌++◌, Ok, Err}
 use Rattle.base_prelude.specs.Choice.{if_eq}
 use Rattle.prog_tables.specs.Program.{Program}
-use Rattle.vm_definitions.specs.Step.{World, After, step_of, run_of, Continued, resume_of}
+use Rattle.vm_definitions.specs.Step.{World, step_of, run_of, resume_of}
 use Rattle.vm_definitions.specs.Start.{start_of, start_leaves, started_function}
 use Rattle.vm_definitions.specs.Ledger.{Event, started, counted}
 use Rattle.vm_definitions.specs.declared.Broken.{Broken}
 use Rattle.vm_definitions.specs.declared.Broken.TheVariants.{No, At, Somewhere}
-use Rattle.vm_definitions.specs.declared.Started.{Started}
-use Rattle.vm_definitions.specs.declared.Started.TheVariants.{Begun, Refused, Unsound}
+use Rattle.vm_definitions.specs.Start.{Started}
+use Rattle.vm_definitions.specs.declared.StartError.TheVariants.{Refused, Unsound}
 
 pub data Call : Type 0 where
   -- of a name, with arguments
@@ -45,14 +45,14 @@ resume_events n zero = []
 resume_events n (suc k) = counted n ∷ []
 
 unfoldable pub start_events : ℕ → Started → List Event
-start_events g Begun = started g ∷ []
-start_events g (Refused k) = []
-start_events g (Unsound b) = []
+start_events g (Ok _) = started g ∷ []
+start_events g (Err (Refused k)) = []
+start_events g (Err (Unsound b)) = []
 
 unfoldable pub start_broke : Started → Broken
-start_broke Begun = No
-start_broke (Refused k) = No
-start_broke (Unsound b) = b
+start_broke (Ok _) = No
+start_broke (Err (Refused k)) = No
+start_broke (Err (Unsound b)) = b
 
 module _ (p : Program) (bytes : List ℕ) where
   unfoldable pub called_on : Call → World → CallResult

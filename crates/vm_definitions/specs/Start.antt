@@ -1,6 +1,6 @@
 -- Start: "Start order: 35, 20, 21, 22, 23. [..] A refused start changes nothing."
 -- Assumes nothing.
-use Rattle.std.specs.Prelude.{ℕ, suc, Bool, List, [], ◌∷◌, ltb, eqb, length, take}
+use Rattle.std.specs.Prelude.{ℕ, suc, Bool, List, [], ◌∷◌, ltb, eqb, length, take, Ok, Err, Result}
 use Rattle.base_prelude.specs.Choice.{if_lt, if_eq, if_true}
 use Rattle.base_prelude.specs.Lists.{same_list}
 use Rattle.base_limits.specs.Limits.{stack_words}
@@ -15,8 +15,12 @@ use Rattle.vm_definitions.specs.Broken.{start_broken}
 use Rattle.vm_definitions.specs.Step.{World}
 use Rattle.vm_definitions.specs.declared.Broken.{Broken}
 use Rattle.vm_definitions.specs.declared.Broken.TheVariants.{No, At, Somewhere}
-use Rattle.vm_definitions.specs.declared.Started.{Started}
-use Rattle.vm_definitions.specs.declared.Started.TheVariants.{Begun, Refused, Unsound}
+use Rattle.vm_definitions.specs.declared.StartError.TheVariants.{Refused, Unsound}
+use Rattle.vm_definitions.specs.declared.StartError.{StartError}
+
+-- a start has begun, or why not
+abbrev pub Started : Type 0
+Started = Result (Unit {0}) StartError
 
 -- label i is an exported function of that name: "only when all their bytes agree"
 unfoldable pub exports_as : Program → List ℕ → ℕ → Bool
@@ -40,10 +44,10 @@ module _ (p : Program) (bytes name args : List ℕ) (x : World) where
   start_answer =
       if_lt (export_of p name) p.label_count
       (if_eq (length args) (p.rows started_function).b
-      (if_true (one_of (ltb (length x.memory) p.data_length) (ltb (memory_limit p.width) (length x.memory))) (Refused 22)
-      (if_true (one_of (ltb (length x.stack) started_size) (ltb stack_words (length x.stack))) (Refused 23) Begun))
-      (Refused 21))
-      (Refused 20)
+      (if_true (one_of (ltb (length x.memory) p.data_length) (ltb (memory_limit p.width) (length x.memory))) (Err (Refused 22))
+      (if_true (one_of (ltb (length x.stack) started_size) (ltb stack_words (length x.stack))) (Err (Refused 23)) (Ok tt)))
+      (Err (Refused 21)))
+      (Err (Refused 20))
 
   -- "Starting writes the data at 0, sets the auto top to the data's length and leaves other memory."
   unfoldable pub start_world : World
@@ -56,13 +60,13 @@ module _ (p : Program) (bytes name args : List ℕ) (x : World) where
 
   unfoldable pub start_by : Broken → Started
   start_by No = start_answer
-  start_by (At i) = Unsound (At i)
-  start_by Somewhere = Unsound Somewhere
+  start_by (At i) = Err (Unsound (At i))
+  start_by Somewhere = Err (Unsound Somewhere)
 
   unfoldable pub begun_by : Started → World
-  begun_by Begun = start_world
-  begun_by (Refused k) = x
-  begun_by (Unsound b) = x
+  begun_by (Ok _) = start_world
+  begun_by (Err (Refused k)) = x
+  begun_by (Err (Unsound b)) = x
 
   -- its answer, and the world it leaves
   unfoldable pub start_of : Started

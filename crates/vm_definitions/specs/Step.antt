@@ -1,7 +1,9 @@
 -- One step, and a run: "One statement is one step, operands left to right; a stopped statement changes only the record's state and is
 -- not counted."
 -- Assumes nothing.
-use Rattle.std.specs.Prelude.{ℕ, zero, suc, ◌+◌, ◌*◌, ◌%◌, Bool, true, false, List, [], ◌∷◌, ltb, eqb, get_or, length, set, replicate}
+use Rattle.std.specs.Prelude.{Err, Ok}
+use Rattle.vm_definitions.specs.Operands.{Worked, valued}
+use Rattle.std.specs.Prelude.{ℕ, zero, suc, ◌+◌, ◌%◌, Bool, true, false, List, [], ◌∷◌, get_or, length, set, replicate}
 use Rattle.base_prelude.specs.Choice.{if_lt, if_eq, if_true}
 use Rattle.base_limits.specs.Width.{bytes_of}
 use Rattle.base_limits.specs.declared.Width.{Width}
@@ -12,7 +14,6 @@ use Rattle.base_limits.specs.Record.{going_on, moved_to, ended, stopped, with_st
 use Rattle.base_word.specs.Bytes.{word_bytes}
 use Rattle.lang_kinds.specs.Kinds as kind
 use Rattle.prog_tables.specs.Layout.{no_expression}
-use Rattle.prog_tables.specs.Tests.{both}
 use Rattle.prog_tables.specs.Statement.{Row, is_test}
 use Rattle.prog_tables.specs.Program.{Program}
 use Rattle.vm_definitions.specs.Access.{as_word, byte_address, word_address, byte_good, word_good, store_from}
@@ -20,8 +21,6 @@ use Rattle.vm_definitions.specs.Operands.{Words, words, bad, number_in, read_of,
 use Rattle.vm_definitions.specs.Expressions.{eval_of, operand_no, test_holds}
 use Rattle.vm_definitions.specs.Frames.{frame_words, returns_to, caller_frame, top_at_entry, is_return, is_calling, importing, returns_import, resumption_of}
 use Rattle.vm_definitions.specs.Broken.{step_broken, resume_broken}
-use Rattle.vm_definitions.specs.declared.Worked.{Worked}
-use Rattle.vm_definitions.specs.declared.Worked.TheVariants.{Value, Stop}
 use Rattle.vm_definitions.specs.declared.Resumption.{Resumption}
 use Rattle.vm_definitions.specs.declared.Resumption.TheVariants.{Ends, Caller}
 use Rattle.vm_definitions.specs.declared.Broken.{Broken}
@@ -106,16 +105,16 @@ module _ (p : Program) (x : World) where
 
   -- `let` and `set` of a local
   unfoldable pub assigned : Worked → Effect
-  assigned (Value v top) = keeps top row_of.a (v ∷ [])
-  assigned (Stop k) = stops k
+  assigned (Ok got) = keeps got.top row_of.a (got.word ∷ [])
+  assigned (Err k) = stops k
 
   -- the address of `set @`
   abbrev pub address_of : ℕ
   address_of = number_in w x.stack frame_of row_of.address
 
   unfoldable pub assigned_at : Worked → Effect
-  assigned_at (Value v top) = stores top address_of (word_bytes (bytes_of w) v)
-  assigned_at (Stop k) = stops k
+  assigned_at (Ok got) = stores got.top address_of (word_bytes (bytes_of w) got.word)
+  assigned_at (Err k) = stops k
 
   -- `set @`: its address is the leftmost operand
   unfoldable pub set_at_of : Effect
@@ -200,12 +199,12 @@ module _ (p : Program) (x : World) where
 
   -- "A return hands its value there in the same step"
   unfoldable pub returned : Worked → Effect
-  returned (Value v top) = handed_by v (resumption_of w f c x.stack (suc frame_of) frame_of)
-  returned (Stop k) = stops k
+  returned (Ok got) = handed_by got.word (resumption_of w f c x.stack (suc frame_of) frame_of)
+  returned (Err k) = stops k
 
   -- "Bare `return` and `end function` return 0."
   unfoldable pub return_of : Effect
-  return_of = if_eq row_of.kind kind.end_function (returned (Value 0 0)) (if_eq row_of.expr no_expression (returned (Value 0 0)) (returned worked_of))
+  return_of = if_eq row_of.kind kind.end_function (returned (valued 0 0)) (if_eq row_of.expr no_expression (returned (valued 0 0)) (returned worked_of))
 
   -- ---- the statement
 

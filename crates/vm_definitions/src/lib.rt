@@ -3,18 +3,11 @@
 
 use base_limits::Machine;
 
-// An operand's word, or stop 32.
-#[derive(Drop)]
-pub enum Read {
-    Got(u32),
-    Bad,
-}
-
-// The value of an expression with the auto top behind it, or the number of the stop.
-#[derive(Drop)]
-pub enum Worked {
-    Value { word: u32, top: u32 },
-    Stop(u32),
+// The value of an expression, and the auto top behind it.
+#[derive(Clone, Copy, Debug, PartialEq, Eq)]
+pub struct Value {
+    pub word: u32,
+    pub top: u32,
 }
 
 // Where a return comes out: the run ends, or it goes on behind a call.
@@ -32,6 +25,7 @@ pub enum Resumption {
 }
 
 // Refusal 35: not given, given at a statement, given with no place.
+// Stays an enum: `lower` (specs/Broken) takes the least of three answers; an Option of an Option is no plainer.
 #[derive(Clone, Copy)]
 pub enum Broken {
     No,
@@ -39,10 +33,9 @@ pub enum Broken {
     Somewhere,
 }
 
-// The answer of a start.
+// Why a start has not begun: a refusal with its number, or 35.
 #[derive(Clone, Copy)]
-pub enum Started {
-    Begun,
+pub enum StartError {
     Refused(u32),
     Unsound(Broken),
 }
@@ -56,6 +49,7 @@ pub struct Outcome {
 }
 
 // What going on gives back: as a step, or 37 for a record that is not paused.
+// A flag beside the outcome: `resumed` (specs/Lent) says of 37 too that the record stays.
 #[derive(Drop)]
 pub struct Resumed {
     pub outcome: Outcome,
@@ -63,8 +57,9 @@ pub struct Resumed {
 }
 
 // What a start gives back: the record and the answer.
+// The record beside the answer: `opened` (vm_start) says of a refusal that it stays.
 #[derive(Drop)]
 pub struct Opening {
     pub machine: Machine,
-    pub answer: Started,
+    pub answer: Result<(), StartError>,
 }

@@ -195,22 +195,22 @@ pub ruleset passes-ways = (passes-first, passes-stray, passes-row)
 -- ---- whether the frames that a return leaves are good
 
 -- so many steps from the frame `at` give the answer
-pub record Leaving (f : ℕ → Row) (c m : ℕ) (st : List ℕ) (s at left : ℕ) : Type 0 where
-  pub rest : leaves_good Bits32 f c m st left at ≡ leaves_good Bits32 f c m st (suc s) s
+pub record Leaving (f : ℕ → Row) (c m : ℕ) (st : List ℕ) (s at i : ℕ) : Type 0 where
+  pub rest : leaves_good Bits32 f c m st (suc s - i) at ≡ leaves_good Bits32 f c m st (suc s) s
 
-pub leaving-start : (f : ℕ → Row) (c m : ℕ) (st : List ℕ) (s : ℕ) → Leaving f c m st s s (s + 1)
-leaving-start f c m st s = record { rest = rw add-one }
+pub leaving-start : (f : ℕ → Row) (c m : ℕ) (st : List ℕ) (s : ℕ) → Leaving f c m st s s 0
+leaving-start f c m st s = let z : suc s - 0 ≡ suc s = omega arith in record { rest = ap (λ (n : ℕ). leaves_good Bits32 f c m st n s) z }
 
-module _ (f : ℕ → Row) (c m : ℕ) (st : List ℕ) (s at left : ℕ) (h : Leaving f c m st s at left) where
-  pub leaving-out : left ≤ 0 → false ≡ leaves_good Bits32 f c m st (suc s) s
+module _ (f : ℕ → Row) (c m : ℕ) (st : List ℕ) (s at i : ℕ) (h : Leaving f c m st s at i) where
+  pub leaving-out : s + 1 ≤ i → false ≡ leaves_good Bits32 f c m st (suc s) s
   unfolding leaves_good
-  leaving-out l = let e : left ≡ 0 = omega arith in rw e at h.rest
+  leaving-out l = let e : suc s - i ≡ 0 = omega arith in rw e at h.rest
 
-  module _ (l : 0 < left) (top : ℕ) (o : top ≡ get_or st (at + 2) 0) where
-    some_left : left ≡ suc (left - 1)
+  module _ (l : i < s + 1) (top : ℕ) (o : top ≡ get_or st (at + 2) 0) where
+    some_left : suc s - i ≡ suc (suc s - (i + 1))
     some_left = omega arith
 
-    now : leaves_good Bits32 f c m st (suc (left - 1)) at ≡ leaves_good Bits32 f c m st (suc s) s
+    now : leaves_good Bits32 f c m st (suc (suc s - (i + 1))) at ≡ leaves_good Bits32 f c m st (suc s) s
     now = rw some_left at h.rest
 
     pub leaving-top : m < top → false ≡ leaves_good Bits32 f c m st (suc s) s
@@ -227,36 +227,36 @@ module _ (f : ℕ → Row) (c m : ℕ) (st : List ℕ) (s at left : ℕ) (h : Le
         unfolding leaves_good head_good passes_on if_true
         leaving-stray w = rw (← e, q, ← d, w) at now
 
-        module _ (p : ℕ) (x : Bool) (w : v ≡ true) (g : p ≡ get_or st at 0) (i : x ≡ is_return_call (f p)) where
+        module _ (p : ℕ) (x : Bool) (w : v ≡ true) (g : p ≡ get_or st at 0) (n : x ≡ is_return_call (f p)) where
           pub leaving-caller : x ≡ false → true ≡ leaves_good Bits32 f c m st (suc s) s
           unfolding leaves_good head_good passes_on if_true
-          leaving-caller j = rw (← e, q, ← d, w, ← o, le-leb _ _ k, ← g, ← i, j) at now
+          leaving-caller j = rw (← e, q, ← d, w, ← o, le-leb _ _ k, ← g, ← n, j) at now
 
-          pub leaving-on : (u : ℕ) → x ≡ true → u ≡ get_or st (at + 1) 0 → Leaving f c m st s u (left - 1)
+          pub leaving-on : (u : ℕ) → x ≡ true → u ≡ get_or st (at + 1) 0 → Leaving f c m st s u (i + 1)
           unfolding leaves_good head_good passes_on if_true
-          leaving-on u j y = record { rest = rw (← e, q, ← d, w, ← o, le-leb _ _ k, ← g, ← i, j, ← y) at now }
+          leaving-on u j y = record { rest = rw (← e, q, ← d, w, ← o, le-leb _ _ k, ← g, ← n, j, ← y) at now }
 
 pub ruleset leaving = (leaving-start, leaving-out, leaving-top, leaving-first, leaving-stray, leaving-caller, leaving-on)
 
 -- ---- where a return comes out
 
 -- so many steps from the frame `at` give the answer
-pub record Resumption-to (f : ℕ → Row) (c : ℕ) (st : List ℕ) (s at left : ℕ) : Type 0 where
-  pub rest : resumption_of Bits32 f c st left at ≡ resumption_of Bits32 f c st (suc s) s
+pub record Resumption-to (f : ℕ → Row) (c : ℕ) (st : List ℕ) (s at i : ℕ) : Type 0 where
+  pub rest : resumption_of Bits32 f c st (suc s - i) at ≡ resumption_of Bits32 f c st (suc s) s
 
-pub resumption-start : (f : ℕ → Row) (c : ℕ) (st : List ℕ) (s : ℕ) → Resumption-to f c st s s (s + 1)
-resumption-start f c st s = record { rest = rw add-one }
+pub resumption-start : (f : ℕ → Row) (c : ℕ) (st : List ℕ) (s : ℕ) → Resumption-to f c st s s 0
+resumption-start f c st s = let z : suc s - 0 ≡ suc s = omega arith in record { rest = ap (λ (n : ℕ). resumption_of Bits32 f c st n s) z }
 
-module _ (f : ℕ → Row) (c : ℕ) (st : List ℕ) (s at left top : ℕ) (h : Resumption-to f c st s at left) (o : top ≡ get_or st (at + 2) 0) where
-  pub resumption-out : left ≤ 0 → Ends top ≡ resumption_of Bits32 f c st (suc s) s
+module _ (f : ℕ → Row) (c : ℕ) (st : List ℕ) (s at i top : ℕ) (h : Resumption-to f c st s at i) (o : top ≡ get_or st (at + 2) 0) where
+  pub resumption-out : s + 1 ≤ i → Ends top ≡ resumption_of Bits32 f c st (suc s) s
   unfolding resumption_of
-  resumption-out l = let e : left ≡ 0 = omega arith in rw (e, ← o) at h.rest
+  resumption-out l = let e : suc s - i ≡ 0 = omega arith in rw (e, ← o) at h.rest
 
-  module _ (l : 0 < left) (b : Bool) (e : b ≡ is_first Bits32 st at) where
-    resumption-left : left ≡ suc (left - 1)
+  module _ (l : i < s + 1) (b : Bool) (e : b ≡ is_first Bits32 st at) where
+    resumption-left : suc s - i ≡ suc (suc s - (i + 1))
     resumption-left = omega arith
 
-    here : resumption_of Bits32 f c st (suc (left - 1)) at ≡ resumption_of Bits32 f c st (suc s) s
+    here : resumption_of Bits32 f c st (suc (suc s - (i + 1))) at ≡ resumption_of Bits32 f c st (suc s) s
     here = rw resumption-left at h.rest
 
     pub resumption-first : b ≡ true → Ends top ≡ resumption_of Bits32 f c st (suc s) s
@@ -264,7 +264,7 @@ module _ (f : ℕ → Row) (c : ℕ) (st : List ℕ) (s at left top : ℕ) (h : 
     resumption-first q = rw (← e, q, ← o) at here
 
     module _ (v : Bool) (q : b ≡ false) (d : v ≡ passes_on Bits32 f c st at) where
-      pub resumption-on : (u : ℕ) → v ≡ true → u ≡ get_or st (at + 1) 0 → Resumption-to f c st s u (left - 1)
+      pub resumption-on : (u : ℕ) → v ≡ true → u ≡ get_or st (at + 1) 0 → Resumption-to f c st s u (i + 1)
       unfolding resumption_of if_true
       resumption-on u w y = record { rest = rw (← e, q, ← d, w, ← y) at here }
 
@@ -413,22 +413,22 @@ joined-none p (i ∷ is) =
     either_true (λ (x : Broken). joined No x ≡ x) (p i) (lower i (lowest p is)) (lowest p is) (λ e. joined-first i (lowest p is)) (λ e. joined-none p is)
 
 -- what is found so far, with what so many steps from the frame `at` find, is the answer
-pub record Finding (prog : Program) (next : ℕ) (st : List ℕ) (s : ℕ) (b : Broken) (at left : ℕ) : Type 0 where
-  pub rest : joined b (lowest (row_bad prog next) (rows_left Bits32 prog.rows prog.count st left at)) ≡ lowest (row_bad prog next) (rows_left Bits32 prog.rows prog.count st (suc s) s)
+pub record Finding (prog : Program) (next : ℕ) (st : List ℕ) (s : ℕ) (b : Broken) (at k : ℕ) : Type 0 where
+  pub rest : joined b (lowest (row_bad prog next) (rows_left Bits32 prog.rows prog.count st (suc s - k) at)) ≡ lowest (row_bad prog next) (rows_left Bits32 prog.rows prog.count st (suc s) s)
 
-pub finding-start : (prog : Program) (next : ℕ) (st : List ℕ) (s : ℕ) → Finding prog next st s No s (s + 1)
-finding-start prog next st s = record { rest = rw add-one (joined-none (row_bad prog next) (rows_left Bits32 prog.rows prog.count st (suc s) s)) }
+pub finding-start : (prog : Program) (next : ℕ) (st : List ℕ) (s : ℕ) → Finding prog next st s No s 0
+finding-start prog next st s = let z : suc s - 0 ≡ suc s = omega arith in record { rest = rw z (joined-none (row_bad prog next) (rows_left Bits32 prog.rows prog.count st (suc s) s)) }
 
-module _ (prog : Program) (next : ℕ) (st : List ℕ) (s : ℕ) (b : Broken) (at left : ℕ) (h : Finding prog next st s b at left) where
-  pub finding-out : left ≤ 0 → b ≡ lowest (row_bad prog next) (rows_left Bits32 prog.rows prog.count st (suc s) s)
+module _ (prog : Program) (next : ℕ) (st : List ℕ) (s : ℕ) (b : Broken) (at k : ℕ) (h : Finding prog next st s b at k) where
+  pub finding-out : s + 1 ≤ k → b ≡ lowest (row_bad prog next) (rows_left Bits32 prog.rows prog.count st (suc s) s)
   unfolding rows_left lowest joined
-  finding-out l = let e : left ≡ 0 = omega arith in rw e at h.rest
+  finding-out l = let e : suc s - k ≡ 0 = omega arith in rw e at h.rest
 
-  module _ (l : 0 < left) (v : Bool) (e : v ≡ is_first Bits32 st at) where
-    finding-left : left ≡ suc (left - 1)
+  module _ (l : k < s + 1) (v : Bool) (e : v ≡ is_first Bits32 st at) where
+    finding-left : suc s - k ≡ suc (suc s - (k + 1))
     finding-left = omega arith
 
-    found : joined b (lowest (row_bad prog next) (rows_left Bits32 prog.rows prog.count st (suc (left - 1)) at)) ≡ lowest (row_bad prog next) (rows_left Bits32 prog.rows prog.count st (suc s) s)
+    found : joined b (lowest (row_bad prog next) (rows_left Bits32 prog.rows prog.count st (suc (suc s - (k + 1))) at)) ≡ lowest (row_bad prog next) (rows_left Bits32 prog.rows prog.count st (suc s) s)
     found = rw finding-left at h.rest
 
     pub finding-first : v ≡ true → b ≡ lowest (row_bad prog next) (rows_left Bits32 prog.rows prog.count st (suc s) s)
@@ -443,25 +443,25 @@ module _ (prog : Program) (next : ℕ) (st : List ℕ) (s : ℕ) (b : Broken) (a
       module _ (p : ℕ) (a : Broken) (y : Bool) (w : x ≡ true) (g : p ≡ get_or st at 0)
           (n : a ≡ call_marked prog next p b) (i : y ≡ is_return_call (prog.rows p)) where
         -- with the two rows of this frame
-        on : (is : List ℕ) → rows_left Bits32 prog.rows prog.count st (suc (left - 1)) at ≡ p ∷ (prog.rows p).func ∷ is
+        on : (is : List ℕ) → rows_left Bits32 prog.rows prog.count st (suc (suc s - (k + 1))) at ≡ p ∷ (prog.rows p).func ∷ is
             → joined a (lowest (row_bad prog next) is) ≡ lowest (row_bad prog next) (rows_left Bits32 prog.rows prog.count st (suc s) s)
         unfolding call_marked
-        on is k =
+        on is r =
             ap (λ (z : Broken). joined z (lowest (row_bad prog next) is)) n
             ∙ joined-marked (row_bad prog next) (prog.rows p).func (marked (row_bad prog next) p b) (lowest (row_bad prog next) is)
             ∙ joined-marked (row_bad prog next) p b (marked (row_bad prog next) (prog.rows p).func (lowest (row_bad prog next) is))
             ∙ ap (λ (z : Broken). joined b (marked (row_bad prog next) p z)) (sym (lowest-cons (row_bad prog next) (prog.rows p).func is))
             ∙ ap (joined b) (sym (lowest-cons (row_bad prog next) p ((prog.rows p).func ∷ is)))
-            ∙ ap (λ (z : List ℕ). joined b (lowest (row_bad prog next) z)) (sym k)
+            ∙ ap (λ (z : List ℕ). joined b (lowest (row_bad prog next) z)) (sym r)
             ∙ found
 
         pub finding-caller : y ≡ false → a ≡ lowest (row_bad prog next) (rows_left Bits32 prog.rows prog.count st (suc s) s)
         unfolding rows_left lowest joined if_true
         finding-caller j = on [] (rw (← e, q, ← o, w, ← g, ← i, j))
 
-        pub finding-on : (u : ℕ) → y ≡ true → u ≡ get_or st (at + 1) 0 → Finding prog next st s a u (left - 1)
+        pub finding-on : (u : ℕ) → y ≡ true → u ≡ get_or st (at + 1) 0 → Finding prog next st s a u (k + 1)
         unfolding rows_left if_true
-        finding-on u j z = record { rest = on (rows_left Bits32 prog.rows prog.count st (left - 1) u) (rw (← e, q, ← o, w, ← g, ← i, j, ← z)) }
+        finding-on u j z = record { rest = on (rows_left Bits32 prog.rows prog.count st (suc s - (k + 1)) u) (rw (← e, q, ← o, w, ← g, ← i, j, ← z)) }
 
 pub ruleset finding = (finding-start, finding-out, finding-first, finding-stray, finding-caller, finding-on)
 

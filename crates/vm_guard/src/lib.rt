@@ -179,9 +179,7 @@ fn leaves_good(t: &[u32], c: u32, m: usize, st: &[u32], s: u32) -> bool
     ensures { result ≡ leaves_good Bits32 (row_at t.now) c m st.now (suc s) s }
 {
     let mut at = s;
-    let mut left = s as u64 + 1;
-    while 0 < left {
-        left -= 1;
+    for _passed in 0..s as u64 + 1 {
         let top = top_at(st, at);
         if m < top as usize {
             return false;
@@ -206,12 +204,10 @@ pub fn resumption(t: &[u32], c: u32, st: &[u32], s: u32) -> Resumption
     ensures { result ≡ resumption_of Bits32 (row_at t.now) c st.now (suc s) s }
 {
     let mut at = s;
-    let mut left = s as u64 + 1;
-    while 0 < left {
-        left -= 1;
+    for _passed in 0..s as u64 + 1 {
         let top = top_at(st, at);
         if is_first(st, at) {
-            return Resumption::Ends { top: top };
+            return Resumption::Ends { top };
         }
         if passes_on(t, c, st, at) {
             at = caller_at(st, at);
@@ -221,7 +217,7 @@ pub fn resumption(t: &[u32], c: u32, st: &[u32], s: u32) -> Resumption
             call: place_at(st, at),
             frame: caller_at(st, at),
             used: at,
-            top: top,
+            top,
         };
     }
     Resumption::Ends {
@@ -256,20 +252,13 @@ fn row_bad(t: &[u32], c: u32, l: &[u32], lc: u32, d: u32, next: u32, i: u32) -> 
     false
 }
 
-// The lesser of two numbers.
-fn lesser(a: u32, b: u32) -> u32
-    ensures { result ≡ min a b }
-{
-    if a < b { a } else { b }
-}
-
 // The place with the bad row i.
 fn lower_to(i: u32, b: Broken) -> Broken
     ensures { result ≡ lower i b }
 {
     match b {
         Broken::No => Broken::At(i),
-        Broken::At(j) => Broken::At(lesser(i, j)),
+        Broken::At(j) => Broken::At(i.min(j)),
         Broken::Somewhere => Broken::At(i),
     }
 }
@@ -298,9 +287,7 @@ fn find_left(t: &[u32], c: u32, l: &[u32], lc: u32, d: u32, next: u32, st: &[u32
 {
     let mut b = Broken::No;
     let mut at = s;
-    let mut left = s as u64 + 1;
-    while 0 < left {
-        left -= 1;
+    for _passed in 0..s as u64 + 1 {
         if is_first(st, at) {
             return b;
         }

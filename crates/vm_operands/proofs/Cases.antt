@@ -1,5 +1,7 @@
 -- The ways through each function.
 -- Assumes nothing.
+use Rattle.std.proofs.Common.{Err, None, Option, Some}
+use Rattle.vm_definitions.specs.Operands.{Worked, valued}
 use mathlib.Core.Path.{◌≡◌, refl, sym, ◌∙◌, ap}
 use mathlib.Core.Bool.{Bool, true, false}
 use mathlib.Core.List.{List, [], ◌∷◌}
@@ -15,7 +17,9 @@ use Rattle.base_limits.specs.declared.Width.TheVariants.{Bits32}
 use Rattle.lang_words.specs.Words.{least_operands}
 use Rattle.lang_words.specs.Numbers as op
 use Rattle.base_word.specs.Word.{add_of, sub_of, mul_of, div_of, mod_of, and_of, or_of, xor_of, not_of, shl_of, bsr_of, asr_of, rol_of, ror_of, eq_of, ge_of, gt_of, le_of, lt_of, ne_of}
-use Rattle.base_word.specs.declared.Answer.{Answer}
+use Rattle.base_word.specs.Word.{Answer, error_stop}
+use Rattle.base_word.specs.declared.WordError.{WordError}
+use Rattle.base_word.specs.declared.WordError.TheVariants.{Division, Shift}
 use Rattle.prog_tables.specs.Statement.{is_operator, expression_uses}
 use Rattle.prog_tables.specs.declared.Operand.{Operand}
 use Rattle.prog_tables.specs.declared.Operand.TheVariants.{Constant, Local, Address, AtConstant, AtLocal, AtAddress, Unlisted}
@@ -25,10 +29,6 @@ use Rattle.vm_definitions.specs.Operands.{is_at, number_in, fetch_of, read_of, o
 use Rattle.vm_definitions.specs.Expressions.{eval_of, test_holds}
 use Rattle.vm_definitions.proofs.Words.{word-32}
 use Rattle.vm_definitions.proofs.OperatorTable.{Every, operator-none}
-use Rattle.vm_definitions.specs.declared.Read.{Read}
-use Rattle.vm_definitions.specs.declared.Read.TheVariants.{Got, Bad}
-use Rattle.vm_definitions.specs.declared.Worked.{Worked}
-use Rattle.vm_definitions.specs.declared.Worked.TheVariants.{Value, Stop}
 use Rattle.vm_definitions.specs.Operators.{Operator, operators, line_in, operator_of, round_up, reserved, answered, fetched, byte_of, applied}
 
 -- ---- words of memory
@@ -38,7 +38,7 @@ module _ (n a : ℕ) where
   unfolding word_good
   word_even h = rw (eq-eqb _ _ h)
 
-  pub word-odd : (a % 4 ≡ 0 → ⊥) → false ≡ word_good Bits32 n a
+  pub word-odd : (a % 4 ≡ 0 → ⊥) → eqb (a % 4) 0 ≡ word_good Bits32 n a
   unfolding word_good
   word-odd h = rw (ne_eqb _ _ h)
 
@@ -74,11 +74,11 @@ unfolding load_of word_from
 load_is m a b0 b1 b2 b3 h e0 e1 e2 e3 = rw (four_bytes m a h, ← e0, ← e1, ← e2, ← e3) (omega arith)
 
 module _ (m : List ℕ) (a : ℕ) (b : Bool) (d : b ≡ word_good Bits32 (length m) a) where
-  pub fetch-got : (v : ℕ) → b ≡ true → v ≡ load_of Bits32 m a → Got v ≡ fetch_of Bits32 m a
+  pub fetch-got : (v : ℕ) → b ≡ true → v ≡ load_of Bits32 m a → Some v ≡ fetch_of Bits32 m a
   unfolding fetch_of if_true
   fetch-got v h e = rw (← d, h, e)
 
-  pub fetch-bad : b ≡ false → Bad ≡ fetch_of Bits32 m a
+  pub fetch-bad : b ≡ false → None ≡ fetch_of Bits32 m a
   unfolding fetch_of if_true
   fetch-bad h = rw (← d, h)
 
@@ -119,31 +119,31 @@ pub ruleset number-ways =
     (number-constant, number-local, number-address, number-at-constant, number-at-local, number-at-address, number-unlisted)
 
 module _ (st : List ℕ) (s : ℕ) (m : List ℕ) (o : Operand) where
-  pub read-constant : (v : ℕ) → v < 4294967296 → o ≡ Constant v → Got v ≡ read_of Bits32 st s m o
+  pub read-constant : (v : ℕ) → v < 4294967296 → o ≡ Constant v → Some v ≡ read_of Bits32 st s m o
   unfolding read_of is_at number_in if_true
   read-constant v l h = rw (h, word-32 v l)
 
-  pub read-local : (x v : ℕ) → o ≡ Local x → v ≡ get_or st (s + x) 0 → Got v ≡ read_of Bits32 st s m o
+  pub read-local : (x v : ℕ) → o ≡ Local x → v ≡ get_or st (s + x) 0 → Some v ≡ read_of Bits32 st s m o
   unfolding read_of is_at number_in if_true
   read-local x v h e = rw (h, e)
 
-  pub read-address : (v : ℕ) → v < 4294967296 → o ≡ Address v → Got v ≡ read_of Bits32 st s m o
+  pub read-address : (v : ℕ) → v < 4294967296 → o ≡ Address v → Some v ≡ read_of Bits32 st s m o
   unfolding read_of is_at number_in if_true
   read-address v l h = rw (h, word-32 v l)
 
-  pub read-at-constant : (v : ℕ) (r : Read) → v < 4294967296 → o ≡ AtConstant v → r ≡ fetch_of Bits32 m v → r ≡ read_of Bits32 st s m o
+  pub read-at-constant : (v : ℕ) (r : Option ℕ) → v < 4294967296 → o ≡ AtConstant v → r ≡ fetch_of Bits32 m v → r ≡ read_of Bits32 st s m o
   unfolding read_of is_at number_in if_true
   read-at-constant v r l h e = rw (h, word-32 v l) e
 
-  pub read-at-local : (x v : ℕ) (r : Read) → o ≡ AtLocal x → v ≡ get_or st (s + x) 0 → r ≡ fetch_of Bits32 m v → r ≡ read_of Bits32 st s m o
+  pub read-at-local : (x v : ℕ) (r : Option ℕ) → o ≡ AtLocal x → v ≡ get_or st (s + x) 0 → r ≡ fetch_of Bits32 m v → r ≡ read_of Bits32 st s m o
   unfolding read_of is_at number_in if_true
   read-at-local x v r h e d = rw (h, ← e) d
 
-  pub read-at-address : (v : ℕ) (r : Read) → v < 4294967296 → o ≡ AtAddress v → r ≡ fetch_of Bits32 m v → r ≡ read_of Bits32 st s m o
+  pub read-at-address : (v : ℕ) (r : Option ℕ) → v < 4294967296 → o ≡ AtAddress v → r ≡ fetch_of Bits32 m v → r ≡ read_of Bits32 st s m o
   unfolding read_of is_at number_in if_true
   read-at-address v r l h e = rw (h, word-32 v l) e
 
-  pub read-unlisted : o ≡ Unlisted → Got 0 ≡ read_of Bits32 st s m o
+  pub read-unlisted : o ≡ Unlisted → Some 0 ≡ read_of Bits32 st s m o
   unfolding read_of is_at number_in if_true
   read-unlisted h = rw h
 
@@ -152,20 +152,20 @@ pub ruleset read-ways = (read-constant, read-local, read-address, read-at-consta
 -- ---- auto memory, bytes
 
 module _ (n top bytes : ℕ) where
-  pub reserve-past : n < (top + 3) / 4 * 4 + bytes → Stop 34 ≡ reserved Bits32 n top bytes
+  pub reserve-past : n < (top + 3) / 4 * 4 + bytes → Err 34 ≡ reserved Bits32 n top bytes
   unfolding reserved round_up if_lt
   reserve-past h = rw (lt-ltb n ((top + 3) / 4 * 4 + bytes) h)
 
-  pub reserve-in : (a z : ℕ) → a ≡ (top + 3) / 4 * 4 → z ≡ (top + 3) / 4 * 4 + bytes → z ≤ n → Value a z ≡ reserved Bits32 n top bytes
+  pub reserve-in : (a z : ℕ) → a ≡ (top + 3) / 4 * 4 → z ≡ (top + 3) / 4 * 4 + bytes → z ≤ n → valued a z ≡ reserved Bits32 n top bytes
   unfolding reserved round_up if_lt
   reserve-in a z e d h = rw (e, d, le-ltb n ((top + 3) / 4 * 4 + bytes) (omega arith))
 
 module _ (m : List ℕ) (top a : ℕ) (b : Bool) (d : b ≡ byte_good (length m) a) where
-  pub byte-got : (v : ℕ) (r : Worked) → b ≡ true → v ≡ get_or m a 0 → r ≡ Value v top → r ≡ byte_of m top a
+  pub byte-got : (v : ℕ) (r : Worked) → b ≡ true → v ≡ get_or m a 0 → r ≡ valued v top → r ≡ byte_of m top a
   unfolding byte_of if_true
   byte-got v r h e q = rw (← d, h, ← e) q
 
-  pub byte-bad : b ≡ false → Stop 32 ≡ byte_of m top a
+  pub byte-bad : b ≡ false → Err 32 ≡ byte_of m top a
   unfolding byte_of if_true
   byte-bad h = rw (← d, h)
 
@@ -180,11 +180,11 @@ word_address_lem b o v r d e = omega (arith, d, e)
 -- ---- operators
 
 module _ (m : List ℕ) (top e x y : ℕ) where
-  pub apply-add : (v : ℕ) (r : Worked) → e ≡ op.add → v ≡ add_of 32 x y → r ≡ Value v top → r ≡ applied Bits32 m top e x y
+  pub apply-add : (v : ℕ) (r : Worked) → e ≡ op.add → v ≡ add_of 32 x y → r ≡ valued v top → r ≡ applied Bits32 m top e x y
   unfolding applied operator_of line_in operators if_eq
   apply-add v r h d q = rw (h, ← d) q
 
-  pub apply-and : (v : ℕ) (r : Worked) → e ≡ op.and → v ≡ and_of 32 x y → r ≡ Value v top → r ≡ applied Bits32 m top e x y
+  pub apply-and : (v : ℕ) (r : Worked) → e ≡ op.and → v ≡ and_of 32 x y → r ≡ valued v top → r ≡ applied Bits32 m top e x y
   unfolding applied operator_of line_in operators if_eq
   apply-and v r h d q = rw (h, ← d) q
 
@@ -212,7 +212,7 @@ module _ (m : List ℕ) (top e x y : ℕ) where
   unfolding applied operator_of line_in operators if_eq
   apply-get-byte a r h d q = rw (h, ← d) q
 
-  pub apply-get-word : (a : ℕ) (f : Read) (r : Worked) → e ≡ op.get_word → a ≡ word_address Bits32 x y → f ≡ fetch_of Bits32 m a → r ≡ fetched top f → r ≡ applied Bits32 m top e x y
+  pub apply-get-word : (a : ℕ) (f : Option ℕ) (r : Worked) → e ≡ op.get_word → a ≡ word_address Bits32 x y → f ≡ fetch_of Bits32 m a → r ≡ fetched top f → r ≡ applied Bits32 m top e x y
   unfolding applied operator_of line_in operators if_eq
   apply-get-word a f r h d q g = rw (h, ← d, ← q) g
 
@@ -220,15 +220,15 @@ module _ (m : List ℕ) (top e x y : ℕ) where
   unfolding applied operator_of line_in operators if_eq
   apply-modulo a r h d q = rw (h, ← d) q
 
-  pub apply-mul : (v : ℕ) (r : Worked) → e ≡ op.mul → v ≡ mul_of 32 x y → r ≡ Value v top → r ≡ applied Bits32 m top e x y
+  pub apply-mul : (v : ℕ) (r : Worked) → e ≡ op.mul → v ≡ mul_of 32 x y → r ≡ valued v top → r ≡ applied Bits32 m top e x y
   unfolding applied operator_of line_in operators if_eq
   apply-mul v r h d q = rw (h, ← d) q
 
-  pub apply-not : (v : ℕ) (r : Worked) → e ≡ op.not → v ≡ not_of 32 x → r ≡ Value v top → r ≡ applied Bits32 m top e x y
+  pub apply-not : (v : ℕ) (r : Worked) → e ≡ op.not → v ≡ not_of 32 x → r ≡ valued v top → r ≡ applied Bits32 m top e x y
   unfolding applied operator_of line_in operators if_eq
   apply-not v r h d q = rw (h, ← d) q
 
-  pub apply-or : (v : ℕ) (r : Worked) → e ≡ op.or → v ≡ or_of 32 x y → r ≡ Value v top → r ≡ applied Bits32 m top e x y
+  pub apply-or : (v : ℕ) (r : Worked) → e ≡ op.or → v ≡ or_of 32 x y → r ≡ valued v top → r ≡ applied Bits32 m top e x y
   unfolding applied operator_of line_in operators if_eq
   apply-or v r h d q = rw (h, ← d) q
 
@@ -248,11 +248,11 @@ module _ (m : List ℕ) (top e x y : ℕ) where
   unfolding applied operator_of line_in operators if_eq
   apply-shr a r h d q = rw (h, ← d) q
 
-  pub apply-sub : (v : ℕ) (r : Worked) → e ≡ op.sub → v ≡ sub_of 32 x y → r ≡ Value v top → r ≡ applied Bits32 m top e x y
+  pub apply-sub : (v : ℕ) (r : Worked) → e ≡ op.sub → v ≡ sub_of 32 x y → r ≡ valued v top → r ≡ applied Bits32 m top e x y
   unfolding applied operator_of line_in operators if_eq
   apply-sub v r h d q = rw (h, ← d) q
 
-  pub apply-xor : (v : ℕ) (r : Worked) → e ≡ op.xor → v ≡ xor_of 32 x y → r ≡ Value v top → r ≡ applied Bits32 m top e x y
+  pub apply-xor : (v : ℕ) (r : Worked) → e ≡ op.xor → v ≡ xor_of 32 x y → r ≡ valued v top → r ≡ applied Bits32 m top e x y
   unfolding applied operator_of line_in operators if_eq
   apply-xor v r h d q = rw (h, ← d) q
 
@@ -261,7 +261,7 @@ module _ (m : List ℕ) (top e x y : ℕ) where
       → (e ≡ op.bsr → ⊥) → (e ≡ op.div → ⊥) → (e ≡ op.get_byte → ⊥) → (e ≡ op.get_word → ⊥) → (e ≡ op.modulo → ⊥)
       → (e ≡ op.mul → ⊥) → (e ≡ op.not → ⊥) → (e ≡ op.or → ⊥) → (e ≡ op.rol → ⊥) → (e ≡ op.ror → ⊥)
       → (e ≡ op.shl → ⊥) → (e ≡ op.shr → ⊥) → (e ≡ op.sub → ⊥) → (e ≡ op.xor → ⊥)
-      → r ≡ Value 0 top → r ≡ applied Bits32 m top e x y
+      → r ≡ valued 0 top → r ≡ applied Bits32 m top e x y
   unfolding applied operators Every
   apply-other r p33 p34 p35 p36 p37 p38 p39 p40 p41 p42 p43 p44 p45 p46 p47 p48 p49 p50 p51 q =
       q
@@ -291,30 +291,37 @@ least-operator e n b d h q =
     other : (k : ℕ) → is_operator k ≡ false → e ≡ k → ⊥
     other k g p = true-false (sym (sym d ∙ h) ∙ ap is_operator p ∙ g)
 
-module _ (st : List ℕ) (s : ℕ) (m : List ℕ) (top e : ℕ) (a b : Operand) (f : Read) (q : f ≡ read_of Bits32 st s m a) where
+module _ (st : List ℕ) (s : ℕ) (m : List ℕ) (top e : ℕ) (a b : Operand) (f : Option ℕ) (q : f ≡ read_of Bits32 st s m a) where
   pub eval-plain : (r : Worked) → e ≡ 1 → r ≡ fetched top f → r ≡ eval_of Bits32 st s m top e (a ∷ b ∷ [])
   unfolding eval_of if_eq
   eval-plain r h d = rw (eq-eqb _ _ h, ← q) d
 
-  pub eval-bad : (e ≡ 1 → ⊥) → f ≡ Bad → Stop 32 ≡ eval_of Bits32 st s m top e (a ∷ b ∷ [])
+  pub eval-bad : (e ≡ 1 → ⊥) → f ≡ None → Err 32 ≡ eval_of Bits32 st s m top e (a ∷ b ∷ [])
   unfolding eval_of if_eq on_read
   eval-bad h g = rw (ne_eqb _ _ h, ← q, g)
 
-  module _ (x n : ℕ) (h : e ≡ 1 → ⊥) (g : f ≡ Got x) (l : n ≡ least_operands e) where
+  module _ (x n : ℕ) (h : e ≡ 1 → ⊥) (g : f ≡ Some x) (l : n ≡ least_operands e) where
     pub eval-one : (r : Worked) → n ≡ 1 → r ≡ applied Bits32 m top e x 0 → r ≡ eval_of Bits32 st s m top e (a ∷ b ∷ [])
     unfolding eval_of if_eq on_read
     eval-one r p d = rw (ne_eqb _ _ h, ← q, g, ← l, eq-eqb _ _ p) d
 
-    module _ (p : n ≡ 1 → ⊥) (k : Read) (u : k ≡ read_of Bits32 st s m b) where
-      pub eval-second : k ≡ Bad → Stop 32 ≡ eval_of Bits32 st s m top e (a ∷ b ∷ [])
+    module _ (p : n ≡ 1 → ⊥) (k : Option ℕ) (u : k ≡ read_of Bits32 st s m b) where
+      pub eval-second : k ≡ None → Err 32 ≡ eval_of Bits32 st s m top e (a ∷ b ∷ [])
       unfolding eval_of if_eq on_read
       eval-second v = rw (ne_eqb _ _ h, ← q, g, ← l, ne_eqb _ _ p, ← u, v)
 
-      pub eval-two : (y : ℕ) (r : Worked) → k ≡ Got y → r ≡ applied Bits32 m top e x y → r ≡ eval_of Bits32 st s m top e (a ∷ b ∷ [])
+      pub eval-two : (y : ℕ) (r : Worked) → k ≡ Some y → r ≡ applied Bits32 m top e x y → r ≡ eval_of Bits32 st s m top e (a ∷ b ∷ [])
       unfolding eval_of if_eq on_read
       eval-two y r v d = rw (ne_eqb _ _ h, ← q, g, ← l, ne_eqb _ _ p, ← u, v) d
 
 pub ruleset eval-ways = (eval-plain, eval-bad, eval-one, eval-second, eval-two)
+
+-- ---- an operator's refusal
+
+pub answered-stop : (top k : ℕ) (a : Answer) (e : WordError) → a ≡ Err e → k ≡ error_stop e → Err k ≡ answered top a
+unfolding answered
+answered-stop top k a Division h q = rw (h, q)
+answered-stop top k a Shift h q = rw (h, q)
 
 -- ---- tests
 

@@ -4,18 +4,18 @@
 ghost use Rattle.std.specs.Prelude.{◌≡◌, [], ◌∷◌, ◌+◌, ◌≤◌, ◌<◌, length};
 ghost use Rattle.base_limits.specs.Limits.{memory_bytes};
 ghost use Rattle.base_limits.specs.declared.Width.TheVariants.{Bits32};
-ghost use Rattle.vm_definitions.specs.declared.Worked.TheVariants.{Value};
 ghost use Rattle.vm_definitions.specs.Access.{byte_address, word_address, byte_good, word_good, load_of};
-ghost use Rattle.vm_definitions.specs.Operands.{number_in, fetch_of, read_of};
+ghost use Rattle.vm_definitions.specs.Operands.{number_in, fetch_of, read_of, valued};
+ghost use Rattle.base_word.specs.Word.{error_stop};
 ghost use Rattle.lang_words.specs.Words.{least_operands};
 ghost use Rattle.vm_definitions.specs.Expressions.{eval_of, test_holds};
 ghost use Rattle.vm_definitions.specs.Operators.{reserved, answered, fetched, byte_of, applied};
 
-use base_word::Answer;
+use base_word::WordError;
 use lang_kinds::Kind;
 use lang_words::Word as Operator;
 use prog_tables::{ExpressionKind, Operand};
-use vm_definitions::{Read, Worked};
+use vm_definitions::Value;
 
 // The address of a byte: base and offset.
 pub fn byte_address(b: u32, o: u32) -> u32
@@ -42,10 +42,7 @@ pub fn has_byte(n: usize, a: u32) -> bool
 pub fn has_word(n: usize, a: u32) -> bool
     ensures { result ≡ word_good Bits32 n a }
 {
-    if a % 4 == 0 {
-        return a as usize + 4 <= n;
-    }
-    false
+    a % 4 == 0 && a as usize + 4 <= n
 }
 
 fn wide(b: u8) -> u32
@@ -64,13 +61,14 @@ pub fn load(m: &[u8], a: u32) -> u32
 }
 
 // The word at a, or stop 32.
-pub fn fetch(m: &[u8], a: u32) -> Read
+pub fn fetch(m: &[u8], a: u32) -> Option<u32>
     ensures { result ≡ fetch_of Bits32 m.now a }
 {
     if has_word(m.len(), a) {
-        return Read::Got(load(m, a));
+        Some(load(m, a))
+    } else {
+        None
     }
-    Read::Bad
 }
 
 // An operand's own number: behind `@` it is an address. s is where the frame starts.
@@ -89,77 +87,86 @@ pub fn number_in(st: &[u32], s: u32, o: Operand) -> u32
 }
 
 // An operand's word, or stop 32.
-pub fn read_operand(st: &[u32], s: u32, m: &[u8], o: Operand) -> Read
+pub fn read_operand(st: &[u32], s: u32, m: &[u8], o: Operand) -> Option<u32>
     ensures { result ≡ read_of Bits32 st.now s m.now o }
 {
     match o {
-        Operand::Constant(v) => Read::Got(v),
-        Operand::Local(x) => Read::Got(prog_tables::word_at(st, s as usize + x as usize)),
-        Operand::Address(v) => Read::Got(v),
+        Operand::Constant(v) => Some(v),
+        Operand::Local(x) => Some(prog_tables::word_at(st, s as usize + x as usize)),
+        Operand::Address(v) => Some(v),
         Operand::AtConstant(v) => fetch(m, v),
         Operand::AtLocal(x) => fetch(m, prog_tables::word_at(st, s as usize + x as usize)),
         Operand::AtAddress(v) => fetch(m, v),
-        Operand::Unlisted => Read::Got(0),
+        Operand::Unlisted => Some(0),
     }
 }
 
 // Auto memory: so many bytes behind the auto top, of n bytes of memory.
-pub fn reserve(n: usize, top: u32, bytes: u64) -> Worked
+pub fn reserve(n: usize, top: u32, bytes: u64) -> Result<Value, u32>
     requires { (n ≤ memory_bytes) × (bytes < 17179869184) }
     ensures { result ≡ reserved Bits32 n top bytes }
 {
     let at = (top as u64 + 3) / 4 * 4;
     let end = at + bytes;
     if (n as u64) < end {
-        return Worked::Stop(34);
+        return Err(34);
     }
-    Worked::Value {
+    Ok(Value {
         word: at as u32,
         top: end as u32,
-    }
+    })
 }
 
 // A word, the auto top staying.
-fn with_top(v: u32, top: u32) -> Worked
-    ensures { result ≡ Value v top }
+fn with_top(word: u32, top: u32) -> Result<Value, u32>
+    ensures { result ≡ valued word top }
 {
-    Worked::Value { word: v, top: top }
+    Ok(Value { word, top })
+}
+
+// The stop of an operator's refusal.
+fn stop_number(e: WordError) -> u32
+    ensures { result ≡ error_stop e }
+{
+    match e {
+        WordError::Division => 30,
+        WordError::Shift => 31,
+    }
 }
 
 // An operator's answer, the auto top staying.
-fn from_answer(top: u32, a: Answer) -> Worked
+fn from_answer(top: u32, a: Result<u32, WordError>) -> Result<Value, u32>
     ensures { result ≡ answered top a }
 {
     match a {
-        Answer::Word(v) => with_top(v, top),
-        Answer::Division => Worked::Stop(30),
-        Answer::Shift => Worked::Stop(31),
+        Ok(v) => with_top(v, top),
+        Err(e) => Err(stop_number(e)),
     }
 }
 
 // A word read, the auto top staying.
-fn from_read(top: u32, f: Read) -> Worked
+fn from_read(top: u32, f: Option<u32>) -> Result<Value, u32>
     ensures { result ≡ fetched top f }
 {
     match f {
-        Read::Got(v) => with_top(v, top),
-        Read::Bad => Worked::Stop(32),
+        Some(v) => with_top(v, top),
+        None => Err(32),
     }
 }
 
 // The byte at a, or stop 32.
-fn byte_at(m: &[u8], top: u32, a: u32) -> Worked
+fn byte_at(m: &[u8], top: u32, a: u32) -> Result<Value, u32>
     ensures { result ≡ byte_of m.now top a }
 {
     if has_byte(m.len(), a) {
         let i = a as usize;
         return with_top(wide(m[i]), top);
     }
-    Worked::Stop(32)
+    Err(32)
 }
 
 // Operator e of x, and of y where it takes two.
-pub fn apply(e: u32, x: u32, y: u32, m: &[u8], top: u32) -> Worked
+pub fn apply(e: u32, x: u32, y: u32, m: &[u8], top: u32) -> Result<Value, u32>
     requires { length m.now ≤ memory_bytes }
     ensures { result ≡ applied Bits32 m.now top e x y }
 {
@@ -198,7 +205,15 @@ fn least_operands(e: u32) -> u32
 }
 
 // An expression of kind e over operands a and b.
-pub fn eval(e: u32, a: Operand, b: Operand, st: &[u32], s: u32, m: &[u8], top: u32) -> Worked
+pub fn eval(
+    e: u32,
+    a: Operand,
+    b: Operand,
+    st: &[u32],
+    s: u32,
+    m: &[u8],
+    top: u32,
+) -> Result<Value, u32>
     requires { length m.now ≤ memory_bytes }
     ensures { result ≡ eval_of Bits32 st.now s m.now top e (a ∷ b ∷ []) }
 {
@@ -206,15 +221,14 @@ pub fn eval(e: u32, a: Operand, b: Operand, st: &[u32], s: u32, m: &[u8], top: u
     if e == ExpressionKind::PLAIN {
         return from_read(top, f);
     }
-    let Read::Got(x) = f else {
-        return Worked::Stop(32);
+    let Some(x) = f else {
+        return Err(32);
     };
     if least_operands(e) == 1 {
         return apply(e, x, 0, m, top);
     }
-    let g = read_operand(st, s, m, b);
-    let Read::Got(y) = g else {
-        return Worked::Stop(32);
+    let Some(y) = read_operand(st, s, m, b) else {
+        return Err(32);
     };
     apply(e, x, y, m, top)
 }

@@ -1,5 +1,6 @@
 -- The ways through the functions of pauses.
 -- Assumes nothing.
+use Rattle.std.proofs.Common.{Option, Some, None}
 use mathlib.Core.Path.{◌≡◌, refl, sym, ◌∙◌, ap}
 use mathlib.Core.Bool.{Bool, true, false}
 use mathlib.Core.List.{List, [], ◌∷◌}
@@ -28,7 +29,7 @@ use Rattle.vm_definitions.specs.Step.{Effect, effected, idle, in_state_of, argum
 use Rattle.vm_definitions.specs.Lent.{world, left}
 use Rattle.vm_definitions.specs.declared.Outcome.{Outcome}
 use Rattle.vm_definitions.proofs.Words.{word-32}
-use Rattle.vm_calls.specs.Outcomes.{halted, after, handing, handing_to, words_in}
+use Rattle.vm_calls.specs.Outcomes.{halted, after, handing, handing_to, words_given}
 use Rattle.vm_calls.proofs.Reading.{arguments-are}
 use Rattle.vm_pauses.specs.Pauses.{held, handing_in, Awaits}
 
@@ -78,17 +79,17 @@ module _ (t : List ℕ) (c : ℕ) (l : List ℕ) (lc d : ℕ) (r : Machine) (st 
   unfolding arguments_of
   same-arguments = refl
 
-  module _ (h : importing row ≡ true) (b : Bool) (ws : List ℕ) (k : ℕ) (e : k ≡ min row.count 8)
-      (u : words_in b ws k ≡ read_all Bits32 st r.frame m (take k (slots t (r.next * 27)))) where
-    read : words_in b ws k ≡ arguments_of prog (world r st m)
-    read = arguments-are t c r st m b ws k (import-used row.kind row.expr row.count h) e u ∙ same-arguments
+  module _ (h : importing row ≡ true) (x : Option (List ℕ)) (k : ℕ) (e : k ≡ min row.count 8)
+      (u : words_given x k ≡ read_all Bits32 st r.frame m (take k (slots t (r.next * 27)))) where
+    read : words_given x k ≡ arguments_of prog (world r st m)
+    read = arguments-are t c r st m x k (import-used row.kind row.expr row.count h) e u ∙ same-arguments
 
-    pub asks-good : (g n : ℕ) (q : Pause) (o : Outcome) → b ≡ true → g ≡ row.callee → n ≡ (label_at l [] g).number → q ≡ pause_of n (take k ws) → o ≡ held r q
+    pub asks-good : (ws : List ℕ) (g n : ℕ) (q : Pause) (o : Outcome) → x ≡ Some ws → g ≡ row.callee → n ≡ (label_at l [] g).number → q ≡ pause_of n (take k ws) → o ≡ held r q
         → left o st m ≡ paused_by prog (world r st m) (arguments_of prog (world r st m))
     unfolding paused_by idle in_state_of label_at if_true
-    asks-good g n q o z pg pn pq po = rw (← read, z, ← pg, ← pn, ← pq, po)
+    asks-good ws g n q o z pg pn pq po = rw (← read, z, ← pg, ← pn, ← pq, po)
 
-    pub asks-bad : (o : Outcome) → b ≡ false → o ≡ halted r 32 → left o st m ≡ paused_by prog (world r st m) (arguments_of prog (world r st m))
+    pub asks-bad : (o : Outcome) → x ≡ None → o ≡ halted r 32 → left o st m ≡ paused_by prog (world r st m) (arguments_of prog (world r st m))
     unfolding paused_by effected if_true
     asks-bad o z po = rw (← read, z, po)
 

@@ -67,10 +67,7 @@ fn ask(t: &[u32], c: u32, l: &[u32], lc: u32, d: u32, r: Machine, st: &[u32], m:
     let n = r.next;
     let s = r.frame;
     let k = vm_calls::arguments_at(t, n);
-    let a = vm_calls::read_arguments(t, n, k, st, s, m);
-    let good = a.good;
-    let words = a.words;
-    if good {
+    if let Some(words) = vm_calls::read_arguments(t, n, k, st, s, m) {
         let g = prog_tables::callee_at(t, n);
         let number = prog_tables::label_number_at(l, g);
         return hold(r, pause_of(number, k, words));

@@ -1,5 +1,7 @@
 -- A call or a return that is taken is not refused, and has the effect that the machine's definitions give it.
 -- Assumes nothing.
+use Rattle.std.proofs.Common.{Err, None, Option, Some, Ok}
+use Rattle.vm_definitions.specs.Operands.{Worked, valued}
 use mathlib.Core.Path.{◌≡◌, refl, sym, ◌∙◌, ap, subst}
 use mathlib.Core.Bool.{Bool, true, false, not}
 use mathlib.Core.List.{List, [], ◌∷◌}
@@ -28,10 +30,6 @@ use Rattle.vm_definitions.specs.Step.{Effect, leaves, arguments_of, call_by, cal
 use Rattle.vm_definitions.specs.Lent.{world}
 use Rattle.vm_definitions.specs.declared.Resumption.TheVariants.{Caller}
 use Rattle.vm_definitions.specs.declared.Broken.TheVariants.{No}
-use Rattle.vm_definitions.specs.declared.Read.{Read}
-use Rattle.vm_definitions.specs.declared.Read.TheVariants.{Got, Bad}
-use Rattle.vm_definitions.specs.declared.Worked.{Worked}
-use Rattle.vm_definitions.specs.declared.Worked.TheVariants.{Value, Stop}
 use Rattle.vm_definitions.proofs.Stores.{store_length}
 use Rattle.vm_guard.specs.Guard.{within_broken}
 use Rattle.vm_quick_operands.specs.Fast.{good_read, read_each, good_work, size_of}
@@ -41,8 +39,7 @@ use Rattle.vm_quick_statements.proofs.Right.{InFrame}
 use Rattle.vm_quick_statements.proofs.ByKind.{Sets, let-sets, set-sets, plain-call, plain-import, leaves-not}
 use Rattle.vm_quick_statements.proofs.Unbroken.{frame-fine, record-fine, call-fine, return-fine}
 use Rattle.vm_quick_calls.specs.declared.Transfer.{Transfer}
-use Rattle.vm_quick_calls.specs.declared.Transfer.TheVariants.{To, Stays}
-use Rattle.vm_quick_calls.specs.Transfers.{Transferred, transferred, good_from, callee_size, calls_local, calls_any, call_good, good_all, pushed, entered_by, entered, call_transfer, tail_transfer, result_of, resumed, hand_to, hand_transfer, return_by, return_transfer, transfer_of}
+use Rattle.vm_quick_calls.specs.Transfers.{to_frame, Transferred, transferred, good_from, callee_size, calls_local, calls_any, call_good, good_all, pushed, entered_by, entered, call_transfer, tail_transfer, result_of, resumed, hand_to, hand_transfer, return_by, return_transfer, transfer_of}
 use Rattle.prog_tables.proofs.Each.{both_false}
 use Rattle.prog_tables.proofs.CallRows.{bare-call, bare-import}
 
@@ -71,10 +68,10 @@ module _ (size d : ℕ) (st : List ℕ) (s : ℕ) (m : List ℕ) where
   each-good [] vs e = record { good = refl; all = e }
   each-good (o ∷ os) vs e = by (good_read size d st s m o) (read_each (good_read size d st s m) os) (each-good os) refl refl e
     where
-      by : (x : Read) (w : Words) → ((ws : List ℕ) → good_all size d st s m os ≡ machine.words ws → Each os ws) → good_read size d st s m o ≡ x → read_each (good_read size d st s m) os ≡ w → on_read x bad (λ v. with_word v w) ≡ machine.words vs → Each (o ∷ os) vs
-      by Bad w go a b q = bad-words vs q
-      by (Got v) bad go a b q = bad-words vs q
-      by (Got v) (machine.words ws) go a b q =
+      by : (x : Option ℕ) (w : Words) → ((ws : List ℕ) → good_all size d st s m os ≡ machine.words ws → Each os ws) → good_read size d st s m o ≡ x → read_each (good_read size d st s m) os ≡ w → on_read x bad (λ v. with_word v w) ≡ machine.words vs → Each (o ∷ os) vs
+      by None w go a b q = bad-words vs q
+      by (Some v) bad go a b q = bad-words vs q
+      by (Some v) (machine.words ws) go a b q =
           let x = good-read size d st s m o v a in
           let i = go ws b in
           record { good = rw (x.good, i.good); all = rw (x.word, i.all) q }
@@ -287,14 +284,14 @@ module _ (t : List ℕ) (c : ℕ) (lw : List ℕ) (lc g d size : ℕ) (r : Machi
     pub effect : effect_of (lent_program t c lw lc d) (world r st m) ≡ leaves (world (moved_to r i frame used end) st' m)
     pub stack : length st' ≡ length st
 
-  unfoldable pub RightBy : Transfer → List ℕ → Type 0
-  RightBy (To i frame used end) st' = Moved i frame used end st'
-  RightBy Stays st' = st' ≡ st
+  unfoldable pub RightBy : Option Transfer → List ℕ → Type 0
+  RightBy (Some go) st' = Moved go.next go.frame go.used go.top st'
+  RightBy None st' = st' ≡ st
 
   abbrev pub Right : Transferred → Type 0
   Right x = RightBy x.move x.stack
 
-  same : Right (transferred Stays st)
+  same : Right (transferred None st)
   unfolding RightBy
   same = refl
 
@@ -346,7 +343,7 @@ module _ (t : List ℕ) (c : ℕ) (lw : List ℕ) (lc g d size : ℕ) (r : Machi
           → Right (entered t d size st s m n at call under top here.callee here.count z)
       unfolding entered entered_by pushed RightBy
       right-entered l z e =
-          either Right (length st) (at + z) (transferred Stays st) _ (λ b. same) (λ b. by b (good_all size d st s m (take here.count (slots t (n * 27)))) refl)
+          either Right (length st) (at + z) (transferred None st) _ (λ b. same) (λ b. by b (good_all size d st s m (take here.count (slots t (n * 27)))) refl)
         where
           by : at + z ≤ length st → (w : Words) → good_all size d st s m (take here.count (slots t (n * 27))) ≡ w
               → Right (entered_by t d size st s m n at call under top here.callee here.count z w)
@@ -356,17 +353,17 @@ module _ (t : List ℕ) (c : ℕ) (lw : List ℕ) (lc g d size : ℕ) (r : Machi
       right-call : Right (call_transfer t c lw lc d size st s m n at call under top)
       unfolding call_transfer
       right-call =
-          either Right 8 here.count (transferred Stays st) _ (λ l. same)
-          (λ l. either Right here.callee c _ (transferred Stays st)
-          (λ p. either-eq Right (callee_size (lent_program t c lw lc d) here.callee here.count) 0 (transferred Stays st) _ (λ q. same)
+          either Right 8 here.count (transferred None st) _ (λ l. same)
+          (λ l. either Right here.callee c _ (transferred None st)
+          (λ p. either-eq Right (callee_size (lent_program t c lw lc d) here.callee here.count) 0 (transferred None st) _ (λ q. same)
           (λ q. right-entered l _ (callee-good (lent_program t c lw lc d) here.callee here.count _ q refl)))
           (λ p. same))
 
     right-tail : here.kind ≡ 12 → Right (tail_transfer t c lw lc d size st s m n)
     unfolding tail_transfer
     right-tail q =
-        either-eq Right here.expr 2 _ (transferred Stays st)
-        (λ x. either Right (length m) (get_or st (s + 2) 0) (transferred Stays st) _ (λ l. same)
+        either-eq Right here.expr 2 _ (transferred None st)
+        (λ x. either Right (length m) (get_or st (s + 2) 0) (transferred None st) _ (λ l. same)
         (λ l. right-call s (get_or st s 0) (get_or st (s + 1) 0) (get_or st (s + 2) 0) (went-tail q x l)))
         (λ x. same)
 
@@ -427,7 +424,7 @@ module _ (t : List ℕ) (c : ℕ) (lw : List ℕ) (lc g d size : ℕ) (r : Machi
 
     gives-value : (v end : ℕ) → here.kind ≡ 13 → (here.expr ≡ 0 → ⊥) → ((k : ℕ) → expression_listed k here.expr ≡ true) → is_call_expression here.expr ≡ false
         → some_of (operand_fault size d) (take (expression_uses here.expr here.count) (slots t (n * 27))) ≡ false
-        → eval_of Bits32 st s m r.top here.expr (take (expression_uses here.expr here.count) (slots t (n * 27))) ≡ Value v end → Gives v
+        → eval_of Bits32 st s m r.top here.expr (take (expression_uses here.expr here.count) (slots t (n * 27))) ≡ valued v end → Gives v
     unfolding kind_fault target_fault has_target size_fault word_fault operands_fault address_fault is_listed has_expression is_test is_return is_calling has_word used_by if_lt if_eq if_true some_of
         effect_of return_of returned worked_of
     gives-value v end q e l b o w =
@@ -442,21 +439,25 @@ module _ (t : List ℕ) (c : ℕ) (lw : List ℕ) (lc g d size : ℕ) (r : Machi
           effect = rw (used, q, b, ne_eqb _ _ e, w);
         }
 
-    valued : (v end : ℕ) → here.kind ≡ 13 → (here.expr ≡ 0 → ⊥) → Valued t (n * 27) size d st s m r.top v end → Gives v
+    value_gives : (v end : ℕ) → here.kind ≡ 13 → (here.expr ≡ 0 → ⊥) → Valued t (n * 27) size d st s m r.top v end → Gives v
     unfolding row_at row_from
-    valued v end q e x = gives-value v end q e x.listed x.bare (x.operands here.count) (x.worked here.count)
+    value_gives v end q e x = gives-value v end q e x.listed x.bare (x.operands here.count) (x.worked here.count)
 
-    gives : (v end : ℕ) → result_of t d size st s m n r.top ≡ Value v end → Gives v
+    gives : (v end : ℕ) → result_of t d size st s m n r.top ≡ valued v end → Gives v
     unfolding result_of
     gives v end =
-        either-eq (λ (w : Worked). w ≡ Value v end → Gives v) here.kind 2 (Value 0 0) _ (λ q e. zero-value v end e (gives-end q))
-        (λ n2. either-eq (λ (w : Worked). w ≡ Value v end → Gives v) here.kind 13 _ (Stop 0)
-        (λ q. either-eq (λ (w : Worked). w ≡ Value v end → Gives v) here.expr 0 (Value 0 0) (good_work t (n * 27) size d st s m r.top)
-        (λ x e. zero-value v end e (gives-bare q x)) (λ x e. valued v end q x (good-work t (n * 27) size d st s m r.top v end e)))
+        either-eq (λ (w : Worked). w ≡ valued v end → Gives v) here.kind 2 (valued 0 0) _ (λ q e. zero-value v end e (gives-end q))
+        (λ n2. either-eq (λ (w : Worked). w ≡ valued v end → Gives v) here.kind 13 _ (Err 0)
+        (λ q. either-eq (λ (w : Worked). w ≡ valued v end → Gives v) here.expr 0 (valued 0 0) (good_work t (n * 27) size d st s m r.top)
+        (λ x e. zero-value v end e (gives-bare q x)) (λ x e. value_gives v end q x (good-work t (n * 27) size d st s m r.top v end e)))
         (λ q. stop-value 0 v end))
       where
-        zero-value : (v end : ℕ) → Value 0 0 ≡ Value v end → Gives 0 → Gives v
-        zero-value v end e x = let z : 0 ≡ v = cc in subst Gives z x
+        word_in : Worked → ℕ
+        word_in (Ok got) = got.word
+        word_in (Err k) = 0
+
+        zero-value : (v end : ℕ) → valued 0 0 ≡ valued v end → Gives 0 → Gives v
+        zero-value v end e x = subst Gives (ap word_in e) x
 
     -- the call at row p in the frame behind
     module _ (small : c < 4294967296) (v p caller back z : ℕ) (low : p < c) (ep : get_or st s 0 ≡ p) (ec : get_or st (s + 1) 0 ≡ caller) (eb : get_or st (s + 2) 0 ≡ back)
@@ -506,11 +507,11 @@ module _ (t : List ℕ) (c : ℕ) (lw : List ℕ) (lc g d size : ℕ) (r : Machi
     right-hand : c < 4294967296 → (v : ℕ) → Gives v → Right (hand_transfer t c lw lc d st s (length m) v)
     unfolding hand_transfer hand_to
     right-hand small v y =
-        either Right (get_or st s 0) c _ (transferred Stays st)
-        (λ l. either-eq Right (size_of (row_at t) c (row_at t (get_or st s 0)).func) 0 (transferred Stays st) _ (λ q. same)
-        (λ q. either Right (length m) (get_or st (s + 2) 0) (transferred Stays st) _ (λ b. same)
-        (λ b. either-eq Right (get_or st (s + 1) 0 + size_of (row_at t) c (row_at t (get_or st s 0)).func) s _ (transferred Stays st)
-        (λ e. either_true Right (call_good t c lw lc d (size_of (row_at t) c (row_at t (get_or st s 0)).func) (get_or st s 0)) _ (transferred Stays st)
+        either Right (get_or st s 0) c _ (transferred None st)
+        (λ l. either-eq Right (size_of (row_at t) c (row_at t (get_or st s 0)).func) 0 (transferred None st) _ (λ q. same)
+        (λ q. either Right (length m) (get_or st (s + 2) 0) (transferred None st) _ (λ b. same)
+        (λ b. either-eq Right (get_or st (s + 1) 0 + size_of (row_at t) c (row_at t (get_or st s 0)).func) s _ (transferred None st)
+        (λ e. either_true Right (call_good t c lw lc d (size_of (row_at t) c (row_at t (get_or st s 0)).func) (get_or st s 0)) _ (transferred None st)
         (λ w. resumption l q b e w) (λ w. same))
         (λ e. same))))
         (λ l. same)
@@ -529,15 +530,15 @@ module _ (t : List ℕ) (c : ℕ) (lw : List ℕ) (lc g d size : ℕ) (r : Machi
     right-return small = by (result_of t d size st s m n r.top) refl
       where
         by : (w : Worked) → result_of t d size st s m n r.top ≡ w → Right (return_by t c lw lc d size st s m n r.top w)
-        by (Value v end) e = right-hand small v (gives v end e)
-        by (Stop k) e = same
+        by (Ok got) e = right-hand small got.word (gives got.word got.top e)
+        by (Err k) e = same
 
   -- what became of a call or a return is right
   pub right-transfer : c < 4294967296 → InFrame t c g size r st m → Right (transfer_of t c lw lc g d size st s r.used m n r.top)
   unfolding transfer_of
   right-transfer small h =
-      either Right n c _ (transferred Stays st)
-      (λ l. either-eq Right here.func g _ (transferred Stays st)
+      either Right n c _ (transferred None st)
+      (λ l. either-eq Right here.func g _ (transferred None st)
       (λ e. either_true Right (calls_any (row_at t) size n) _ _
       (λ q. right-call h l e r.used n s r.top (went_call h l e (any-row t c lw lc d n size (sized h l e) q)))
       (λ q. either-eq Right here.kind 12 _ _ (λ k. right-tail h l e k) (λ k. right-return h l e small)))

@@ -1,6 +1,8 @@
 -- Calls and returns, each tested for 35 and taken at once. One that is not good, that stops, or whose form is none of these stays, and is left
 -- to the exact step. What is taken is what the machine's step makes of it (proofs/Right.antt).
 -- Assumes nothing.
+use Rattle.std.specs.Prelude.{Err, Ok, Option, Some, None}
+use Rattle.vm_definitions.specs.Operands.{Worked, valued}
 use Rattle.std.specs.Prelude.{ℕ, zero, suc, ◌+◌, Bool, true, false, List, ltb, eqb, length, set, take}
 use Rattle.base_prelude.specs.Choice.{if_lt, if_eq, if_true}
 use Rattle.lang_kinds.specs.Kinds as kind
@@ -14,18 +16,19 @@ use Rattle.vm_definitions.specs.Access.{store_from}
 use Rattle.vm_definitions.specs.Operands.{Words, words, bad}
 use Rattle.base_limits.specs.declared.Width.TheVariants.{Bits32}
 use Rattle.vm_definitions.specs.Frames.{frame_words, returns_to, caller_frame, top_at_entry}
-use Rattle.vm_definitions.specs.declared.Worked.{Worked}
-use Rattle.vm_definitions.specs.declared.Worked.TheVariants.{Value, Stop}
 use Rattle.vm_quick_operands.specs.Fast.{good_read, read_each, good_work, size_of}
 use Rattle.vm_quick_calls.specs.declared.Transfer.{Transfer}
-use Rattle.vm_quick_calls.specs.declared.Transfer.TheVariants.{To, Stays}
 
 -- what became of a call or a return, with the stack behind it
 pub record Transferred : Type 0 where
-  pub move : Transfer
+  pub move : Option Transfer
   pub stack : List ℕ
 
-abbrev pub transferred : Transfer → List ℕ → Transferred
+-- the run goes on at a row in a frame, with the words in use and an auto top
+abbrev pub to_frame : ℕ → ℕ → ℕ → ℕ → Option Transfer
+to_frame n frame used top = Some (record { next = n; frame = frame; used = used; top = top })
+
+abbrev pub transferred : Option Transfer → List ℕ → Transferred
 transferred x st = record { move = x; stack = st }
 
 -- ---- rows that call
@@ -67,67 +70,67 @@ good_all size d st s m os = read_each (good_read size d st s m) os
 
 -- a new frame of z words for function p at a place: with the place to return to and the start of the caller's frame
 unfoldable pub pushed : List ℕ → ℕ → ℕ → ℕ → ℕ → ℕ → ℕ → List ℕ → Transferred
-pushed st at call below top p z vs = transferred (To (suc p) at (at + z) top) (store_from st at (frame_words Bits32 call below top vs z))
+pushed st at call below top p z vs = transferred (to_frame (suc p) at (at + z) top) (store_from st at (frame_words Bits32 call below top vs z))
 
 module _ (t : List ℕ) (d size : ℕ) (st : List ℕ) (s : ℕ) (m : List ℕ) (n at call below top p k z : ℕ) where
   unfoldable pub entered_by : Words → Transferred
   entered_by (words vs) = pushed st at call below top p z vs
-  entered_by bad = transferred Stays st
+  entered_by bad = transferred None st
 
   -- row n calls function p with k arguments; the new frame of z words starts at a place
   unfoldable pub entered : Transferred
-  entered = if_lt (length st) (at + z) (transferred Stays st) (entered_by (good_all size d st s m (take k (slots t (place_of n)))))
+  entered = if_lt (length st) (at + z) (transferred None st) (entered_by (good_all size d st s m (take k (slots t (place_of n)))))
 
 -- row n calls its function, whose frame starts at a place
 unfoldable pub call_transfer : List ℕ → ℕ → List ℕ → ℕ → ℕ → ℕ → List ℕ → ℕ → List ℕ → ℕ → ℕ → ℕ → ℕ → ℕ → Transferred
 call_transfer t c lw lc d size st s m n at call below top =
-    if_lt operand_slots (row_at t n).count (transferred Stays st)
+    if_lt operand_slots (row_at t n).count (transferred None st)
     (if_lt (row_at t n).callee c
-    (if_eq (callee_size (lent_program t c lw lc d) (row_at t n).callee (row_at t n).count) 0 (transferred Stays st)
+    (if_eq (callee_size (lent_program t c lw lc d) (row_at t n).callee (row_at t n).count) 0 (transferred None st)
     (entered t d size st s m n at call below top (row_at t n).callee (row_at t n).count
     (callee_size (lent_program t c lw lc d) (row_at t n).callee (row_at t n).count)))
-    (transferred Stays st))
+    (transferred None st))
 
 -- `tail-call` at row n: the new frame has the head of the frame in use, and its auto top of entry is restored
 unfoldable pub tail_transfer : List ℕ → ℕ → List ℕ → ℕ → ℕ → ℕ → List ℕ → ℕ → List ℕ → ℕ → Transferred
 tail_transfer t c lw lc d size st s m n =
     if_eq (row_at t n).expr call_expression
-    (if_lt (length m) (top_at_entry st s) (transferred Stays st)
+    (if_lt (length m) (top_at_entry st s) (transferred None st)
     (call_transfer t c lw lc d size st s m n s (returns_to st s) (caller_frame st s) (top_at_entry st s)))
-    (transferred Stays st)
+    (transferred None st)
 
 -- ---- returns
 
 -- the value that row n returns: "Bare `return` and `end function` return 0."
 unfoldable pub result_of : List ℕ → ℕ → ℕ → List ℕ → ℕ → List ℕ → ℕ → ℕ → Worked
 result_of t d size st s m n top =
-    if_eq (row_at t n).kind kind.end_function (Value 0 0)
-    (if_eq (row_at t n).kind kind.return (if_eq (row_at t n).expr no_expression (Value 0 0) (good_work t (place_of n) size d st s m top)) (Stop 0))
+    if_eq (row_at t n).kind kind.end_function (valued 0 0)
+    (if_eq (row_at t n).kind kind.return (if_eq (row_at t n).expr no_expression (valued 0 0) (good_work t (place_of n) size d st s m top)) (Err 0))
 
 -- a value for the call at row p, whose frame is at a place; the auto top of entry is restored
 unfoldable pub resumed : (ℕ → Row) → List ℕ → ℕ → ℕ → ℕ → ℕ → ℕ → Transferred
-resumed f st s v p caller back = transferred (To (suc p) caller s back) (if_eq (f p).kind kind.call st (set st (caller + (f p).a) v))
+resumed f st s v p caller back = transferred (to_frame (suc p) caller s back) (if_eq (f p).kind kind.call st (set st (caller + (f p).a) v))
 
 -- a value handed back from the frame at s to the call at row p, whose frame has z words; m bytes of memory
 unfoldable pub hand_to : List ℕ → ℕ → List ℕ → ℕ → ℕ → List ℕ → ℕ → ℕ → ℕ → ℕ → ℕ → Transferred
 hand_to t c lw lc d st s m v p z =
-    if_lt m (top_at_entry st s) (transferred Stays st)
+    if_lt m (top_at_entry st s) (transferred None st)
     (if_eq (caller_frame st s + z) s
-    (if_true (call_good t c lw lc d z p) (resumed (row_at t) st s v p (caller_frame st s) (top_at_entry st s)) (transferred Stays st))
-    (transferred Stays st))
+    (if_true (call_good t c lw lc d z p) (resumed (row_at t) st s v p (caller_frame st s) (top_at_entry st s)) (transferred None st))
+    (transferred None st))
 
 -- a value handed back from the frame at s
 unfoldable pub hand_transfer : List ℕ → ℕ → List ℕ → ℕ → ℕ → List ℕ → ℕ → ℕ → ℕ → Transferred
 hand_transfer t c lw lc d st s m v =
     if_lt (returns_to st s) c
-    (if_eq (size_of (row_at t) c (row_at t (returns_to st s)).func) 0 (transferred Stays st)
+    (if_eq (size_of (row_at t) c (row_at t (returns_to st s)).func) 0 (transferred None st)
     (hand_to t c lw lc d st s m v (returns_to st s) (size_of (row_at t) c (row_at t (returns_to st s)).func)))
-    (transferred Stays st)
+    (transferred None st)
 
 module _ (t : List ℕ) (c : ℕ) (lw : List ℕ) (lc d size : ℕ) (st : List ℕ) (s : ℕ) (m : List ℕ) (n top : ℕ) where
   unfoldable pub return_by : Worked → Transferred
-  return_by (Value v end) = hand_transfer t c lw lc d st s (length m) v
-  return_by (Stop k) = transferred Stays st
+  return_by (Ok got) = hand_transfer t c lw lc d st s (length m) got.word
+  return_by (Err k) = transferred None st
 
   -- the return at row n
   unfoldable pub return_transfer : Transferred
@@ -140,5 +143,5 @@ transfer_of t c lw lc g d size st s used m n top =
     (if_eq (row_at t n).func g
     (if_true (calls_any (row_at t) size n) (call_transfer t c lw lc d size st s m n used n s top)
     (if_eq (row_at t n).kind kind.tail_call (tail_transfer t c lw lc d size st s m n) (return_transfer t c lw lc d size st s m n top)))
-    (transferred Stays st))
-    (transferred Stays st)
+    (transferred None st))
+    (transferred None st)

@@ -6,7 +6,7 @@ ghost use Rattle.base_limits.specs.Limits.{word_values, greatest_word, memory_by
 ghost use Rattle.prog_tables.specs.Statement.{operand_at, row_at, slots};
 ghost use Rattle.prog_tables.specs.Program.{lent_program};
 ghost use Rattle.prog_tables.specs.Faults.{operand_fault};
-ghost use Rattle.vm_calls.specs.Outcomes.{words_in};
+ghost use Rattle.vm_calls.specs.Outcomes.{words_given};
 ghost use Rattle.prog_tables.specs.Layout.{statement_row, operand_slots};
 ghost use Rattle.prog_tables.specs.Places.{place_of, slot_at};
 ghost use Rattle.vm_quick_calls.specs.Transfers.{transferred, good_from, callee_size, calls_local, calls_any, call_good, good_all, pushed, entered, call_transfer, tail_transfer, result_of, resumed, hand_to, hand_transfer, return_transfer, transfer_of};
@@ -14,18 +14,15 @@ ghost use Rattle.vm_quick_calls.specs.Transfers.{transferred, good_from, callee_
 use base_limits::Machine;
 use lang_kinds::Kind;
 use prog_tables::{ExpressionKind, OperandKind, Table};
-use vm_definitions::{Read, Worked};
+use vm_definitions::{Value};
 
-// What became of a call or a return: the run goes on in another frame, with its words and an auto top; or nothing happened.
-#[derive(Drop)]
-pub enum Transfer {
-    To {
-        next: u32,
-        frame: u32,
-        used: u32,
-        top: u32,
-    },
-    Stays,
+// Where a call or a return that is taken goes on: in another frame, with its words and an auto top. Without one nothing happened.
+#[derive(Clone, Copy, Debug, PartialEq, Eq)]
+pub struct Transfer {
+    pub next: u32,
+    pub frame: u32,
+    pub used: u32,
+    pub top: u32,
 }
 
 // Whether the operand at a place is broken.
@@ -59,12 +56,10 @@ fn are_good(t: &[u32], n: u32, d: u32, size: u32, k: u32) -> bool
     requires { (place_of n + statement_row ≤ length t.now) × (k ≤ operand_slots) }
     ensures { result ≡ good_from t.now (place_of n) size d k 0 }
 {
-    let mut i: u32 = 0;
-    while i < k {
+    for i in 0..k {
         if is_slot_bad(t, n, i, d, size) {
             return false;
         }
-        i += 1;
     }
     true
 }
@@ -127,7 +122,7 @@ fn is_call_good(t: &[u32], c: u32, l: &[u32], lc: u32, d: u32, size: u32, p: u32
     false
 }
 
-// The first k arguments of row n, left to right, into words; whether all are good and could be read.
+// The first k arguments of row n, left to right, where all are good and could be read.
 fn read_arguments(
     t: &[u32],
     n: u32,
@@ -137,22 +132,15 @@ fn read_arguments(
     st: &[u32],
     s: u32,
     m: &[u8],
-    words: &mut [u32],
-) -> bool
-    requires statement_row_in_bounds { (place_of n + statement_row ≤ length t.now) × (k ≤ operand_slots) × (s + size ≤ length st.now) }
-    requires words_len { length words.old ≡ operand_slots }
-    ensures { words_in result words.new k ≡ good_all size d st.now s m.now (take k (slots t.now (place_of n))) }
+) -> Option<[u32; Table::OPERAND_SLOTS]>
+    requires { (place_of n + statement_row ≤ length t.now) × (k ≤ operand_slots) × (s + size ≤ length st.now) }
+    ensures { words_given result k ≡ good_all size d st.now s m.now (take k (slots t.now (place_of n))) }
 {
-    let mut i: u32 = 0;
-    while i < k {
-        let x = vm_quick_operands::read_slot(t, n, i, d, size, st, s, m);
-        let Read::Got(v) = x else {
-            return false;
-        };
-        words[i as usize] = v;
-        i += 1;
+    let mut words = [0u32; Table::OPERAND_SLOTS];
+    for i in 0..k {
+        words[i as usize] = vm_quick_operands::read_slot(t, n, i, d, size, st, s, m)?;
     }
-    true
+    Some(words)
 }
 
 // A new frame of z words for function p at a place: where it returns to, and the start of the caller's frame.
@@ -167,14 +155,14 @@ fn push_frame(
     words: &[u32],
 ) -> Transfer
     requires { (length words.now ≤ operand_slots) × (at + z < word_values) × (p < greatest_word) }
-    ensures { transferred result st.new ≡ pushed st.old at call below top p z words.now }
+    ensures { transferred (Some result) st.new ≡ pushed st.old at call below top p z words.now }
 {
     vm_memory::build_frame(st, at, call, below, top, words, z);
-    Transfer::To {
+    Transfer {
         next: p + 1,
         frame: at,
         used: at + z,
-        top: top,
+        top,
     }
 }
 
@@ -194,19 +182,16 @@ fn enter(
     p: u32,
     k: u32,
     z: u32,
-) -> Transfer
+) -> Option<Transfer>
     requires { (place_of n + statement_row ≤ length t.now) × (k ≤ operand_slots) × (s + size ≤ length st.old) × (length st.old ≤ stack_words) × (p < greatest_word) }
     ensures { transferred result st.new ≡ entered t.now d size st.old s m.now n at call below top p k z }
 {
     if st.len() < at as usize + z as usize {
-        return Transfer::Stays;
+        return None;
     }
-    let mut words = [0u32; Table::OPERAND_SLOTS];
-    if read_arguments(t, n, k, d, size, st, s, m, &mut words) {
-        let to = k as usize;
-        return push_frame(st, at, call, below, top, p, z, &words[0..to]);
-    }
-    Transfer::Stays
+    let words = read_arguments(t, n, k, d, size, st, s, m)?;
+    let to = k as usize;
+    Some(push_frame(st, at, call, below, top, p, z, &words[0..to]))
 }
 
 // Row n calls its function, whose frame starts at a place.
@@ -225,21 +210,21 @@ fn call_at(
     call: u32,
     below: u32,
     top: u32,
-) -> Transfer
+) -> Option<Transfer>
     requires { (n < c) × (c * statement_row ≤ length t.now) × (s + size ≤ length st.old) × (length st.old ≤ stack_words) }
     ensures { transferred result st.new ≡ call_transfer t.now c l.now lc d size st.old s m.now n at call below top }
 {
     let k = prog_tables::count_at(t, n);
     if Machine::PARAMETERS < k {
-        return Transfer::Stays;
+        return None;
     }
     let p = prog_tables::callee_at(t, n);
     if c <= p {
-        return Transfer::Stays;
+        return None;
     }
     let z = callee_size(t, c, l, lc, d, p, k);
     if z == 0 {
-        return Transfer::Stays;
+        return None;
     }
     enter(t, d, size, st, s, m, n, at, call, below, top, p, k, z)
 }
@@ -256,20 +241,20 @@ fn tail_call(
     s: u32,
     m: &[u8],
     n: u32,
-) -> Transfer
+) -> Option<Transfer>
     requires { (n < c) × (c * statement_row ≤ length t.now) × (s + size ≤ length st.old) × (length st.old ≤ stack_words) }
     ensures { transferred result st.new ≡ tail_transfer t.now c l.now lc d size st.old s m.now n }
 {
     let e = prog_tables::expression_at(t, n);
     if e != ExpressionKind::CALL {
-        return Transfer::Stays;
+        return None;
     }
     let i = s as usize;
     let call = prog_tables::word_at(st, i);
     let below = prog_tables::word_at(st, i + 1);
     let top = prog_tables::word_at(st, i + 2);
     if m.len() < top as usize {
-        return Transfer::Stays;
+        return None;
     }
     call_at(t, c, l, lc, d, size, st, s, m, n, s, call, below, top)
 }
@@ -277,41 +262,35 @@ fn tail_call(
 // ---- returns
 
 // The value that row n returns.
-fn result(t: &[u32], d: u32, size: u32, st: &[u32], s: u32, m: &[u8], n: u32, top: u32) -> Worked
+fn result(t: &[u32], d: u32, size: u32, st: &[u32], s: u32, m: &[u8], n: u32, top: u32) -> Result<Value, u32>
     requires { (place_of n + statement_row ≤ length t.now) × (s + size ≤ length st.now) × (length m.now ≤ memory_bytes) }
     ensures { result ≡ result_of t.now d size st.now s m.now n top }
 {
     let k = prog_tables::kind_at(t, n);
     if k == Kind::END_FUNCTION {
-        return Worked::Value { word: 0, top: 0 };
+        return Ok(Value { word: 0, top: 0 });
     }
     if k == Kind::RETURN {
         let e = prog_tables::expression_at(t, n);
         if e == ExpressionKind::NONE {
-            return Worked::Value { word: 0, top: 0 };
+            return Ok(Value { word: 0, top: 0 });
         }
         return vm_quick_operands::work(t, n, d, size, st, s, m, top);
     }
-    Worked::Stop(0)
+    Err(0)
 }
 
 // A value for the call at row p, whose frame is at a place; back is the auto top restored.
 fn resume(t: &[u32], st: &mut [u32], s: u32, v: u32, p: u32, caller: u32, back: u32) -> Transfer
     requires { p < greatest_word }
-    ensures { transferred result st.new ≡ resumed (row_at t.now) st.old s v p caller back }
+    ensures { transferred (Some result) st.new ≡ resumed (row_at t.now) st.old s v p caller back }
 {
     let k = prog_tables::kind_at(t, p);
-    if k == Kind::CALL {
-        return Transfer::To {
-            next: p + 1,
-            frame: caller,
-            used: s,
-            top: back,
-        };
+    if k != Kind::CALL {
+        let a = prog_tables::a_at(t, p);
+        vm_memory::put(st, caller as usize + a as usize, v);
     }
-    let a = prog_tables::a_at(t, p);
-    vm_memory::put(st, caller as usize + a as usize, v);
-    Transfer::To {
+    Transfer {
         next: p + 1,
         frame: caller,
         used: s,
@@ -332,7 +311,7 @@ fn hand_to(
     v: u32,
     p: u32,
     z: u32,
-) -> Transfer
+) -> Option<Transfer>
     requires { (p < c) × (c < word_values) × (c * statement_row ≤ length t.now) }
     ensures { transferred result st.new ≡ hand_to t.now c l.now lc d st.old s m v p z }
 {
@@ -340,15 +319,15 @@ fn hand_to(
     let caller = prog_tables::word_at(st, at + 1);
     let back = prog_tables::word_at(st, at + 2);
     if m < back as usize {
-        return Transfer::Stays;
+        return None;
     }
     if caller as u64 + z as u64 == s as u64 {
         if is_call_good(t, c, l, lc, d, z, p) {
-            return resume(t, st, s, v, p, caller, back);
+            return Some(resume(t, st, s, v, p, caller, back));
         }
-        return Transfer::Stays;
+        return None;
     }
-    Transfer::Stays
+    None
 }
 
 // A value handed back from the frame at s to the call behind it.
@@ -362,17 +341,17 @@ fn hand(
     s: u32,
     m: usize,
     v: u32,
-) -> Transfer
+) -> Option<Transfer>
     requires { c * statement_row ≤ length t.now }
     ensures { transferred result st.new ≡ hand_transfer t.now c l.now lc d st.old s m v }
 {
     let p = prog_tables::word_at(st, s as usize);
     if c <= p {
-        return Transfer::Stays;
+        return None;
     }
     let z = vm_quick_operands::size_of(t, c, prog_tables::func_at(t, p));
     if z == 0 {
-        return Transfer::Stays;
+        return None;
     }
     hand_to(t, c, l, lc, d, st, s, m, v, p, z)
 }
@@ -390,14 +369,13 @@ fn give_back(
     m: &[u8],
     n: u32,
     top: u32,
-) -> Transfer
+) -> Option<Transfer>
     requires { (n < c) × (c * statement_row ≤ length t.now) × (s + size ≤ length st.old) × (length m.now ≤ memory_bytes) }
     ensures { transferred result st.new ≡ return_transfer t.now c l.now lc d size st.old s m.now n top }
 {
-    let x = result(t, d, size, st, s, m, n, top);
-    match x {
-        Worked::Value { word, top: end } => hand(t, c, l, lc, d, st, s, m.len(), word),
-        Worked::Stop(_) => Transfer::Stays,
+    match result(t, d, size, st, s, m, n, top) {
+        Ok(v) => hand(t, c, l, lc, d, st, s, m.len(), v.word),
+        Err(_) => None,
     }
 }
 
@@ -416,12 +394,12 @@ pub fn take_transfer(
     m: &[u8],
     n: u32,
     top: u32,
-) -> Transfer
+) -> Option<Transfer>
     requires { (c * statement_row ≤ length t.now) × (s + size ≤ length st.old) × (length st.old ≤ stack_words) × (length m.now ≤ memory_bytes) }
     ensures { transferred result st.new ≡ transfer_of t.now c l.now lc g d size st.old s used m.now n top }
 {
     if c <= n {
-        return Transfer::Stays;
+        return None;
     }
     let own = prog_tables::func_at(t, n);
     if own == g {
@@ -434,5 +412,5 @@ pub fn take_transfer(
         }
         return give_back(t, c, l, lc, d, size, st, s, m, n, top);
     }
-    Transfer::Stays
+    None
 }

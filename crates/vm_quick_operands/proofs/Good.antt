@@ -1,19 +1,19 @@
 -- What is tested and read at once is good, and gives what the definitions of the machine give.
 -- Assumes nothing.
-use mathlib.Core.Path.{◌≡◌, refl, sym, ◌∙◌, ap}
-use mathlib.Core.Bool.{Bool, true, false, not}
-use mathlib.Core.List.{List, [], ◌∷◌}
-use Prim.Native.Nat.{ℕ, zero, suc, ◌+◌, ◌*◌, ◌<◌, ◌≤◌}
-use native.Mathlib.Decide.{ℕ_discrete}
+use Rattle.std.proofs.Common.{Err, None, Option, Some}
+use Rattle.vm_definitions.specs.Operands.{Worked, valued}
+use mathlib.Core.Path.{◌≡◌, refl, sym, ◌∙◌}
+use mathlib.Core.Bool.{Bool, true, false}
+use mathlib.Core.List.{List}
+use Prim.Native.Nat.{ℕ, suc, ◌+◌, ◌<◌, ◌≤◌}
 use native.Mathlib.Omega.{arith}
-use lib.ListN.{length, get_or, take}
-use lib.Dec.{eqb, ltb, leb}
-use borrow.Author.Tests.{eq-eqb, ne_eqb, lt-ltb, le-ltb, le-leb, lt-leb}
+use lib.ListN.{get_or, take}
+use borrow.Author.Tests.{ne_eqb, lt-ltb, le-ltb}
 use Rattle.base_prelude.specs.Choice.{if_lt, if_eq, if_true}
 use Rattle.base_prelude.proofs.Choice.{true-false, either, either-eq}
 use Rattle.base_limits.specs.declared.Width.TheVariants.{Bits32}
-use Rattle.prog_tables.specs.Tests.{both, one_of, some, some_of}
-use Rattle.prog_tables.specs.Statement.{Row, has_expression, is_test, is_operator, is_call, is_import, is_call_expression, expression_uses, used_by, operand_at, slots, row_from, row_at}
+use Rattle.prog_tables.specs.Tests.{some, some_of}
+use Rattle.prog_tables.specs.Statement.{Row, has_expression, is_test, is_operator, is_call_expression, expression_uses, used_by, operand_at, slots, row_from, row_at}
 use Rattle.prog_tables.specs.Program.{Program, lent_program}
 use Rattle.prog_tables.specs.Nesting.{is_listed, has_target}
 use Rattle.prog_tables.specs.Faults.{expression_listed, in_function, size_at, operand_fault, kind_fault, target_fault, function_fault, import_fault, callee_fault, size_fault, has_word, word_fault, operands_fault, address_fault, row_fault}
@@ -22,17 +22,13 @@ use Rattle.lang_words.specs.Words.{least_operands}
 use Rattle.prog_tables.proofs.CallRows.{bare-call, bare-import}
 use Rattle.vm_definitions.specs.Operands.{read_of, on_read}
 use Rattle.vm_definitions.specs.Expressions.{eval_of}
-use Rattle.vm_definitions.specs.declared.Read.{Read}
-use Rattle.vm_definitions.specs.declared.Read.TheVariants.{Got, Bad}
-use Rattle.vm_definitions.specs.declared.Worked.{Worked}
-use Rattle.vm_definitions.specs.declared.Worked.TheVariants.{Value, Stop}
 use Rattle.vm_definitions.specs.Operators.{fetched, applied}
 use Rattle.vm_quick_operands.specs.Fast.{good_read, one_read, two_read, good_work, size_of}
 
-pub bad-got : {P : Type 0} (x : ℕ) → Bad ≡ Got x → P
+pub bad-got : {P : Type 0} (x : ℕ) → None ≡ Some x → P
 bad-got x e = absurd (let z : ◌≡◌ {A = ℕ} 0 1 = cc in omega arith)
 
-pub stop-value : {P : Type 0} (k v top : ℕ) → Stop k ≡ Value v top → P
+pub stop-value : {P : Type 0} (k v top : ℕ) → Err k ≡ valued v top → P
 stop-value k v top e = absurd (let z : ◌≡◌ {A = ℕ} 0 1 = cc in omega arith)
 
 -- ---- operands
@@ -40,13 +36,13 @@ stop-value k v top e = absurd (let z : ◌≡◌ {A = ℕ} 0 1 = cc in omega ari
 module _ (size d : ℕ) (st : List ℕ) (s : ℕ) (m : List ℕ) (o : Operand) (x : ℕ) where
   pub record Sound : Type 0 where
     pub good : operand_fault size d o ≡ false
-    pub word : read_of Bits32 st s m o ≡ Got x
+    pub word : read_of Bits32 st s m o ≡ Some x
 
-  pub good-read : good_read size d st s m o ≡ Got x → Sound
+  pub good-read : good_read size d st s m o ≡ Some x → Sound
   unfolding good_read if_true
   good-read = by (operand_fault size d o) refl
     where
-      by : (b : Bool) → operand_fault size d o ≡ b → if_true b Bad (read_of Bits32 st s m o) ≡ Got x → Sound
+      by : (b : Bool) → operand_fault size d o ≡ b → if_true b None (read_of Bits32 st s m o) ≡ Some x → Sound
       by true e q = bad-got x q
       by false e q = record { good = e; word = q }
 
@@ -109,9 +105,9 @@ module _ (t : List ℕ) (at size d : ℕ) (st : List ℕ) (s : ℕ) (m : List �
     pub listed : (k : ℕ) → expression_listed k kind ≡ true
     pub bare : is_call_expression kind ≡ false
     pub operands : (j : ℕ) → some_of (operand_fault size d) (take (expression_uses kind j) (slots t at)) ≡ false
-    pub worked : (j : ℕ) → eval_of Bits32 st s m top kind (take (expression_uses kind j) (slots t at)) ≡ Value v end
+    pub worked : (j : ℕ) → eval_of Bits32 st s m top kind (take (expression_uses kind j) (slots t at)) ≡ valued v end
 
-  one_plain : (x : ℕ) → kind ≡ 1 → Sound size d st s m (operand_at t (at + 11)) x → Value x top ≡ Value v end → Valued
+  one_plain : (x : ℕ) → kind ≡ 1 → Sound size d st s m (operand_at t (at + 11)) x → valued x top ≡ valued v end → Valued
   unfolding some_of slots eval_of is_call_expression if_eq fetched
   one_plain x q o h =
       record {
@@ -121,7 +117,7 @@ module _ (t : List ℕ) (at size d : ℕ) (st : List ℕ) (s : ℕ) (m : List �
         worked = λ j. rw (plain-takes kind j q, q, o.word) h;
       }
 
-  one-operator : (x : ℕ) → (kind ≡ 1 → ⊥) → expression_uses kind 0 ≡ 1 → Sound size d st s m (operand_at t (at + 11)) x → applied Bits32 m top kind x 0 ≡ Value v end → Valued
+  one-operator : (x : ℕ) → (kind ≡ 1 → ⊥) → expression_uses kind 0 ≡ 1 → Sound size d st s m (operand_at t (at + 11)) x → applied Bits32 m top kind x 0 ≡ valued v end → Valued
   unfolding some_of slots eval_of if_eq on_read
   one-operator x q u o h =
       record {
@@ -132,7 +128,7 @@ module _ (t : List ℕ) (at size d : ℕ) (st : List ℕ) (s : ℕ) (m : List �
       }
 
   two-operator : (x y : ℕ) → (kind ≡ 1 → ⊥) → expression_uses kind 0 ≡ 2 → Sound size d st s m (operand_at t (at + 11)) x → Sound size d st s m (operand_at t (at + 13)) y
-      → applied Bits32 m top kind x y ≡ Value v end → Valued
+      → applied Bits32 m top kind x y ≡ valued v end → Valued
   unfolding some_of slots eval_of if_eq on_read
   two-operator x y q u o p h =
       record {
@@ -142,39 +138,39 @@ module _ (t : List ℕ) (at size d : ℕ) (st : List ℕ) (s : ℕ) (m : List �
         worked = λ j. rw (operator-takes kind 1 q u j, ne_eqb kind 1 q, o.word, p.word, operator-least kind 1 q u) h;
       }
 
-  from_one : expression_uses kind 0 ≡ 1 → one_read t at size d st s m top kind ≡ Value v end → Valued
+  from_one : expression_uses kind 0 ≡ 1 → one_read t at size d st s m top kind ≡ valued v end → Valued
   unfolding one_read on_read
   from_one u = by (good_read size d st s m (operand_at t (at + 11))) refl
     where
-      by : (r : Read) → good_read size d st s m (operand_at t (at + 11)) ≡ r
-          → on_read r (Stop 32) (λ x. if_eq kind 1 (Value x top) (applied Bits32 m top kind x 0)) ≡ Value v end → Valued
-      by Bad e h = stop-value 32 v end h
-      by (Got x) e h =
-          either-eq (λ (w : Worked). w ≡ Value v end → Valued) kind 1 (Value x top) (applied Bits32 m top kind x 0)
+      by : (r : Option ℕ) → good_read size d st s m (operand_at t (at + 11)) ≡ r
+          → on_read r (Err 32) (λ x. if_eq kind 1 (valued x top) (applied Bits32 m top kind x 0)) ≡ valued v end → Valued
+      by None e h = stop-value 32 v end h
+      by (Some x) e h =
+          either-eq (λ (w : Worked). w ≡ valued v end → Valued) kind 1 (valued x top) (applied Bits32 m top kind x 0)
           (λ q. one_plain x q (good-read size d st s m (operand_at t (at + 11)) x e))
           (λ q. one-operator x q u (good-read size d st s m (operand_at t (at + 11)) x e)) h
 
   not_plain : expression_uses kind 0 ≡ 2 → kind ≡ 1 → ⊥
   not_plain u q = let z : ◌≡◌ {A = ℕ} 1 2 = sym (plain-takes kind 0 q) ∙ u in omega arith
 
-  from-two : expression_uses kind 0 ≡ 2 → two_read t at size d st s m top kind ≡ Value v end → Valued
+  from-two : expression_uses kind 0 ≡ 2 → two_read t at size d st s m top kind ≡ valued v end → Valued
   unfolding two_read on_read
   from-two u = by (good_read size d st s m (operand_at t (at + 11))) (good_read size d st s m (operand_at t (at + 13))) refl refl
     where
-      by : (r q : Read) → good_read size d st s m (operand_at t (at + 11)) ≡ r → good_read size d st s m (operand_at t (at + 13)) ≡ q
-          → on_read r (Stop 32) (λ x. on_read q (Stop 32) (applied Bits32 m top kind x)) ≡ Value v end → Valued
-      by Bad q e g h = stop-value 32 v end h
-      by (Got x) Bad e g h = stop-value 32 v end h
-      by (Got x) (Got y) e g h =
+      by : (r q : Option ℕ) → good_read size d st s m (operand_at t (at + 11)) ≡ r → good_read size d st s m (operand_at t (at + 13)) ≡ q
+          → on_read r (Err 32) (λ x. on_read q (Err 32) (applied Bits32 m top kind x)) ≡ valued v end → Valued
+      by None q e g h = stop-value 32 v end h
+      by (Some x) None e g h = stop-value 32 v end h
+      by (Some x) (Some y) e g h =
           two-operator x y (not_plain u) u (good-read size d st s m (operand_at t (at + 11)) x e) (good-read size d st s m (operand_at t (at + 13)) y g) h
 
-  pub good-work : good_work t at size d st s m top ≡ Value v end → Valued
+  pub good-work : good_work t at size d st s m top ≡ valued v end → Valued
   unfolding good_work
   good-work =
-      either-eq (λ (w : Worked). w ≡ Value v end → Valued) (expression_uses kind 0) 1 (one_read t at size d st s m top kind)
-      (if_eq (expression_uses kind 0) 2 (two_read t at size d st s m top kind) (Stop 0))
+      either-eq (λ (w : Worked). w ≡ valued v end → Valued) (expression_uses kind 0) 1 (one_read t at size d st s m top kind)
+      (if_eq (expression_uses kind 0) 2 (two_read t at size d st s m top kind) (Err 0))
       from_one
-      (λ n. either-eq (λ (w : Worked). w ≡ Value v end → Valued) (expression_uses kind 0) 2 (two_read t at size d st s m top kind) (Stop 0)
+      (λ n. either-eq (λ (w : Worked). w ≡ valued v end → Valued) (expression_uses kind 0) 2 (two_read t at size d st s m top kind) (Err 0)
       from-two (λ k. stop-value 0 v end))
 
 -- ---- rows

@@ -1,5 +1,6 @@
 -- Operands of a row read one by one into words, by a loop over the slots.
 -- Assumes nothing.
+use Rattle.std.proofs.Common.{None, Option, Some}
 use mathlib.Core.Path.{◌≡◌, refl, sym, ◌∙◌, ap}
 use mathlib.Core.Bool.{Bool, true, false}
 use mathlib.Core.List.{List, [], ◌∷◌, ◌++◌, append_assoc, append-nil}
@@ -14,8 +15,6 @@ use Rattle.prog_tables.specs.declared.Operand.TheVariants.{Unlisted}
 use Rattle.prog_faults.proofs.Cases.{slot_at, slots-long}
 use Rattle.vm_definitions.specs.Operands as machine
 use Rattle.vm_definitions.specs.Operands.{Words, bad, with_word, on_read}
-use Rattle.vm_definitions.specs.declared.Read.{Read}
-use Rattle.vm_definitions.specs.declared.Read.TheVariants.{Got, Bad}
 use Rattle.vm_quick_operands.specs.Fast.{read_each}
 
 -- k words, where all were read
@@ -45,7 +44,7 @@ next-slot t at k i h l =
 pub no-slots : (t : List ℕ) (at k i : ℕ) → k ≤ i → k ≤ 8 → drop i (take k (slots t at)) ≡ []
 no-slots t at k i l h = drop_of_length-le (take k (slots t at)) {i = i} (omega (arith, length-take-le k (slots t at) (omega (arith, slots-long t at, h)), l))
 
-module _ (rd : Operand → Read) (t : List ℕ) (at k : ℕ) where
+module _ (rd : Operand → Option ℕ) (t : List ℕ) (at k : ℕ) where
   abbrev rest_of : ℕ → Words
   rest_of i = read_each rd (drop i (take k (slots t at)))
 
@@ -59,12 +58,12 @@ module _ (rd : Operand → Read) (t : List ℕ) (at k : ℕ) where
   pub reading-none : (ws : List ℕ) → length ws ≡ 8 → k ≤ 8 → Reading ws 0
   reading-none ws e h = record { below = omega arith; few = h; long = e; rest = join-none (read_each rd (take k (slots t at))) }
 
-  module _ (ws : List ℕ) (i : ℕ) (x : Read) (h : Reading ws i) (l : i < k) (e : x ≡ rd (operand_at t (at + 11 + i * 2))) where
+  module _ (ws : List ℕ) (i : ℕ) (x : Option ℕ) (h : Reading ws i) (l : i < k) (e : x ≡ rd (operand_at t (at + 11 + i * 2))) where
     step-on : rest_of i ≡ on_read x bad (λ v. with_word v (rest_of (suc i)))
     unfolding read_each
     step-on = rw (next-slot t at k i l h.few, e)
 
-    pub reading-more : (v : ℕ) → x ≡ Got v → Reading (set ws i v) (i + 1)
+    pub reading-more : (v : ℕ) → x ≡ Some v → Reading (set ws i v) (i + 1)
     unfolding on_read
     reading-more v g =
         let one : i + 1 ≡ suc i = omega arith in
@@ -79,13 +78,13 @@ module _ (rd : Operand → Read) (t : List ℕ) (at k : ℕ) where
               ∙ ap (λ (z : List ℕ). z ++ (get_or (set ws i v) i 0 ∷ [])) (take-set-le i ws i v (omega arith))
               ∙ ap (λ (z : ℕ). take i ws ++ (z ∷ [])) (get_or-set_same ws i v 0 (omega (arith, h.long, h.few, l))))
               ∙ join_more (take i ws) v (rest_of (suc i))
-              ∙ ap (joined (take i ws)) (sym (step-on ∙ ap (λ (z : Read). on_read z bad (λ v. with_word v (rest_of (suc i)))) g))
+              ∙ ap (joined (take i ws)) (sym (step-on ∙ ap (λ (z : Option ℕ). on_read z bad (λ v. with_word v (rest_of (suc i)))) g))
               ∙ h.rest;
         }
 
-    pub reading-stops : x ≡ Bad → gathered false ws k ≡ read_each rd (take k (slots t at))
+    pub reading-stops : x ≡ None → gathered false ws k ≡ read_each rd (take k (slots t at))
     unfolding if_true joined on_read
-    reading-stops g = ap (joined (take i ws)) (sym (step-on ∙ ap (λ (z : Read). on_read z bad (λ v. with_word v (rest_of (suc i)))) g)) ∙ h.rest
+    reading-stops g = ap (joined (take i ws)) (sym (step-on ∙ ap (λ (z : Option ℕ). on_read z bad (λ v. with_word v (rest_of (suc i)))) g)) ∙ h.rest
 
   pub reading-done : (ws : List ℕ) (i : ℕ) → Reading ws i → k ≤ i → gathered true ws k ≡ read_each rd (take k (slots t at))
   unfolding if_true joined read_each

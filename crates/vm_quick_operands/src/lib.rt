@@ -10,7 +10,7 @@ ghost use Rattle.vm_quick_operands.specs.Fast.{good_read, one_read, two_read, go
 
 use lang_kinds::Kind;
 use prog_tables::{ExpressionKind, OperandKind, Table};
-use vm_definitions::{Read, Worked};
+use vm_definitions::Value;
 
 // Word v of the frame at s.
 pub fn local(st: &[u32], s: u32, v: u32) -> u32
@@ -21,45 +21,45 @@ pub fn local(st: &[u32], s: u32, v: u32) -> u32
 }
 
 // The word of the operand at a place, where it is good: of a frame of this size, with d bytes of data.
-fn read(t: &[u32], i: usize, d: u32, size: u32, st: &[u32], s: u32, m: &[u8]) -> Read
+fn read(t: &[u32], i: usize, d: u32, size: u32, st: &[u32], s: u32, m: &[u8]) -> Option<u32>
     requires { (i + 1 < length t.now) × (s + size ≤ length st.now) }
     ensures { result ≡ good_read size d st.now s m.now (operand_at t.now i) }
 {
     let k = prog_tables::word_in(t, i);
     let v = prog_tables::word_in(t, i + 1);
     match k {
-        OperandKind::CONSTANT => Read::Got(v),
+        OperandKind::CONSTANT => Some(v),
         OperandKind::LOCAL => {
             if v < size {
-                return Read::Got(local(st, s, v));
+                return Some(local(st, s, v));
             }
-            Read::Bad
+            None
         }
         OperandKind::ADDRESS => {
             if v <= d {
-                return Read::Got(v);
+                return Some(v);
             }
-            Read::Bad
+            None
         }
         OperandKind::AT_CONSTANT => vm_operands::fetch(m, v),
         OperandKind::AT_LOCAL => {
             if v < size {
                 return vm_operands::fetch(m, local(st, s, v));
             }
-            Read::Bad
+            None
         }
         OperandKind::AT_ADDRESS => {
             if v <= d {
                 return vm_operands::fetch(m, v);
             }
-            Read::Bad
+            None
         }
-        _ => Read::Bad,
+        _ => None,
     }
 }
 
 // The word of the first operand of row n, where it is good.
-pub fn read_first(t: &[u32], n: u32, d: u32, size: u32, st: &[u32], s: u32, m: &[u8]) -> Read
+pub fn read_first(t: &[u32], n: u32, d: u32, size: u32, st: &[u32], s: u32, m: &[u8]) -> Option<u32>
     requires { (place_of n + statement_row ≤ length t.now) × (s + size ≤ length st.now) }
     ensures { result ≡ good_read size d st.now s m.now (operand_at t.now (first_place (place_of n))) }
 {
@@ -67,7 +67,15 @@ pub fn read_first(t: &[u32], n: u32, d: u32, size: u32, st: &[u32], s: u32, m: &
 }
 
 // That of the second.
-pub fn read_second(t: &[u32], n: u32, d: u32, size: u32, st: &[u32], s: u32, m: &[u8]) -> Read
+pub fn read_second(
+    t: &[u32],
+    n: u32,
+    d: u32,
+    size: u32,
+    st: &[u32],
+    s: u32,
+    m: &[u8],
+) -> Option<u32>
     requires { (place_of n + statement_row ≤ length t.now) × (s + size ≤ length st.now) }
     ensures { result ≡ good_read size d st.now s m.now (operand_at t.now (second_place (place_of n))) }
 {
@@ -75,7 +83,7 @@ pub fn read_second(t: &[u32], n: u32, d: u32, size: u32, st: &[u32], s: u32, m: 
 }
 
 // That of the third.
-pub fn read_third(t: &[u32], n: u32, d: u32, size: u32, st: &[u32], s: u32, m: &[u8]) -> Read
+pub fn read_third(t: &[u32], n: u32, d: u32, size: u32, st: &[u32], s: u32, m: &[u8]) -> Option<u32>
     requires { (place_of n + statement_row ≤ length t.now) × (s + size ≤ length st.now) }
     ensures { result ≡ good_read size d st.now s m.now (operand_at t.now (third_place (place_of n))) }
 {
@@ -83,7 +91,15 @@ pub fn read_third(t: &[u32], n: u32, d: u32, size: u32, st: &[u32], s: u32, m: &
 }
 
 // That of the address operand.
-pub fn read_address(t: &[u32], n: u32, d: u32, size: u32, st: &[u32], s: u32, m: &[u8]) -> Read
+pub fn read_address(
+    t: &[u32],
+    n: u32,
+    d: u32,
+    size: u32,
+    st: &[u32],
+    s: u32,
+    m: &[u8],
+) -> Option<u32>
     requires { (place_of n + statement_row ≤ length t.now) × (s + size ≤ length st.now) }
     ensures { result ≡ good_read size d st.now s m.now (operand_at t.now (address_place (place_of n))) }
 {
@@ -91,7 +107,16 @@ pub fn read_address(t: &[u32], n: u32, d: u32, size: u32, st: &[u32], s: u32, m:
 }
 
 // That of operand i.
-pub fn read_slot(t: &[u32], n: u32, i: u32, d: u32, size: u32, st: &[u32], s: u32, m: &[u8]) -> Read
+pub fn read_slot(
+    t: &[u32],
+    n: u32,
+    i: u32,
+    d: u32,
+    size: u32,
+    st: &[u32],
+    s: u32,
+    m: &[u8],
+) -> Option<u32>
     requires { (place_of n + statement_row ≤ length t.now) × (i < operand_slots) × (s + size ≤ length st.now) }
     ensures { result ≡ good_read size d st.now s m.now (slot_at t.now n i) }
 {
@@ -109,16 +134,15 @@ fn work_one(
     s: u32,
     m: &[u8],
     top: u32,
-) -> Worked
+) -> Result<Value, u32>
     requires { (place_of n + statement_row ≤ length t.now) × (s + size ≤ length st.now) × (length m.now ≤ memory_bytes) }
     ensures { result ≡ one_read t.now (place_of n) size d st.now s m.now top e }
 {
-    let f = read_first(t, n, d, size, st, s, m);
-    let Read::Got(x) = f else {
-        return Worked::Stop(32);
+    let Some(x) = read_first(t, n, d, size, st, s, m) else {
+        return Err(32);
     };
     if e == ExpressionKind::PLAIN {
-        return Worked::Value { word: x, top: top };
+        return Ok(Value { word: x, top });
     }
     vm_operands::apply(e, x, 0, m, top)
 }
@@ -134,23 +158,30 @@ fn work_two(
     s: u32,
     m: &[u8],
     top: u32,
-) -> Worked
+) -> Result<Value, u32>
     requires { (place_of n + statement_row ≤ length t.now) × (s + size ≤ length st.now) × (length m.now ≤ memory_bytes) }
     ensures { result ≡ two_read t.now (place_of n) size d st.now s m.now top e }
 {
-    let f = read_first(t, n, d, size, st, s, m);
-    let Read::Got(x) = f else {
-        return Worked::Stop(32);
+    let Some(x) = read_first(t, n, d, size, st, s, m) else {
+        return Err(32);
     };
-    let g = read_second(t, n, d, size, st, s, m);
-    let Read::Got(y) = g else {
-        return Worked::Stop(32);
+    let Some(y) = read_second(t, n, d, size, st, s, m) else {
+        return Err(32);
     };
     vm_operands::apply(e, x, y, m, top)
 }
 
 // The expression of row n, where it is no call.
-pub fn work(t: &[u32], n: u32, d: u32, size: u32, st: &[u32], s: u32, m: &[u8], top: u32) -> Worked
+pub fn work(
+    t: &[u32],
+    n: u32,
+    d: u32,
+    size: u32,
+    st: &[u32],
+    s: u32,
+    m: &[u8],
+    top: u32,
+) -> Result<Value, u32>
     requires { (place_of n + statement_row ≤ length t.now) × (s + size ≤ length st.now) × (length m.now ≤ memory_bytes) }
     ensures { result ≡ good_work t.now (place_of n) size d st.now s m.now top }
 {
@@ -162,7 +193,7 @@ pub fn work(t: &[u32], n: u32, d: u32, size: u32, st: &[u32], s: u32, m: &[u8], 
     if k == 2 {
         return work_two(t, n, e, d, size, st, s, m, top);
     }
-    Worked::Stop(0)
+    Err(0)
 }
 
 // The frame size of the good `function` row g of c rows; 0 where it is none.

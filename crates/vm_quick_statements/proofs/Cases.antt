@@ -1,5 +1,7 @@
 -- The ways through the statements of a plain run.
 -- Assumes nothing.
+use Rattle.std.proofs.Common.{Err, None, Option, Some, Ok}
+use Rattle.vm_definitions.specs.Operands.{Worked, valued}
 use mathlib.Core.Path.{◌≡◌, refl, sym, ◌∙◌, ap}
 use mathlib.Core.Bool.{Bool, true, false}
 use mathlib.Core.List.{List, [], ◌∷◌}
@@ -18,22 +20,18 @@ use Rattle.prog_tables.proofs.Each.{both_right}
 use Rattle.vm_definitions.specs.Access.{byte_address, word_address, byte_good, word_good, store_from}
 use Rattle.vm_definitions.specs.Operands.{on_read}
 use Rattle.vm_definitions.specs.Expressions.{test_holds}
-use Rattle.vm_definitions.specs.declared.Read.{Read}
-use Rattle.vm_definitions.specs.declared.Read.TheVariants.{Got, Bad}
-use Rattle.vm_definitions.specs.declared.Worked.{Worked}
-use Rattle.vm_definitions.specs.declared.Worked.TheVariants.{Value, Stop}
 use Rattle.vm_quick_operands.specs.Fast.{good_read, good_work}
 use Rattle.vm_quick_statements.specs.declared.Move.{Move}
-use Rattle.vm_quick_statements.specs.declared.Move.TheVariants.{To, Stays}
-use Rattle.vm_quick_statements.specs.declared.Three.{Three}
-use Rattle.vm_quick_statements.specs.declared.Three.TheVariants.{All, Unread}
+use Rattle.vm_definitions.specs.declared.Value.{Value}
+use Rattle.vm_statements.specs.Three.{store}
+use Rattle.vm_statements.specs.declared.Store.{Store}
 use Rattle.vm_quick_statements.specs.declared.PlainRun.{PlainRun}
-use Rattle.vm_quick_statements.specs.PlainRun.{Taken, taken, aimed, quick_jump, quick_block, quick_end, three_read, assigned_by, quick_assign, byte_by, quick_byte, word_by, quick_word, stored_by, stored_at, quick_at, quick_test, quick_jumps, quick_stores, quick_kind, quick_form, quick_step, Ended, ended_with, adding, on_move, plain_run_of}
+use Rattle.vm_quick_statements.specs.PlainRun.{to_row, Taken, taken, aimed, quick_jump, quick_block, quick_end, three_read, assigned_by, quick_assign, byte_by, quick_byte, word_by, quick_word, stored_by, stored_at, quick_at, quick_test, quick_jumps, quick_stores, quick_kind, quick_form, quick_step, Ended, ended_with, adding, on_move, plain_run_of}
 use Rattle.prog_tables.proofs.Ranges.{one_more_lem}
 
 -- the statement behind row n
-onward : (n top : ℕ) (st m : List ℕ) → taken (To (n + 1) top) st m ≡ taken (To (suc n) top) st m
-onward n top st m = ap (λ (i : ℕ). taken (To i top) st m) (one_more_lem n)
+onward : (n top : ℕ) (st m : List ℕ) → taken (to_row (n + 1) top) st m ≡ taken (to_row (suc n) top) st m
+onward n top st m = ap (λ (i : ℕ). taken (to_row i top) st m) (one_more_lem n)
 
 -- ---- targets
 
@@ -49,11 +47,11 @@ module _ (t : List ℕ) (c g a : ℕ) where
 pub ruleset aiming = (aim-past, aim-own)
 
 module _ (t : List ℕ) (c g n top a : ℕ) (b : Bool) (e : a ≡ get_or t (n * 27 + 4) 0) (p : b ≡ aimed t c g a) where
-  pub jump_to : b ≡ true → To a top ≡ quick_jump t c g n top
+  pub jump_to : b ≡ true → to_row a top ≡ quick_jump t c g n top
   unfolding quick_jump if_true
   jump_to h = rw (← e, ← p, h)
 
-  pub jump-not : b ≡ false → Stays ≡ quick_jump t c g n top
+  pub jump-not : b ≡ false → None ≡ quick_jump t c g n top
   unfolding quick_jump if_true
   jump-not h = rw (← e, ← p, h)
 
@@ -67,55 +65,55 @@ open-words st st₁ st' at top b q o =
     o ∙ ap (λ (z : List ℕ). store_from z (at + 1) (replicate b 0)) q ∙ ap (λ (i : ℕ). store_from (set st at top) i (replicate b 0)) (one_more_lem at)
 
 module _ (t : List ℕ) (size : ℕ) (st : List ℕ) (s : ℕ) (m : List ℕ) (n top a b : ℕ) (e : a ≡ get_or t (n * 27 + 4) 0) (p : b ≡ get_or t (n * 27 + 5) 0) where
-  pub block-head : a < 3 → taken Stays st m ≡ quick_block t size st s m n top
+  pub block-head : a < 3 → taken None st m ≡ quick_block t size st s m n top
   unfolding quick_block if_lt
   block-head l = rw (← e, lt-ltb a 3 l)
 
-  pub block-past : 3 ≤ a → size ≤ a + b → taken Stays st m ≡ quick_block t size st s m n top
+  pub block-past : 3 ≤ a → size ≤ a + b → taken None st m ≡ quick_block t size st s m n top
   unfolding quick_block if_lt
   block-past l h = rw (← e, ← p, le-ltb a 3 l, le-ltb (a + b) size h)
 
-  pub block_in : (st' : List ℕ) → 3 ≤ a → a + b < size → st' ≡ store_from st (s + a) (top ∷ replicate b 0) → taken (To (n + 1) top) st' m ≡ quick_block t size st s m n top
+  pub block_in : (st' : List ℕ) → 3 ≤ a → a + b < size → st' ≡ store_from st (s + a) (top ∷ replicate b 0) → taken (to_row (n + 1) top) st' m ≡ quick_block t size st s m n top
   unfolding quick_block if_lt
   block_in st' l h o =
-      onward n top st' m ∙ rw (← e, ← p, le-ltb a 3 l, lt-ltb (a + b) size h) (ap (λ (z : List ℕ). taken (To (suc n) top) z m) o)
+      onward n top st' m ∙ rw (← e, ← p, le-ltb a 3 l, lt-ltb (a + b) size h) (ap (λ (z : List ℕ). taken (to_row (suc n) top) z m) o)
 
 pub ruleset blocks = (block-head, block-past, block_in)
 
 module _ (t : List ℕ) (size : ℕ) (st : List ℕ) (s m n a : ℕ) (e : a ≡ get_or t (n * 27 + 4) 0) where
-  pub end-past : size ≤ a → Stays ≡ quick_end t size st s m n
+  pub end-past : size ≤ a → None ≡ quick_end t size st s m n
   unfolding quick_end if_lt
   end-past l = rw (← e, le-ltb a size l)
 
   module _ (x : ℕ) (l : a < size) (p : x ≡ get_or st (s + a) 0) where
-    pub end-high : m < x → Stays ≡ quick_end t size st s m n
+    pub end-high : m < x → None ≡ quick_end t size st s m n
     unfolding quick_end if_lt
     end-high h = rw (← e, lt-ltb a size l, ← p, lt-ltb m x h)
 
-    pub end-restores : x ≤ m → To (n + 1) x ≡ quick_end t size st s m n
+    pub end-restores : x ≤ m → to_row (n + 1) x ≡ quick_end t size st s m n
     unfolding quick_end if_lt
-    end-restores h = rw (← e, lt-ltb a size l, ← p, le-ltb m x h) (ap (λ (i : ℕ). To i x) (one_more_lem n))
+    end-restores h = rw (← e, lt-ltb a size l, ← p, le-ltb m x h) (ap (λ (i : ℕ). to_row i x) (one_more_lem n))
 
 pub ruleset ends = (end-past, end-high, end-restores)
 
 -- ---- three operands
 
-module _ (t : List ℕ) (at d size : ℕ) (st : List ℕ) (s : ℕ) (m : List ℕ) (f : Read) (p : f ≡ good_read size d st s m (operand_at t (at + 11))) where
-  pub three-first : f ≡ Bad → Unread ≡ three_read t at d size st s m
+module _ (t : List ℕ) (at d size : ℕ) (st : List ℕ) (s : ℕ) (m : List ℕ) (f : Option ℕ) (p : f ≡ good_read size d st s m (operand_at t (at + 11))) where
+  pub three-first : f ≡ None → None ≡ three_read t at d size st s m
   unfolding three_read on_read
   three-first e = rw (← p, e)
 
-  module _ (x : ℕ) (g : Read) (e : f ≡ Got x) (q : g ≡ good_read size d st s m (operand_at t (at + 13))) where
-    pub three-second : g ≡ Bad → Unread ≡ three_read t at d size st s m
+  module _ (x : ℕ) (g : Option ℕ) (e : f ≡ Some x) (q : g ≡ good_read size d st s m (operand_at t (at + 13))) where
+    pub three-second : g ≡ None → None ≡ three_read t at d size st s m
     unfolding three_read on_read
     three-second h = rw (← p, e, ← q, h)
 
-    module _ (y : ℕ) (k : Read) (h : g ≡ Got y) (o : k ≡ good_read size d st s m (operand_at t (at + 15))) where
-      pub three_third : k ≡ Bad → Unread ≡ three_read t at d size st s m
+    module _ (y : ℕ) (k : Option ℕ) (h : g ≡ Some y) (o : k ≡ good_read size d st s m (operand_at t (at + 15))) where
+      pub three_third : k ≡ None → None ≡ three_read t at d size st s m
       unfolding three_read on_read
       three_third i = rw (← p, e, ← q, h, ← o, i)
 
-      pub three-all : (z : ℕ) → k ≡ Got z → All x y z ≡ three_read t at d size st s m
+      pub three-all : (z : ℕ) → k ≡ Some z → store x y z ≡ three_read t at d size st s m
       unfolding three_read on_read
       three-all z i = rw (← p, e, ← q, h, ← o, i)
 
@@ -133,89 +131,89 @@ word_in n a b e q = leb-true (a + 4) n (both_right (eqb (a % 4) 0) (leb (a + 4) 
 
 module _ (t : List ℕ) (d size : ℕ) (st : List ℕ) (s : ℕ) (m : List ℕ) (n top : ℕ) where
   module _ (a : ℕ) (e : a ≡ get_or t (n * 27 + 4) 0) where
-    pub assign-head : a < 3 → taken Stays st m ≡ quick_assign t d size st s m n top
+    pub assign-head : a < 3 → taken None st m ≡ quick_assign t d size st s m n top
     unfolding quick_assign if_lt
     assign-head l = rw (← e, lt-ltb a 3 l)
 
-    pub assign-past : 3 ≤ a → size ≤ a → taken Stays st m ≡ quick_assign t d size st s m n top
+    pub assign-past : 3 ≤ a → size ≤ a → taken None st m ≡ quick_assign t d size st s m n top
     unfolding quick_assign if_lt
     assign-past l h = rw (← e, le-ltb a 3 l, le-ltb a size h)
 
     module _ (x : Worked) (l : 3 ≤ a) (h : a < size) (p : x ≡ good_work t (n * 27) size d st s m top) where
-      pub assign-value : (v end : ℕ) (st' : List ℕ) → x ≡ Value v end → st' ≡ set st (s + a) v → taken (To (n + 1) end) st' m ≡ quick_assign t d size st s m n top
+      pub assign-value : (v : Value) (st' : List ℕ) → x ≡ Ok v → st' ≡ set st (s + a) v.word → taken (to_row (n + 1) v.top) st' m ≡ quick_assign t d size st s m n top
       unfolding quick_assign assigned_by if_lt
-      assign-value v end st' q o = onward n end st' m ∙ rw (← e, le-ltb a 3 l, lt-ltb a size h, ← p, q, o, e)
+      assign-value v st' q o = onward n v.top st' m ∙ rw (← e, le-ltb a 3 l, lt-ltb a size h, ← p, q, o, e)
 
-      pub assign-stop : (k : ℕ) → x ≡ Stop k → taken Stays st m ≡ quick_assign t d size st s m n top
+      pub assign-stop : (k : ℕ) → x ≡ Err k → taken None st m ≡ quick_assign t d size st s m n top
       unfolding quick_assign assigned_by if_lt
       assign-stop k q = rw (← e, le-ltb a 3 l, lt-ltb a size h, ← p, q)
 
   -- a call is none of the statements of a plain run
-  assign-none : (x : ℕ) → x ≡ get_or t (n * 27 + 6) 0 → x ≡ 2 → taken Stays st m ≡ assigned_by t d size st s m n top (good_work t (n * 27) size d st s m top)
+  assign-none : (x : ℕ) → x ≡ get_or t (n * 27 + 6) 0 → x ≡ 2 → taken None st m ≡ assigned_by t d size st s m n top (good_work t (n * 27) size d st s m top)
   unfolding assigned_by good_work expression_uses if_eq
   assign-none x e q = rw (← e, q)
 
-  pub assign-call : (x : ℕ) → x ≡ get_or t (n * 27 + 6) 0 → x ≡ 2 → taken Stays st m ≡ quick_assign t d size st s m n top
+  pub assign-call : (x : ℕ) → x ≡ get_or t (n * 27 + 6) 0 → x ≡ 2 → taken None st m ≡ quick_assign t d size st s m n top
   unfolding quick_assign
   assign-call x e q =
-      either (λ (y : Taken). taken Stays st m ≡ y) (get_or t (n * 27 + 4) 0) 3 _ _ (λ l. refl)
-      (λ l. either (λ (y : Taken). taken Stays st m ≡ y) (get_or t (n * 27 + 4) 0) size _ _ (λ h. assign-none x e q) (λ h. refl))
+      either (λ (y : Taken). taken None st m ≡ y) (get_or t (n * 27 + 4) 0) 3 _ _ (λ l. refl)
+      (λ l. either (λ (y : Taken). taken None st m ≡ y) (get_or t (n * 27 + 4) 0) size _ _ (λ h. assign-none x e q) (λ h. refl))
 
   -- `set-byte` and `set-word`
-  module _ (x : Three) (p : x ≡ three_read t (n * 27) d size st s m) where
-    pub byte-unread : x ≡ Unread → taken Stays st m ≡ quick_byte t d size st s m n top
+  module _ (x : Option Store) (p : x ≡ three_read t (n * 27) d size st s m) where
+    pub byte-unread : x ≡ None → taken None st m ≡ quick_byte t d size st s m n top
     unfolding quick_byte byte_by
     byte-unread e = rw (← p, e)
 
-    pub word-unread : x ≡ Unread → taken Stays st m ≡ quick_word t d size st s m n top
+    pub word-unread : x ≡ None → taken None st m ≡ quick_word t d size st s m n top
     unfolding quick_word word_by
     word-unread e = rw (← p, e)
 
-    module _ (base offset value a : ℕ) (e : x ≡ All base offset value) (b : Bool) where
-      pub byte-out : a ≡ byte_address Bits32 base offset → b ≡ byte_good (length m) a → b ≡ false → taken Stays st m ≡ quick_byte t d size st s m n top
+    module _ (y : Store) (a : ℕ) (e : x ≡ Some y) (b : Bool) where
+      pub byte-out : a ≡ byte_address Bits32 y.base y.offset → b ≡ byte_good (length m) a → b ≡ false → taken None st m ≡ quick_byte t d size st s m n top
       unfolding quick_byte byte_by if_true
       byte-out q o h = rw (← p, e, ← q, ← o, h)
 
-      pub byte-stored : (m' : List ℕ) → a ≡ byte_address Bits32 base offset → b ≡ byte_good (length m) a → b ≡ true → m' ≡ store_from m a (value % 256 ∷ [])
-          → taken (To (n + 1) top) st m' ≡ quick_byte t d size st s m n top
+      pub byte-stored : (m' : List ℕ) → a ≡ byte_address Bits32 y.base y.offset → b ≡ byte_good (length m) a → b ≡ true → m' ≡ store_from m a (y.value % 256 ∷ [])
+          → taken (to_row (n + 1) top) st m' ≡ quick_byte t d size st s m n top
       unfolding quick_byte byte_by if_true
       byte-stored m' q o h z = onward n top st m' ∙ rw (← p, e, ← q, ← o, h, z)
 
-      pub word_out : a ≡ word_address Bits32 base offset → b ≡ word_good Bits32 (length m) a → b ≡ false → taken Stays st m ≡ quick_word t d size st s m n top
+      pub word_out : a ≡ word_address Bits32 y.base y.offset → b ≡ word_good Bits32 (length m) a → b ≡ false → taken None st m ≡ quick_word t d size st s m n top
       unfolding quick_word word_by if_true
       word_out q o h = rw (← p, e, ← q, ← o, h)
 
-      pub word-stored : (m' : List ℕ) → a ≡ word_address Bits32 base offset → b ≡ word_good Bits32 (length m) a → b ≡ true → m' ≡ store_from m a (word_bytes 4 value)
-          → taken (To (n + 1) top) st m' ≡ quick_word t d size st s m n top
+      pub word-stored : (m' : List ℕ) → a ≡ word_address Bits32 y.base y.offset → b ≡ word_good Bits32 (length m) a → b ≡ true → m' ≡ store_from m a (word_bytes 4 y.value)
+          → taken (to_row (n + 1) top) st m' ≡ quick_word t d size st s m n top
       unfolding quick_word word_by if_true
       word-stored m' q o h z = onward n top st m' ∙ rw (← p, e, ← q, ← o, h, z)
 
   -- `set @`
   module _ (a : ℕ) (x : Worked) (p : x ≡ good_work t (n * 27) size d st s m top) where
-    pub stored-value : (v end : ℕ) (m' : List ℕ) → x ≡ Value v end → m' ≡ store_from m a (word_bytes 4 v) → taken (To (n + 1) end) st m' ≡ stored_at t d size st s m n top a
+    pub stored-value : (v : Value) (m' : List ℕ) → x ≡ Ok v → m' ≡ store_from m a (word_bytes 4 v.word) → taken (to_row (n + 1) v.top) st m' ≡ stored_at t d size st s m n top a
     unfolding stored_at stored_by
-    stored-value v end m' q o = onward n end st m' ∙ rw (← p, q, o)
+    stored-value v m' q o = onward n v.top st m' ∙ rw (← p, q, o)
 
-    pub stored-stop : (k : ℕ) → x ≡ Stop k → taken Stays st m ≡ stored_at t d size st s m n top a
+    pub stored-stop : (k : ℕ) → x ≡ Err k → taken None st m ≡ stored_at t d size st s m n top a
     unfolding stored_at stored_by
     stored-stop k q = rw (← p, q)
 
   module _ (k : ℕ) (e : k ≡ get_or t (n * 27 + 9) 0) where
-    pub at_listed : 3 < k → taken Stays st m ≡ quick_at t d size st s m n top
+    pub at_listed : 3 < k → taken None st m ≡ quick_at t d size st s m n top
     unfolding quick_at if_lt
     at_listed l = rw (← e, lt-ltb 3 k l)
 
-    module _ (f : Read) (l : k ≤ 3) (p : f ≡ good_read size d st s m (operand_at t (n * 27 + 9))) where
-      pub at-unread : f ≡ Bad → taken Stays st m ≡ quick_at t d size st s m n top
+    module _ (f : Option ℕ) (l : k ≤ 3) (p : f ≡ good_read size d st s m (operand_at t (n * 27 + 9))) where
+      pub at-unread : f ≡ None → taken None st m ≡ quick_at t d size st s m n top
       unfolding quick_at if_lt on_read
       at-unread q = rw (← e, le-ltb 3 k l, ← p, q)
 
-      module _ (a : ℕ) (b : Bool) (q : f ≡ Got a) (h : b ≡ word_good Bits32 (length m) a) where
-        pub at_out : b ≡ false → taken Stays st m ≡ quick_at t d size st s m n top
+      module _ (a : ℕ) (b : Bool) (q : f ≡ Some a) (h : b ≡ word_good Bits32 (length m) a) where
+        pub at_out : b ≡ false → taken None st m ≡ quick_at t d size st s m n top
         unfolding quick_at if_lt on_read if_true
         at_out z = rw (← e, le-ltb 3 k l, ← p, q, ← h, z)
 
-        pub at_stored : (r : Move) (m' : List ℕ) → b ≡ true → taken r st m' ≡ stored_at t d size st s m n top a → taken r st m' ≡ quick_at t d size st s m n top
+        pub at_stored : (r : Option Move) (m' : List ℕ) → b ≡ true → taken r st m' ≡ stored_at t d size st s m n top a → taken r st m' ≡ quick_at t d size st s m n top
         unfolding quick_at if_lt on_read if_true
         at_stored r m' z o = rw (← e, le-ltb 3 k l, ← p, q, ← h, z) o
 
@@ -233,30 +231,30 @@ pub ruleset ats = (at_listed, at-unread, at_out, at_stored)
 
 module _ (t : List ℕ) (c g d size : ℕ) (st : List ℕ) (s : ℕ) (m : List ℕ) (n top : ℕ) where
   module _ (k a : ℕ) (b : Bool) (e : a ≡ get_or t (n * 27 + 4) 0) (i : b ≡ aimed t c g a) where
-    pub test-not : b ≡ false → taken Stays st m ≡ quick_test t c g d size st s m n top k
+    pub test-not : b ≡ false → taken None st m ≡ quick_test t c g d size st s m n top k
     unfolding quick_test if_true
     test-not h = rw (← e, ← i, h)
 
-    module _ (f : Read) (h : b ≡ true) (p : f ≡ good_read size d st s m (operand_at t (n * 27 + 11))) where
-      pub test-unread : f ≡ Bad → taken Stays st m ≡ quick_test t c g d size st s m n top k
+    module _ (f : Option ℕ) (h : b ≡ true) (p : f ≡ good_read size d st s m (operand_at t (n * 27 + 11))) where
+      pub test-unread : f ≡ None → taken None st m ≡ quick_test t c g d size st s m n top k
       unfolding quick_test if_true on_read
       test-unread q = rw (← e, ← i, h, ← p, q)
 
-      module _ (x : ℕ) (r : Read) (q : f ≡ Got x) (o : r ≡ good_read size d st s m (operand_at t (n * 27 + 13))) where
-        pub test-half : r ≡ Bad → taken Stays st m ≡ quick_test t c g d size st s m n top k
+      module _ (x : ℕ) (r : Option ℕ) (q : f ≡ Some x) (o : r ≡ good_read size d st s m (operand_at t (n * 27 + 13))) where
+        pub test-half : r ≡ None → taken None st m ≡ quick_test t c g d size st s m n top k
         unfolding quick_test if_true on_read
         test-half z = rw (← e, ← i, h, ← p, q, ← o, z)
 
-        pub test-goes : (y : ℕ) (v : Move) → r ≡ Got y → v ≡ To (if_true (test_holds Bits32 k x y) (suc n) a) top → taken v st m ≡ quick_test t c g d size st s m n top k
+        pub test-goes : (y : ℕ) (v : Option Move) → r ≡ Some y → v ≡ to_row (if_true (test_holds Bits32 k x y) (suc n) a) top → taken v st m ≡ quick_test t c g d size st s m n top k
         unfolding quick_test if_true on_read
-        test-goes y v z w = rw (← e, ← i, h, ← p, q, ← o, z) (ap (λ (u : Move). taken u st m) w)
+        test-goes y v z w = rw (← e, ← i, h, ← p, q, ← o, z) (ap (λ (u : Option Move). taken u st m) w)
 
 module _ (n top k a x y : ℕ) (v : Bool) (w : v ≡ test_holds Bits32 k x y) where
-  pub branch-on : v ≡ true → To (n + 1) top ≡ To (if_true (test_holds Bits32 k x y) (suc n) a) top
+  pub branch-on : v ≡ true → to_row (n + 1) top ≡ to_row (if_true (test_holds Bits32 k x y) (suc n) a) top
   unfolding if_true
-  branch-on j = rw (← w, j) (ap (λ (i : ℕ). To i top) (one_more_lem n))
+  branch-on j = rw (← w, j) (ap (λ (i : ℕ). to_row i top) (one_more_lem n))
 
-  pub branch-off : v ≡ false → To a top ≡ To (if_true (test_holds Bits32 k x y) (suc n) a) top
+  pub branch-off : v ≡ false → to_row a top ≡ to_row (if_true (test_holds Bits32 k x y) (suc n) a) top
   unfolding if_true
   branch-off j = rw (← w, j)
 
@@ -267,7 +265,7 @@ pub ruleset tests = (test-not, test-unread, test-half, test-goes)
 -- ---- by the kind
 
 module _ (t : List ℕ) (c g d size : ℕ) (st : List ℕ) (s : ℕ) (m : List ℕ) (n top k : ℕ) (b : Bool) (e : k ≡ get_or t (n * 27) 0) (v : b ≡ is_test k) where
-  module _ (r : Move) (st' m' : List ℕ) where
+  module _ (r : Option Move) (st' m' : List ℕ) where
     pub form-test : b ≡ true → taken r st m ≡ quick_test t c g d size st s m n top k → taken r st m ≡ quick_form t c g d size st s m n top
     unfolding quick_form quick_kind if_true
     form-test h q = rw (← e, ← v, h) q
@@ -278,7 +276,7 @@ module _ (t : List ℕ) (c g d size : ℕ) (st : List ℕ) (s : ℕ) (m : List �
 
     pub form-end : k ≡ 4 → r ≡ quick_end t size st s (length m) n → taken r st m ≡ quick_form t c g d size st s m n top
     unfolding quick_form quick_kind is_test if_lt if_eq if_true
-    form-end h q = rw (← e, h) (ap (λ (x : Move). taken x st m) q)
+    form-end h q = rw (← e, h) (ap (λ (x : Option Move). taken x st m) q)
 
     pub form-let : k ≡ 5 → taken r st' m ≡ quick_assign t d size st s m n top → taken r st' m ≡ quick_form t c g d size st s m n top
     unfolding quick_form quick_kind is_test if_lt if_eq if_true
@@ -302,22 +300,22 @@ module _ (t : List ℕ) (c g d size : ℕ) (st : List ℕ) (s : ℕ) (m : List �
 
     pub form-goto : k ≡ 10 → r ≡ quick_jump t c g n top → taken r st m ≡ quick_form t c g d size st s m n top
     unfolding quick_form quick_kind quick_stores quick_jumps is_test if_lt if_eq if_true
-    form-goto h q = rw (← e, h) (ap (λ (x : Move). taken x st m) q)
+    form-goto h q = rw (← e, h) (ap (λ (x : Option Move). taken x st m) q)
 
     pub form-else : k ≡ 20 → r ≡ quick_jump t c g n top → taken r st m ≡ quick_form t c g d size st s m n top
     unfolding quick_form quick_kind quick_stores quick_jumps is_test if_lt if_eq if_true
-    form-else h q = rw (← e, h) (ap (λ (x : Move). taken x st m) q)
+    form-else h q = rw (← e, h) (ap (λ (x : Option Move). taken x st m) q)
 
     pub form-arm : k ≡ 21 → r ≡ quick_jump t c g n top → taken r st m ≡ quick_form t c g d size st s m n top
     unfolding quick_form quick_kind quick_stores quick_jumps is_test if_lt if_eq if_true
-    form-arm h q = rw (← e, h) (ap (λ (x : Move). taken x st m) q)
+    form-arm h q = rw (← e, h) (ap (λ (x : Option Move). taken x st m) q)
 
-  pub form-end-if : k ≡ 22 → taken (To (n + 1) top) st m ≡ quick_form t c g d size st s m n top
+  pub form-end-if : k ≡ 22 → taken (to_row (n + 1) top) st m ≡ quick_form t c g d size st s m n top
   unfolding quick_form quick_kind quick_stores quick_jumps is_test if_lt if_eq if_true
   form-end-if h = onward n top st m ∙ rw (← e, h)
 
   pub form-none : b ≡ false → (k ≡ 3 → ⊥) → (k ≡ 4 → ⊥) → (k ≡ 5 → ⊥) → (k ≡ 6 → ⊥) → (k ≡ 7 → ⊥) → (k ≡ 8 → ⊥) → (k ≡ 9 → ⊥) → (k ≡ 10 → ⊥) → (k ≡ 20 → ⊥) → (k ≡ 21 → ⊥)
-      → (k ≡ 22 → ⊥) → taken Stays st m ≡ quick_form t c g d size st s m n top
+      → (k ≡ 22 → ⊥) → taken None st m ≡ quick_form t c g d size st s m n top
   unfolding quick_form quick_kind quick_stores quick_jumps if_true if_eq
   form-none h a3 a4 a5 a6 a7 a8 a9 a10 a20 a21 a22 =
       rw (
@@ -341,16 +339,16 @@ pub ruleset forms =
     (form-test, form-block, form-end, form-let, form-set, form-at, form-byte, form-word, form-goto, form-else, form-arm, form-end-if, form-none)
 
 module _ (t : List ℕ) (c g d size : ℕ) (st : List ℕ) (s : ℕ) (m : List ℕ) (n top : ℕ) where
-  pub step_past : c ≤ n → taken Stays st m ≡ quick_step t c g d size st s m n top
+  pub step_past : c ≤ n → taken None st m ≡ quick_step t c g d size st s m n top
   unfolding quick_step if_lt
   step_past l = rw (le-ltb n c l)
 
   module _ (own : ℕ) (l : n < c) (e : own ≡ get_or t (n * 27 + 1) 0) where
-    pub step_other : (own ≡ g → ⊥) → taken Stays st m ≡ quick_step t c g d size st s m n top
+    pub step_other : (own ≡ g → ⊥) → taken None st m ≡ quick_step t c g d size st s m n top
     unfolding quick_step if_lt if_eq
     step_other h = rw (lt-ltb n c l, ← e, ne_eqb own g h)
 
-    pub step-own : (r : Move) (st' m' : List ℕ) → own ≡ g → taken r st' m' ≡ quick_form t c g d size st s m n top → taken r st' m' ≡ quick_step t c g d size st s m n top
+    pub step-own : (r : Option Move) (st' m' : List ℕ) → own ≡ g → taken r st' m' ≡ quick_form t c g d size st s m n top → taken r st' m' ≡ quick_step t c g d size st s m n top
     unfolding quick_step if_lt if_eq
     step-own r st' m' h q = rw (lt-ltb n c l, ← e, eq-eqb own g h) q
 
@@ -389,7 +387,7 @@ module _ (t : List ℕ) (c g d size s : ℕ) where
       }
 
   module _ (budget : ℕ) (st₀ m₀ : List ℕ) (n₀ top₀ : ℕ) (st m : List ℕ) (n top count : ℕ) (h : SoFar budget st₀ m₀ n₀ top₀ st m n top count) where
-    module _ (x : Move) (st' m' : List ℕ) (l : count < budget) (q : taken x st' m' ≡ quick_step t c g d size st s m n top) where
+    module _ (x : Option Move) (st' m' : List ℕ) (l : count < budget) (q : taken x st' m' ≡ quick_step t c g d size st s m n top) where
       one : plain_run_of t c g d size s (budget - count) st m n top
           ≡ on_move x (record { next = n; top = top; count = 0; stack = st'; memory = m' })
           (λ i e. adding 1 (plain_run_of t c g d size s (budget - (count + 1)) st' m' i e))
@@ -402,7 +400,7 @@ module _ (t : List ℕ) (c g d size s : ℕ) where
           (λ i e. adding 1 (plain_run_of t c g d size s (budget - (count + 1)) y.stack y.memory i e)))
           (sym q)
 
-      pub so-more : (i e : ℕ) → x ≡ To i e → length st' ≡ length st → length m' ≡ length m → SoFar budget st₀ m₀ n₀ top₀ st' m' i e (count + 1)
+      pub so-more : (i e : ℕ) → x ≡ to_row i e → length st' ≡ length st → length m' ≡ length m → SoFar budget st₀ m₀ n₀ top₀ st' m' i e (count + 1)
       unfolding on_move
       so-more i e o ls lm =
           record {
@@ -415,7 +413,7 @@ module _ (t : List ℕ) (c g d size s : ℕ) where
                 ∙ h.rest;
           }
 
-      pub so-stays : x ≡ Stays → ended_with (record { next = n; top = top; count = count }) st' m' ≡ plain_run_of t c g d size s budget st₀ m₀ n₀ top₀
+      pub so-stays : x ≡ None → ended_with (record { next = n; top = top; count = count }) st' m' ≡ plain_run_of t c g d size s budget st₀ m₀ n₀ top₀
       unfolding on_move adding
       so-stays o =
           let z : count ≡ count + 0 = omega arith in
@@ -423,11 +421,11 @@ module _ (t : List ℕ) (c g d size s : ℕ) where
           ∙ ap (adding count) (sym (one ∙ rw o))
           ∙ h.rest
 
-    pub so-done : budget ≤ count → ended_with (record { next = n; top = top; count = count }) st m ≡ plain_run_of t c g d size s budget st₀ m₀ n₀ top₀
+    pub so-done : budget ≤ count → ended_with (record { next = n; top = top; count = budget }) st m ≡ plain_run_of t c g d size s budget st₀ m₀ n₀ top₀
     unfolding adding plain_run_of
     so-done l =
         let z : budget - count ≡ 0 = omega (arith, l) in
-        let y : count ≡ count + 0 = omega arith in
+        let y : budget ≡ count + 0 = omega (arith, h.below) in
         ap (λ (i : ℕ). record { next = n; top = top; count = i; stack = st; memory = m }) y
         ∙ ap (λ (b : ℕ). adding count (plain_run_of t c g d size s b st m n top)) (sym z)
         ∙ h.rest

@@ -1,5 +1,7 @@
 -- A statement that a plain run takes is good, and has the effect that the machine's definitions give it.
 -- Assumes nothing.
+use Rattle.std.proofs.Common.{Err, None, Option, Some, Ok}
+use Rattle.vm_definitions.specs.Operands.{Worked, valued}
 use mathlib.Core.Path.{◌≡◌, refl, sym, ◌∙◌, ap, subst}
 use mathlib.Core.Bool.{Bool, true, false, not}
 use mathlib.Core.List.{List, [], ◌∷◌}
@@ -30,20 +32,15 @@ use Rattle.vm_definitions.specs.Frames.{is_return, is_calling, importing, head_g
 use Rattle.vm_definitions.proofs.Words.{word-32}
 use Rattle.vm_definitions.specs.Step.{Effect, leaves, keeps, stores, goes_to, block_of, end_block_of, test_of, assigned, assigned_at, set_at_of, set_byte_by, set_word_by, arguments_of, worked_of, effect_of}
 use Rattle.vm_definitions.specs.Lent.{world}
-use Rattle.vm_definitions.specs.declared.Read.{Read}
-use Rattle.vm_definitions.specs.declared.Read.TheVariants.{Got, Bad}
-use Rattle.vm_definitions.specs.declared.Worked.{Worked}
-use Rattle.vm_definitions.specs.declared.Worked.TheVariants.{Value, Stop}
 use Rattle.vm_definitions.proofs.Kept.{TopIn, top-eval}
 use Rattle.vm_definitions.proofs.Stores.{store_length, store-before}
 use Rattle.vm_quick_operands.specs.Fast.{good_read, good_work}
 use Rattle.vm_quick_operands.proofs.Good.{Sound, good-read, Valued, good-work, no-fault, Function, row_within, row-size, bad-got}
 use Rattle.vm_statements.proofs.Forms.{test-bare, test-row, test-uncalled, test-own, of_test}
 use Rattle.vm_quick_statements.specs.declared.Move.{Move}
-use Rattle.vm_quick_statements.specs.declared.Move.TheVariants.{To, Stays}
-use Rattle.vm_quick_statements.specs.declared.Three.{Three}
-use Rattle.vm_quick_statements.specs.declared.Three.TheVariants.{All, Unread}
-use Rattle.vm_quick_statements.specs.PlainRun.{Taken, taken, aimed, quick_jump, quick_block, quick_end, three_read, assigned_by, quick_assign, byte_by, quick_byte, word_by, quick_word, stored_by, stored_at, quick_at, quick_test, quick_jumps, quick_stores, quick_kind, quick_form, quick_step}
+use Rattle.vm_statements.specs.Three.{store}
+use Rattle.vm_statements.specs.declared.Store.{Store}
+use Rattle.vm_quick_statements.specs.PlainRun.{to_row, Taken, taken, aimed, quick_jump, quick_block, quick_end, three_read, assigned_by, quick_assign, byte_by, quick_byte, word_by, quick_word, stored_by, stored_at, quick_at, quick_test, quick_jumps, quick_stores, quick_kind, quick_form, quick_step}
 use Rattle.vm_quick_statements.proofs.ByKind.{Sets, Jumps, let-sets, set-sets, goto-jumps, else-jumps, else-if-jumps, one_of_two, all_three, plain-call, plain-import}
 use Rattle.prog_tables.proofs.CallRows.{bare-call, bare-import}
 use Rattle.prog_tables.proofs.Each.{both_false}
@@ -118,9 +115,9 @@ module _ (t : List ℕ) (c : ℕ) (lw : List ℕ) (lc g d size : ℕ) (r : Machi
     pub stack : st' ≡ st
     pub memory : m' ≡ m
 
-  unfoldable pub RightBy : Move → List ℕ → List ℕ → Type 0
-  RightBy (To i end) st' m' = Went i end st' m'
-  RightBy Stays st' m' = Same st' m'
+  unfoldable pub RightBy : Option Move → List ℕ → List ℕ → Type 0
+  RightBy (Some go) st' m' = Went go.next go.top st' m'
+  RightBy None st' m' = Same st' m'
 
   abbrev pub Right : Taken → Type 0
   Right x = RightBy x.move x.stack x.memory
@@ -132,7 +129,7 @@ module _ (t : List ℕ) (c : ℕ) (lw : List ℕ) (lc g d size : ℕ) (r : Machi
     sized : size_at (row_at t) c n ≡ size
     sized = row-size t c g size h.function n own
 
-    stays : Right (taken Stays st m)
+    stays : Right (taken None st m)
     unfolding RightBy
     stays = record { stack = refl; memory = refl }
 
@@ -200,9 +197,9 @@ module _ (t : List ℕ) (c : ℕ) (lw : List ℕ) (lc g d size : ℕ) (r : Machi
     right-jump : (aimed t c g a ≡ true → Went a r.top st m) → Right (taken (quick_jump t c g n r.top) st m)
     unfolding quick_jump RightBy
     right-jump go =
-        either_true (λ (x : Move). RightBy x st m) (aimed t c g a) (To a r.top) Stays go (λ e. stays)
+        either_true (λ (x : Option Move). RightBy x st m) (aimed t c g a) (to_row a r.top) None go (λ e. stays)
 
-    right-22 : row.kind ≡ 22 → Right (taken (To (suc n) r.top) st m)
+    right-22 : row.kind ≡ 22 → Right (taken (to_row (suc n) r.top) st m)
     unfolding RightBy kind_fault target_fault has_target size_fault word_fault operands_fault address_fault is_listed has_expression is_test is_return is_calling has_word used_by if_lt if_eq if_true some_of
         effect_of goes_to
     right-22 q =
@@ -252,9 +249,9 @@ module _ (t : List ℕ) (c : ℕ) (lw : List ℕ) (lc g d size : ℕ) (r : Machi
     right-block : row.kind ≡ 3 → Right (quick_block t size st s m n r.top)
     unfolding quick_block RightBy
     right-block q =
-        either Right a 3 (taken Stays st m) _ (λ l. stays) (λ l. either Right (a + get_or t (r.next * 27 + 5) 0) size _ (taken Stays st m) (λ b. went b l) (λ b. stays))
+        either Right a 3 (taken None st m) _ (λ l. stays) (λ l. either Right (a + get_or t (r.next * 27 + 5) 0) size _ (taken None st m) (λ b. went b l) (λ b. stays))
       where
-        went : a + get_or t (r.next * 27 + 5) 0 < size → 3 ≤ a → Right (taken (To (suc n) r.top) (store_from st (s + a) (r.top ∷ replicate (get_or t (r.next * 27 + 5) 0) 0)) m)
+        went : a + get_or t (r.next * 27 + 5) 0 < size → 3 ≤ a → Right (taken (to_row (suc n) r.top) (store_from st (s + a) (r.top ∷ replicate (get_or t (r.next * 27 + 5) 0) 0)) m)
         went b l = went-3 q l b
 
     went-4 : row.kind ≡ 4 → a < size → get_or st (s + a) 0 ≤ length m → Went (suc n) (get_or st (s + a) 0) st m
@@ -282,8 +279,8 @@ module _ (t : List ℕ) (c : ℕ) (lw : List ℕ) (lc g d size : ℕ) (r : Machi
     right_end : row.kind ≡ 4 → Right (taken (quick_end t size st s (length m) n) st m)
     unfolding quick_end RightBy
     right_end q =
-        either (λ (x : Move). RightBy x st m) a size _ Stays
-        (λ l. either (λ (x : Move). RightBy x st m) (length m) (get_or st (s + a) 0) Stays (To (suc n) (get_or st (s + a) 0)) (λ b. stays) (λ b. went-4 q l b)) (λ l. stays)
+        either (λ (x : Option Move). RightBy x st m) a size _ None
+        (λ l. either (λ (x : Option Move). RightBy x st m) (length m) (get_or st (s + a) 0) None (to_row (suc n) (get_or st (s + a) 0)) (λ b. stays) (λ b. went-4 q l b)) (λ l. stays)
 
     -- ---- expressions
 
@@ -292,13 +289,13 @@ module _ (t : List ℕ) (c : ℕ) (lw : List ℕ) (lc g d size : ℕ) (r : Machi
       listed : (k : ℕ) → expression_listed k row.expr ≡ true
       bare : is_call_expression row.expr ≡ false
       operands : some_of (operand_fault size d) (take (expression_uses row.expr row.count) (slots t (n * 27))) ≡ false
-      worked : eval_of Bits32 st s m r.top row.expr (take (expression_uses row.expr row.count) (slots t (n * 27))) ≡ Value v end
+      worked : eval_of Bits32 st s m r.top row.expr (take (expression_uses row.expr row.count) (slots t (n * 27))) ≡ valued v end
       low : end ≤ length m
 
-    top_in : (x : Worked) (v end : ℕ) → TopIn (length m) x → x ≡ Value v end → end ≤ length m
+    top_in : (x : Worked) (v end : ℕ) → TopIn (length m) x → x ≡ valued v end → end ≤ length m
     unfolding TopIn
-    top_in (Value w e) v end p q = let z : e ≡ end = cc in rw z at p
-    top_in (Stop k) v end p q = absurd (let z : ◌≡◌ {A = ℕ} 0 1 = cc in omega arith)
+    top_in (Ok got) v end p q = let z : got.top ≡ end = cc in rw z at p
+    top_in (Err k) v end p q = absurd (let z : ◌≡◌ {A = ℕ} 0 1 = cc in omega arith)
 
     from : (v end : ℕ) → Valued t (n * 27) size d st s m r.top v end → Told v end
     unfolding row_at row_from
@@ -311,7 +308,7 @@ module _ (t : List ℕ) (c : ℕ) (lw : List ℕ) (lc g d size : ℕ) (r : Machi
           low = top_in _ v end (top-eval Bits32 st s m r.top row.expr (take (expression_uses row.expr row.count) (slots t (n * 27))) h.top) (x.worked row.count);
         }
 
-    told : (v end : ℕ) → good_work t (n * 27) size d st s m r.top ≡ Value v end → Told v end
+    told : (v end : ℕ) → good_work t (n * 27) size d st s m r.top ≡ valued v end → Told v end
     told v end e = from v end (good-work t (n * 27) size d st s m r.top v end e)
 
     -- ---- `let` and `set` of a local
@@ -344,12 +341,12 @@ module _ (t : List ℕ) (c : ℕ) (lw : List ℕ) (lc g d size : ℕ) (r : Machi
     right-assign : (3 ≤ a → a < size → (v end : ℕ) → Told v end → Went (suc n) end (set st (s + a) v) m) → Right (quick_assign t d size st s m n r.top)
     unfolding quick_assign assigned_by RightBy
     right-assign go =
-        either Right a 3 (taken Stays st m) _ (λ l. stays)
-        (λ l. either Right a size _ (taken Stays st m) (λ b. by l b (good_work t (n * 27) size d st s m r.top) refl) (λ b. stays))
+        either Right a 3 (taken None st m) _ (λ l. stays)
+        (λ l. either Right a size _ (taken None st m) (λ b. by l b (good_work t (n * 27) size d st s m r.top) refl) (λ b. stays))
       where
         by : 3 ≤ a → a < size → (x : Worked) → good_work t (n * 27) size d st s m r.top ≡ x → Right (assigned_by t d size st s m n r.top x)
-        by l b (Value v end) e = go l b v end (told v end e)
-        by l b (Stop k) e = stays
+        by l b (Ok got) e = go l b got.word got.top (told got.word got.top e)
+        by l b (Err k) e = stays
 
     -- ---- `set @`
 
@@ -358,7 +355,7 @@ module _ (t : List ℕ) (c : ℕ) (lw : List ℕ) (lc g d size : ℕ) (r : Machi
       listed : address_listed (operand_of k v) ≡ true
       number : number_in Bits32 st s (operand_of k v) ≡ x
 
-    got_same : (x y : ℕ) → Got x ≡ Got y → x ≡ y
+    got_same : (x y : ℕ) → Some x ≡ Some y → x ≡ y
     got_same x y e = cc
 
     address-listed : (k v x : ℕ) → k ≤ 3 → Sound size d st s m (operand_of k v) x → Listed k v x
@@ -399,20 +396,20 @@ module _ (t : List ℕ) (c : ℕ) (lw : List ℕ) (lc g d size : ℕ) (r : Machi
     right-at : row.kind ≡ 7 → Right (quick_at t d size st s m n r.top)
     unfolding quick_at stored_by RightBy operand_at on_read stored_at
     right-at q =
-        either Right 3 (get_or t (n * 27 + 9) 0) (taken Stays st m) _ (λ l. stays) (λ l. read l (good_read size d st s m (operand_at t (n * 27 + 9))) refl)
+        either Right 3 (get_or t (n * 27 + 9) 0) (taken None st m) _ (λ l. stays) (λ l. read l (good_read size d st s m (operand_at t (n * 27 + 9))) refl)
       where
         stored : get_or t (n * 27 + 9) 0 ≤ 3 → (x : ℕ) → Sound size d st s m (operand_at t (n * 27 + 9)) x → word_good Bits32 (length m) x ≡ true → (y : Worked)
             → good_work t (n * 27) size d st s m r.top ≡ y → Right (stored_by t d size st s m n r.top x y)
-        stored l x o w (Value v end) e =
+        stored l x o w (Ok got) e =
             let p = address-listed (get_or t (n * 27 + 9) 0) (get_or t (n * 27 + 9 + 1) 0) x l o in
-            went-7 q x v end (rw address_is p.listed) (rw address_is o.good) (rw address_is p.number) w (told v end e)
-        stored l x o w (Stop k) e = stays
+            went-7 q x got.word got.top (rw address_is p.listed) (rw address_is o.good) (rw address_is p.number) w (told got.word got.top e)
+        stored l x o w (Err k) e = stays
 
-        read : get_or t (n * 27 + 9) 0 ≤ 3 → (y : Read) → good_read size d st s m (operand_at t (n * 27 + 9)) ≡ y
-            → Right (on_read y (taken Stays st m) (λ x. if_true (word_good Bits32 (length m) x) (stored_at t d size st s m n r.top x) (taken Stays st m)))
-        read l Bad e = stays
-        read l (Got x) e =
-            either_true Right (word_good Bits32 (length m) x) (stored_at t d size st s m n r.top x) (taken Stays st m)
+        read : get_or t (n * 27 + 9) 0 ≤ 3 → (y : Option ℕ) → good_read size d st s m (operand_at t (n * 27 + 9)) ≡ y
+            → Right (on_read y (taken None st m) (λ x. if_true (word_good Bits32 (length m) x) (stored_at t d size st s m n r.top x) (taken None st m)))
+        read l None e = stays
+        read l (Some x) e =
+            either_true Right (word_good Bits32 (length m) x) (stored_at t d size st s m n r.top x) (taken None st m)
             (λ w. stored l x (good-read size d st s m (operand_at t (n * 27 + 9)) x e) w (good_work t (n * 27) size d st s m r.top) refl) (λ w. stays)
 
     -- ---- `set-byte` and `set-word`
@@ -430,16 +427,16 @@ module _ (t : List ℕ) (c : ℕ) (lw : List ℕ) (lc g d size : ℕ) (r : Machi
     unfolding read_all slots on_read with_word
     three-words x y z o = rw (o.first.word, o.second.word, o.third.word)
 
-    three-ind : (P : Three → Type 0) → P Unread → ((x y z : ℕ) → All3 x y z → P (All x y z)) → P (three_read t (n * 27) d size st s m)
+    three-ind : (P : Option Store → Type 0) → P None → ((x y z : ℕ) → All3 x y z → P (store x y z)) → P (three_read t (n * 27) d size st s m)
     unfolding three_read on_read
     three-ind P u go = by (good_read size d st s m (operand_at t (n * 27 + 11))) (good_read size d st s m (operand_at t (n * 27 + 13))) (good_read size d st s m (operand_at t (n * 27 + 15))) refl refl refl
       where
-        by : (i j k : Read) → good_read size d st s m (operand_at t (n * 27 + 11)) ≡ i → good_read size d st s m (operand_at t (n * 27 + 13)) ≡ j
-            → good_read size d st s m (operand_at t (n * 27 + 15)) ≡ k → P (on_read i Unread (λ x. on_read j Unread (λ y. on_read k Unread (λ z. All x y z))))
-        by Bad j k e f g = u
-        by (Got x) Bad k e f g = u
-        by (Got x) (Got y) Bad e f g = u
-        by (Got x) (Got y) (Got z) e f g =
+        by : (i j k : Option ℕ) → good_read size d st s m (operand_at t (n * 27 + 11)) ≡ i → good_read size d st s m (operand_at t (n * 27 + 13)) ≡ j
+            → good_read size d st s m (operand_at t (n * 27 + 15)) ≡ k → P (on_read i None (λ x. on_read j None (λ y. on_read k None (λ z. store x y z))))
+        by None j k e f g = u
+        by (Some x) None k e f g = u
+        by (Some x) (Some y) None e f g = u
+        by (Some x) (Some y) (Some z) e f g =
             go x y z
             (record {
               first = good-read size d st s m (operand_at t (n * 27 + 11)) x e;
@@ -472,11 +469,11 @@ module _ (t : List ℕ) (c : ℕ) (lw : List ℕ) (lc g d size : ℕ) (r : Machi
 
     right-byte : row.kind ≡ 8 → Right (quick_byte t d size st s m n r.top)
     unfolding quick_byte byte_by RightBy
-    right-byte q = three-ind (λ (x : Three). Right (byte_by t d size st s m n r.top x)) stays all
+    right-byte q = three-ind (λ (x : Option Store). Right (byte_by t d size st s m n r.top x)) stays all
       where
-        all : (x y z : ℕ) → All3 x y z → Right (byte_by t d size st s m n r.top (All x y z))
+        all : (x y z : ℕ) → All3 x y z → Right (byte_by t d size st s m n r.top (store x y z))
         all x y z o =
-            either_true Right (byte_good (length m) (byte_address Bits32 x y)) (taken (To (suc n) r.top) st (store_from m (byte_address Bits32 x y) (z % 256 ∷ []))) (taken Stays st m)
+            either_true Right (byte_good (length m) (byte_address Bits32 x y)) (taken (to_row (suc n) r.top) st (store_from m (byte_address Bits32 x y) (z % 256 ∷ []))) (taken None st m)
             (λ w. went-8 q x y z o w) (λ w. stays)
 
     went-9 : row.kind ≡ 9 → (x y z : ℕ) → All3 x y z → word_good Bits32 (length m) (word_address Bits32 x y) ≡ true
@@ -504,11 +501,11 @@ module _ (t : List ℕ) (c : ℕ) (lw : List ℕ) (lc g d size : ℕ) (r : Machi
 
     right-word : row.kind ≡ 9 → Right (quick_word t d size st s m n r.top)
     unfolding quick_word word_by RightBy
-    right-word q = three-ind (λ (x : Three). Right (word_by t d size st s m n r.top x)) stays all
+    right-word q = three-ind (λ (x : Option Store). Right (word_by t d size st s m n r.top x)) stays all
       where
-        all : (x y z : ℕ) → All3 x y z → Right (word_by t d size st s m n r.top (All x y z))
+        all : (x y z : ℕ) → All3 x y z → Right (word_by t d size st s m n r.top (store x y z))
         all x y z o =
-            either_true Right (word_good Bits32 (length m) (word_address Bits32 x y)) (taken (To (suc n) r.top) st (store_from m (word_address Bits32 x y) (word_bytes 4 z))) (taken Stays st m)
+            either_true Right (word_good Bits32 (length m) (word_address Bits32 x y)) (taken (to_row (suc n) r.top) st (store_from m (word_address Bits32 x y) (word_bytes 4 z))) (taken None st m)
             (λ w. went-9 q x y z o w) (λ w. stays)
 
     -- ---- tests
@@ -556,14 +553,14 @@ module _ (t : List ℕ) (c : ℕ) (lw : List ℕ) (lc g d size : ℕ) (r : Machi
     right-test : (k : ℕ) → row.kind ≡ k → is_test k ≡ true → Right (quick_test t c g d size st s m n r.top k)
     unfolding quick_test on_read RightBy
     right-test k q e =
-        either_true Right (aimed t c g a) _ (taken Stays st m)
+        either_true Right (aimed t c g a) _ (taken None st m)
         (λ z. by z (good_read size d st s m (operand_at t (n * 27 + 11))) (good_read size d st s m (operand_at t (n * 27 + 13))) refl refl) (λ z. stays)
       where
-        by : aimed t c g a ≡ true → (i j : Read) → good_read size d st s m (operand_at t (n * 27 + 11)) ≡ i → good_read size d st s m (operand_at t (n * 27 + 13)) ≡ j
-            → Right (on_read i (taken Stays st m) (λ x. on_read j (taken Stays st m) (λ y. taken (To (if_true (test_holds Bits32 k x y) (suc n) a) r.top) st m)))
-        by z Bad j o p = stays
-        by z (Got x) Bad o p = stays
-        by z (Got x) (Got y) o p =
+        by : aimed t c g a ≡ true → (i j : Option ℕ) → good_read size d st s m (operand_at t (n * 27 + 11)) ≡ i → good_read size d st s m (operand_at t (n * 27 + 13)) ≡ j
+            → Right (on_read i (taken None st m) (λ x. on_read j (taken None st m) (λ y. taken (to_row (if_true (test_holds Bits32 k x y) (suc n) a) r.top) st m)))
+        by z None j o p = stays
+        by z (Some x) None o p = stays
+        by z (Some x) (Some y) o p =
             subst (λ (i : ℕ). Went (if_true (test_holds Bits32 i x y) (suc n) a) r.top st m) q
             (went-test (ap is_test q ∙ e) z x y (good-read size d st s m (operand_at t (n * 27 + 11)) x o) (good-read size d st s m (operand_at t (n * 27 + 13)) y p))
 
@@ -596,7 +593,7 @@ module _ (t : List ℕ) (c : ℕ) (lw : List ℕ) (lc g d size : ℕ) (r : Machi
     unfolding quick_form
     right-form = right-kind (get_or t (n * 27) 0) fields-kind
 
-  same : Right (taken Stays st m)
+  same : Right (taken None st m)
   unfolding RightBy
   same = record { stack = refl; memory = refl }
 
@@ -608,4 +605,4 @@ module _ (t : List ℕ) (c : ℕ) (lw : List ℕ) (lc g d size : ℕ) (r : Machi
   pub right-step : InFrame t c g size r st m → Right (quick_step t c g d size st s m n r.top)
   unfolding quick_step
   right-step h =
-      either Right n c _ (taken Stays st m) (λ l. either-eq Right (get_or t (n * 27 + 1) 0) g _ (taken Stays st m) (λ e. right-form h l (func-is ∙ e)) (λ e. same)) (λ l. same)
+      either Right n c _ (taken None st m) (λ l. either-eq Right (get_or t (n * 27 + 1) 0) g _ (taken None st m) (λ e. right-form h l (func-is ∙ e)) (λ e. same)) (λ l. same)

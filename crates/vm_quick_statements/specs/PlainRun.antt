@@ -2,6 +2,8 @@
 -- stops, or whose form is none of these stays, and is left to the exact step. What is taken is what the machine's step makes of it
 -- (proofs/Right.antt, proofs/Run.antt).
 -- Assumes nothing.
+use Rattle.std.specs.Prelude.{Err, Ok, Option, Some, None}
+use Rattle.vm_definitions.specs.Operands.{Worked, valued}
 use Rattle.std.specs.Prelude.{ℕ, zero, suc, ◌+◌, ◌%◌, Bool, false, List, [], ◌∷◌, eqb, get_or, length, set, replicate}
 use Rattle.base_prelude.specs.Choice.{if_lt, if_eq, if_true}
 use Rattle.base_limits.specs.declared.Width.TheVariants.{Bits32}
@@ -13,22 +15,23 @@ use Rattle.prog_tables.specs.Statement.{is_test, operand_at}
 use Rattle.vm_definitions.specs.Access.{byte_address, word_address, byte_good, word_good, store_from}
 use Rattle.vm_definitions.specs.Operands.{on_read}
 use Rattle.vm_definitions.specs.Expressions.{test_holds}
-use Rattle.vm_definitions.specs.declared.Worked.{Worked}
-use Rattle.vm_definitions.specs.declared.Worked.TheVariants.{Value, Stop}
 use Rattle.vm_quick_operands.specs.Fast.{good_read, good_work}
+use Rattle.vm_statements.specs.Three.{store}
+use Rattle.vm_statements.specs.declared.Store.{Store}
 use Rattle.vm_quick_statements.specs.declared.Move.{Move}
-use Rattle.vm_quick_statements.specs.declared.Move.TheVariants.{To, Stays}
-use Rattle.vm_quick_statements.specs.declared.Three.{Three}
-use Rattle.vm_quick_statements.specs.declared.Three.TheVariants.{All, Unread}
 use Rattle.vm_quick_statements.specs.declared.PlainRun.{PlainRun}
 
 -- what became of a statement, with the stack and the memory behind it
 pub record Taken : Type 0 where
-  pub move : Move
+  pub move : Option Move
   pub stack : List ℕ
   pub memory : List ℕ
 
-abbrev pub taken : Move → List ℕ → List ℕ → Taken
+-- the statement goes on at a row with an auto top
+abbrev pub to_row : ℕ → ℕ → Option Move
+to_row n top = Some (record { next = n; top = top })
+
+abbrev pub taken : Option Move → List ℕ → List ℕ → Taken
 taken x st m = record { move = x; stack = st; memory = m }
 
 -- ---- targets
@@ -38,72 +41,72 @@ unfoldable pub aimed : List ℕ → ℕ → ℕ → ℕ → Bool
 aimed t c g a = if_lt a c (eqb (func_from t (place_of a)) g) false
 
 -- `goto` and `else` at row n
-unfoldable pub quick_jump : List ℕ → ℕ → ℕ → ℕ → ℕ → Move
-quick_jump t c g n top = if_true (aimed t c g (aFrom t (place_of n))) (To (aFrom t (place_of n)) top) Stays
+unfoldable pub quick_jump : List ℕ → ℕ → ℕ → ℕ → ℕ → Option Move
+quick_jump t c g n top = if_true (aimed t c g (aFrom t (place_of n))) (to_row (aFrom t (place_of n)) top) None
 
 -- ---- blocks
 
 -- `block` at row n: its words lie behind the head of the frame
 unfoldable pub quick_block : List ℕ → ℕ → List ℕ → ℕ → List ℕ → ℕ → ℕ → Taken
 quick_block t size st s m n top =
-    if_lt (aFrom t (place_of n)) frame_head (taken Stays st m)
+    if_lt (aFrom t (place_of n)) frame_head (taken None st m)
     (if_lt (aFrom t (place_of n) + bFrom t (place_of n)) size
-    (taken (To (suc n) top) (store_from st (s + aFrom t (place_of n)) (top ∷ replicate (bFrom t (place_of n)) 0)) m)
-    (taken Stays st m))
+    (taken (to_row (suc n) top) (store_from st (s + aFrom t (place_of n)) (top ∷ replicate (bFrom t (place_of n)) 0)) m)
+    (taken None st m))
 
 -- `end block`: the auto top that it restores is within m bytes of memory
-unfoldable pub quick_end : List ℕ → ℕ → List ℕ → ℕ → ℕ → ℕ → Move
+unfoldable pub quick_end : List ℕ → ℕ → List ℕ → ℕ → ℕ → ℕ → Option Move
 quick_end t size st s m n =
     if_lt (aFrom t (place_of n)) size
-    (if_lt m (get_or st (s + aFrom t (place_of n)) 0) Stays (To (suc n) (get_or st (s + aFrom t (place_of n)) 0)))
-    Stays
+    (if_lt m (get_or st (s + aFrom t (place_of n)) 0) None (to_row (suc n) (get_or st (s + aFrom t (place_of n)) 0)))
+    None
 
 -- ---- operands of the row whose first word is at a place
 
-unfoldable pub three_read : List ℕ → ℕ → ℕ → ℕ → List ℕ → ℕ → List ℕ → Three
+unfoldable pub three_read : List ℕ → ℕ → ℕ → ℕ → List ℕ → ℕ → List ℕ → Option Store
 three_read t at d size st s m =
-    on_read (good_read size d st s m (operand_at t (first_place at))) Unread
-    (λ x. on_read (good_read size d st s m (operand_at t (second_place at))) Unread
-    (λ y. on_read (good_read size d st s m (operand_at t (third_place at))) Unread (λ z. All x y z)))
+    on_read (good_read size d st s m (operand_at t (first_place at))) None
+    (λ x. on_read (good_read size d st s m (operand_at t (second_place at))) None
+    (λ y. on_read (good_read size d st s m (operand_at t (third_place at))) None (λ z. store x y z)))
 
 -- ---- statements at row n of table t, in the frame at s
 
 module _ (t : List ℕ) (d size : ℕ) (st : List ℕ) (s : ℕ) (m : List ℕ) (n top : ℕ) where
   unfoldable pub assigned_by : Worked → Taken
-  assigned_by (Value v end) = taken (To (suc n) end) (set st (s + aFrom t (place_of n)) v) m
-  assigned_by (Stop k) = taken Stays st m
+  assigned_by (Ok got) = taken (to_row (suc n) got.top) (set st (s + aFrom t (place_of n)) got.word) m
+  assigned_by (Err k) = taken None st m
 
   -- `let` and `set` of a local: the word lies behind the head of the frame
   unfoldable pub quick_assign : Taken
   quick_assign =
-      if_lt (aFrom t (place_of n)) frame_head (taken Stays st m)
-      (if_lt (aFrom t (place_of n)) size (assigned_by (good_work t (place_of n) size d st s m top)) (taken Stays st m))
+      if_lt (aFrom t (place_of n)) frame_head (taken None st m)
+      (if_lt (aFrom t (place_of n)) size (assigned_by (good_work t (place_of n) size d st s m top)) (taken None st m))
 
-  unfoldable pub byte_by : Three → Taken
-  byte_by (All base offset value) =
-      if_true (byte_good (length m) (byte_address Bits32 base offset))
-      (taken (To (suc n) top) st (store_from m (byte_address Bits32 base offset) (value % 256 ∷ [])))
-      (taken Stays st m)
-  byte_by Unread = taken Stays st m
+  unfoldable pub byte_by : Option Store → Taken
+  byte_by (Some x) =
+      if_true (byte_good (length m) (byte_address Bits32 x.base x.offset))
+      (taken (to_row (suc n) top) st (store_from m (byte_address Bits32 x.base x.offset) (x.value % 256 ∷ [])))
+      (taken None st m)
+  byte_by None = taken None st m
 
   -- `set-byte`
   unfoldable pub quick_byte : Taken
   quick_byte = byte_by (three_read t (place_of n) d size st s m)
 
-  unfoldable pub word_by : Three → Taken
-  word_by (All base offset value) =
-      if_true (word_good Bits32 (length m) (word_address Bits32 base offset))
-      (taken (To (suc n) top) st (store_from m (word_address Bits32 base offset) (word_bytes 4 value)))
-      (taken Stays st m)
-  word_by Unread = taken Stays st m
+  unfoldable pub word_by : Option Store → Taken
+  word_by (Some x) =
+      if_true (word_good Bits32 (length m) (word_address Bits32 x.base x.offset))
+      (taken (to_row (suc n) top) st (store_from m (word_address Bits32 x.base x.offset) (word_bytes 4 x.value)))
+      (taken None st m)
+  word_by None = taken None st m
 
   -- `set-word`
   unfoldable pub quick_word : Taken
   quick_word = word_by (three_read t (place_of n) d size st s m)
 
   unfoldable pub stored_by : ℕ → Worked → Taken
-  stored_by a (Value v end) = taken (To (suc n) end) st (store_from m a (word_bytes 4 v))
-  stored_by a (Stop k) = taken Stays st m
+  stored_by a (Ok got) = taken (to_row (suc n) got.top) st (store_from m a (word_bytes 4 got.word))
+  stored_by a (Err k) = taken None st m
 
   -- `set @` with its address
   unfoldable pub stored_at : ℕ → Taken
@@ -112,19 +115,19 @@ module _ (t : List ℕ) (d size : ℕ) (st : List ℕ) (s : ℕ) (m : List ℕ) 
   -- `set @`: its address is no `@` operand itself
   unfoldable pub quick_at : Taken
   quick_at =
-      if_lt address_operand (address_kind t (place_of n)) (taken Stays st m)
-      (on_read (good_read size d st s m (operand_at t (address_place (place_of n)))) (taken Stays st m)
-      (λ a. if_true (word_good Bits32 (length m) a) (stored_at a) (taken Stays st m)))
+      if_lt address_operand (address_kind t (place_of n)) (taken None st m)
+      (on_read (good_read size d st s m (operand_at t (address_place (place_of n)))) (taken None st m)
+      (λ a. if_true (word_good Bits32 (length m) a) (stored_at a) (taken None st m)))
 
 module _ (t : List ℕ) (c g d size : ℕ) (st : List ℕ) (s : ℕ) (m : List ℕ) (n top : ℕ) where
   -- a test of kind k
   unfoldable pub quick_test : ℕ → Taken
   quick_test k =
       if_true (aimed t c g (aFrom t (place_of n)))
-      (on_read (good_read size d st s m (operand_at t (first_place (place_of n)))) (taken Stays st m)
-      (λ x. on_read (good_read size d st s m (operand_at t (second_place (place_of n)))) (taken Stays st m)
-      (λ y. taken (To (if_true (test_holds Bits32 k x y) (suc n) (aFrom t (place_of n))) top) st m)))
-      (taken Stays st m)
+      (on_read (good_read size d st s m (operand_at t (first_place (place_of n)))) (taken None st m)
+      (λ x. on_read (good_read size d st s m (operand_at t (second_place (place_of n)))) (taken None st m)
+      (λ y. taken (to_row (if_true (test_holds Bits32 k x y) (suc n) (aFrom t (place_of n))) top) st m)))
+      (taken None st m)
 
   -- the statement of kind k: jumps and `end if`
   unfoldable pub quick_jumps : ℕ → Taken
@@ -132,8 +135,8 @@ module _ (t : List ℕ) (c g d size : ℕ) (st : List ℕ) (s : ℕ) (m : List �
       if_eq k kind.goto (taken (quick_jump t c g n top) st m)
       (if_eq k kind.else (taken (quick_jump t c g n top) st m)
       (if_eq k kind.else_if (taken (quick_jump t c g n top) st m)
-      (if_eq k kind.end_if (taken (To (suc n) top) st m)
-      (taken Stays st m))))
+      (if_eq k kind.end_if (taken (to_row (suc n) top) st m)
+      (taken None st m))))
 
   -- stores into memory
   unfoldable pub quick_stores : ℕ → Taken
@@ -158,7 +161,7 @@ module _ (t : List ℕ) (c g d size : ℕ) (st : List ℕ) (s : ℕ) (m : List �
 
   -- the statement at row n, where that is one of c rows and a row of function g
   unfoldable pub quick_step : Taken
-  quick_step = if_lt n c (if_eq (func_from t (place_of n)) g quick_form (taken Stays st m)) (taken Stays st m)
+  quick_step = if_lt n c (if_eq (func_from t (place_of n)) g quick_form (taken None st m)) (taken None st m)
 
 -- ---- the plain run
 
@@ -177,9 +180,9 @@ ended_with x st m = record { next = x.next; top = x.top; count = x.count; stack 
 unfoldable pub adding : ℕ → Ended → Ended
 adding k x = record { next = x.next; top = x.top; count = k + x.count; stack = x.stack; memory = x.memory }
 
-unfoldable pub on_move : {X : Type 0} → Move → X → (ℕ → ℕ → X) → X
-on_move (To n top) x f = f n top
-on_move Stays x f = x
+unfoldable pub on_move : {X : Type 0} → Option Move → X → (ℕ → ℕ → X) → X
+on_move (Some go) x f = f go.next go.top
+on_move None x f = x
 
 -- statements within a budget until one stays
 module _ (t : List ℕ) (c g d size s : ℕ) where

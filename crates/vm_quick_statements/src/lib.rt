@@ -9,18 +9,17 @@ ghost use Rattle.vm_definitions.specs.Access.{store_from};
 ghost use Rattle.prog_tables.specs.Layout.{statement_row};
 ghost use Rattle.prog_tables.specs.Places.{place_of};
 ghost use Rattle.vm_definitions.specs.Expressions.{test_holds};
-ghost use Rattle.vm_quick_statements.specs.declared.Move.TheVariants.{To};
-ghost use Rattle.vm_quick_statements.specs.PlainRun.{taken, ended_with, aimed, quick_assign, quick_test, quick_jump, quick_block, quick_end, three_read, quick_byte, quick_word, stored_at, quick_at, quick_form, quick_step, plain_run_of};
+ghost use Rattle.vm_quick_statements.specs.PlainRun.{to_row, taken, ended_with, aimed, quick_assign, quick_test, quick_jump, quick_block, quick_end, three_read, quick_byte, quick_word, stored_at, quick_at, quick_form, quick_step, plain_run_of};
 
 use lang_kinds::Kind;
 use prog_tables::{ExpressionKind, OperandKind, Table};
-use vm_definitions::{Read, Worked};
+use vm_statements::Store;
 
-// What became of a statement: it goes on at a statement with an auto top; or nothing happened.
-#[derive(Drop)]
-pub enum Move {
-    To { next: u32, top: u32 },
-    Stays,
+// Where a statement that is taken goes on, and the auto top. Without one nothing happened.
+#[derive(Clone, Copy, Debug, PartialEq, Eq)]
+pub struct Move {
+    pub next: u32,
+    pub top: u32,
 }
 
 // Where a plain run ends: the next statement, the auto top, and the steps counted.
@@ -32,27 +31,26 @@ pub struct PlainRun {
 }
 
 // `let` and `set` of a local, without a call; the head of the frame is not written.
-fn assign(t: &[u32], d: u32, size: u32, st: &mut [u32], s: u32, m: &[u8], n: u32, top: u32) -> Move
+fn assign(t: &[u32], d: u32, size: u32, st: &mut [u32], s: u32, m: &[u8], n: u32, top: u32) -> Option<Move>
     requires { (n < greatest_word) × (place_of n + statement_row ≤ length t.now) × (s + size ≤ length st.old) × (length m.now ≤ memory_bytes) }
     ensures { taken result st.new m.now ≡ quick_assign t.now d size st.old s m.now n top }
 {
     let a = prog_tables::a_in(t, n);
     if a < Table::FRAME_HEAD {
-        return Move::Stays;
+        return None;
     }
     if size <= a {
-        return Move::Stays;
+        return None;
     }
-    let x = vm_quick_operands::work(t, n, d, size, st, s, m, top);
-    match x {
-        Worked::Value { word, top: end } => {
-            vm_memory::put(st, s as usize + a as usize, word);
-            Move::To {
+    match vm_quick_operands::work(t, n, d, size, st, s, m, top) {
+        Ok(v) => {
+            vm_memory::put(st, s as usize + a as usize, v.word);
+            Some(Move {
                 next: n + 1,
-                top: end,
-            }
+                top: v.top,
+            })
         }
-        Worked::Stop(_) => Move::Stays,
+        Err(_) => None,
     }
 }
 
@@ -66,13 +64,13 @@ fn set_local(
     m: &[u8],
     n: u32,
     top: u32,
-) -> Move
+) -> Option<Move>
     requires { (n < greatest_word) × (place_of n + statement_row ≤ length t.now) × (s + size ≤ length st.old) × (length m.now ≤ memory_bytes) }
     ensures { taken result st.new m.now ≡ quick_assign t.now d size st.old s m.now n top }
 {
     let e = prog_tables::expression_in(t, n);
     if e == ExpressionKind::CALL {
-        return Move::Stays;
+        return None;
     }
     assign(t, d, size, st, s, m, n, top)
 }
@@ -89,17 +87,17 @@ fn is_aimed(t: &[u32], c: u32, g: u32, a: u32) -> bool
 }
 
 // Where a test of kind k at row n goes with two words; a is its target.
-fn branch(n: u32, top: u32, k: u32, a: u32, x: u32, y: u32) -> Move
+fn branch(n: u32, top: u32, k: u32, a: u32, x: u32, y: u32) -> Option<Move>
     requires { n < greatest_word }
-    ensures { result ≡ To (if_true (test_holds Bits32 k x y) (suc n) a) top }
+    ensures { result ≡ to_row (if_true (test_holds Bits32 k x y) (suc n) a) top }
 {
     if vm_operands::test(k, x, y) {
-        return Move::To {
+        return Some(Move {
             next: n + 1,
-            top: top,
-        };
+            top,
+        });
     }
-    Move::To { next: a, top: top }
+    Some(Move { next: a, top })
 }
 
 // A test of kind k.
@@ -115,35 +113,29 @@ fn test(
     n: u32,
     top: u32,
     k: u32,
-) -> Move
+) -> Option<Move>
     requires { (n < greatest_word) × (place_of n + statement_row ≤ length t.now) × (s + size ≤ length st.now) × (c * statement_row ≤ length t.now) }
     ensures { taken result st.now m.now ≡ quick_test t.now c g d size st.now s m.now n top k }
 {
     let a = prog_tables::a_in(t, n);
     if is_aimed(t, c, g, a) {
-        let f = vm_quick_operands::read_first(t, n, d, size, st, s, m);
-        let Read::Got(x) = f else {
-            return Move::Stays;
-        };
-        let h = vm_quick_operands::read_second(t, n, d, size, st, s, m);
-        let Read::Got(y) = h else {
-            return Move::Stays;
-        };
+        let x = vm_quick_operands::read_first(t, n, d, size, st, s, m)?;
+        let y = vm_quick_operands::read_second(t, n, d, size, st, s, m)?;
         return branch(n, top, k, a, x, y);
     }
-    Move::Stays
+    None
 }
 
 // `goto` and `else`.
-fn jump(t: &[u32], c: u32, g: u32, n: u32, top: u32) -> Move
+fn jump(t: &[u32], c: u32, g: u32, n: u32, top: u32) -> Option<Move>
     requires { (place_of n + statement_row ≤ length t.now) × (c * statement_row ≤ length t.now) }
     ensures { result ≡ quick_jump t.now c g n top }
 {
     let a = prog_tables::a_in(t, n);
     if is_aimed(t, c, g, a) {
-        return Move::To { next: a, top: top };
+        return Some(Move { next: a, top });
     }
-    Move::Stays
+    None
 }
 
 // The words of a block from a place on: the auto top, then zeros.
@@ -156,73 +148,57 @@ fn open_block(st: &mut [u32], at: usize, top: u32, lets: u32)
 }
 
 // `block`.
-fn enter_block(t: &[u32], size: u32, st: &mut [u32], s: u32, m: &[u8], n: u32, top: u32) -> Move
+fn enter_block(t: &[u32], size: u32, st: &mut [u32], s: u32, m: &[u8], n: u32, top: u32) -> Option<Move>
     requires { (n < greatest_word) × (place_of n + statement_row ≤ length t.now) }
     ensures { taken result st.new m.now ≡ quick_block t.now size st.old s m.now n top }
 {
     let a = prog_tables::a_in(t, n);
     let b = prog_tables::b_in(t, n);
     if a < Table::FRAME_HEAD {
-        return Move::Stays;
+        return None;
     }
     if size as u64 <= a as u64 + b as u64 {
-        return Move::Stays;
+        return None;
     }
     open_block(st, s as usize + a as usize, top, b);
-    Move::To {
+    Some(Move {
         next: n + 1,
-        top: top,
-    }
+        top,
+    })
 }
 
 // `end block`.
-fn leave_block(t: &[u32], size: u32, st: &[u32], s: u32, m: usize, n: u32) -> Move
+fn leave_block(t: &[u32], size: u32, st: &[u32], s: u32, m: usize, n: u32) -> Option<Move>
     requires { (n < greatest_word) × (place_of n + statement_row ≤ length t.now) × (s + size ≤ length st.now) }
     ensures { result ≡ quick_end t.now size st.now s m n }
 {
     let a = prog_tables::a_in(t, n);
     if size <= a {
-        return Move::Stays;
+        return None;
     }
     let top = vm_quick_operands::local(st, s, a);
     if m < top as usize {
-        return Move::Stays;
+        return None;
     }
-    Move::To {
+    Some(Move {
         next: n + 1,
-        top: top,
-    }
-}
-
-// Base, offset and value of `set-byte` and `set-word`.
-#[derive(Drop)]
-pub enum Three {
-    All { base: u32, offset: u32, value: u32 },
-    Unread,
+        top,
+    })
 }
 
 // The first three operands of the row at a place, left to right.
-fn read_three(t: &[u32], n: u32, d: u32, size: u32, st: &[u32], s: u32, m: &[u8]) -> Three
+fn read_three(t: &[u32], n: u32, d: u32, size: u32, st: &[u32], s: u32, m: &[u8]) -> Option<Store>
     requires { (place_of n + statement_row ≤ length t.now) × (s + size ≤ length st.now) }
     ensures { result ≡ three_read t.now (place_of n) d size st.now s m.now }
 {
-    let f = vm_quick_operands::read_first(t, n, d, size, st, s, m);
-    let Read::Got(base) = f else {
-        return Three::Unread;
-    };
-    let g = vm_quick_operands::read_second(t, n, d, size, st, s, m);
-    let Read::Got(offset) = g else {
-        return Three::Unread;
-    };
-    let h = vm_quick_operands::read_third(t, n, d, size, st, s, m);
-    let Read::Got(value) = h else {
-        return Three::Unread;
-    };
-    Three::All {
-        base: base,
-        offset: offset,
-        value: value,
-    }
+    let base = vm_quick_operands::read_first(t, n, d, size, st, s, m)?;
+    let offset = vm_quick_operands::read_second(t, n, d, size, st, s, m)?;
+    let value = vm_quick_operands::read_third(t, n, d, size, st, s, m)?;
+    Some(Store {
+        base,
+        offset,
+        value,
+    })
 }
 
 // `set-byte`.
@@ -235,31 +211,23 @@ fn set_byte(
     m: &mut [u8],
     n: u32,
     top: u32,
-) -> Move
+) -> Option<Move>
     requires { (n < greatest_word) × (place_of n + statement_row ≤ length t.now) × (s + size ≤ length st.now) }
     ensures { taken result st.now m.new ≡ quick_byte t.now d size st.now s m.old n top }
 {
-    let x = read_three(t, n, d, size, st, s, m);
-    let Three::All {
-        base,
-        offset,
-        value,
-    } = x
-    else {
-        return Move::Stays;
-    };
-    let a = vm_operands::byte_address(base, offset);
+    let x = read_three(t, n, d, size, st, s, m)?;
+    let a = vm_operands::byte_address(x.base, x.offset);
     if vm_operands::has_byte(m.len(), a) {
-        vm_memory::put_byte(m, a, value);
-        return Move::To {
+        vm_memory::put_byte(m, a, x.value);
+        return Some(Move {
             next: n + 1,
-            top: top,
-        };
+            top,
+        });
     }
-    Move::Stays
+    None
 }
 
-// `set-word`.
+// `set-word`. Not one with `set-byte`: it would take address, test and store as arguments: no plainer.
 fn set_word(
     t: &[u32],
     d: u32,
@@ -269,28 +237,20 @@ fn set_word(
     m: &mut [u8],
     n: u32,
     top: u32,
-) -> Move
+) -> Option<Move>
     requires { (n < greatest_word) × (place_of n + statement_row ≤ length t.now) × (s + size ≤ length st.now) }
     ensures { taken result st.now m.new ≡ quick_word t.now d size st.now s m.old n top }
 {
-    let x = read_three(t, n, d, size, st, s, m);
-    let Three::All {
-        base,
-        offset,
-        value,
-    } = x
-    else {
-        return Move::Stays;
-    };
-    let a = vm_operands::word_address(base, offset);
+    let x = read_three(t, n, d, size, st, s, m)?;
+    let a = vm_operands::word_address(x.base, x.offset);
     if vm_operands::has_word(m.len(), a) {
-        vm_memory::put_word(m, a, value);
-        return Move::To {
+        vm_memory::put_word(m, a, x.value);
+        return Some(Move {
             next: n + 1,
-            top: top,
-        };
+            top,
+        });
     }
-    Move::Stays
+    None
 }
 
 // `set @` without a call, a being its good address.
@@ -304,40 +264,36 @@ fn store_at(
     n: u32,
     top: u32,
     a: u32,
-) -> Move
+) -> Option<Move>
     requires { (n < greatest_word) × (place_of n + statement_row ≤ length t.now) × (s + size ≤ length st.now) × (length m.old ≤ memory_bytes) × (a + 4 ≤ length m.old) }
     ensures { taken result st.now m.new ≡ stored_at t.now d size st.now s m.old n top a }
 {
-    let x = vm_quick_operands::work(t, n, d, size, st, s, m, top);
-    match x {
-        Worked::Value { word, top: end } => {
-            vm_memory::put_word(m, a, word);
-            Move::To {
+    match vm_quick_operands::work(t, n, d, size, st, s, m, top) {
+        Ok(v) => {
+            vm_memory::put_word(m, a, v.word);
+            Some(Move {
                 next: n + 1,
-                top: end,
-            }
+                top: v.top,
+            })
         }
-        Worked::Stop(_) => Move::Stays,
+        Err(_) => None,
     }
 }
 
 // `set @` without a call.
-fn set_at(t: &[u32], d: u32, size: u32, st: &[u32], s: u32, m: &mut [u8], n: u32, top: u32) -> Move
+fn set_at(t: &[u32], d: u32, size: u32, st: &[u32], s: u32, m: &mut [u8], n: u32, top: u32) -> Option<Move>
     requires { (n < greatest_word) × (place_of n + statement_row ≤ length t.now) × (s + size ≤ length st.now) × (length m.old ≤ memory_bytes) }
     ensures { taken result st.now m.new ≡ quick_at t.now d size st.now s m.old n top }
 {
     let k = prog_tables::address_kind_in(t, n);
     if OperandKind::ADDRESS < k {
-        return Move::Stays;
+        return None;
     }
-    let f = vm_quick_operands::read_address(t, n, d, size, st, s, m);
-    let Read::Got(a) = f else {
-        return Move::Stays;
-    };
+    let a = vm_quick_operands::read_address(t, n, d, size, st, s, m)?;
     if vm_operands::has_word(m.len(), a) {
         return store_at(t, d, size, st, s, m, n, top, a);
     }
-    Move::Stays
+    None
 }
 
 // Row n, one of function g.
@@ -352,7 +308,7 @@ fn take_form(
     m: &mut [u8],
     n: u32,
     top: u32,
-) -> Move
+) -> Option<Move>
     requires { (n < c) × (c < word_values) × (c * statement_row ≤ length t.now) × (s + size ≤ length st.old) × (length m.old ≤ memory_bytes) }
     ensures { taken result st.new m.new ≡ quick_form t.now c g d size st.old s m.old n top }
 {
@@ -371,11 +327,11 @@ fn take_form(
         Kind::GOTO => jump(t, c, g, n, top),
         Kind::ELSE => jump(t, c, g, n, top),
         Kind::ELSE_IF => jump(t, c, g, n, top),
-        Kind::END_IF => Move::To {
+        Kind::END_IF => Some(Move {
             next: n + 1,
-            top: top,
-        },
-        _ => Move::Stays,
+            top,
+        }),
+        _ => None,
     }
 }
 
@@ -391,18 +347,18 @@ fn take(
     m: &mut [u8],
     n: u32,
     top: u32,
-) -> Move
+) -> Option<Move>
     requires { (c < word_values) × (c * statement_row ≤ length t.now) × (s + size ≤ length st.old) × (length m.old ≤ memory_bytes) }
     ensures { taken result st.new m.new ≡ quick_step t.now c g d size st.old s m.old n top }
 {
     if c <= n {
-        return Move::Stays;
+        return None;
     }
     let own = prog_tables::func_in(t, n);
     if own == g {
         return take_form(t, c, g, d, size, st, s, m, n, top);
     }
-    Move::Stays
+    None
 }
 
 // Statements from row n on, of function g with this frame size, within a budget; s is where the frame starts.
@@ -424,23 +380,20 @@ pub fn run_plain(
 {
     let mut next = n;
     let mut end = top;
-    let mut count: u64 = 0;
-    while count < budget {
-        let x = take(t, c, g, d, size, st, s, m, next, end);
-        let Move::To { next: i, top: e } = x else {
+    for count in 0..budget {
+        let Some(x) = take(t, c, g, d, size, st, s, m, next, end) else {
             return PlainRun {
-                next: next,
+                next,
                 top: end,
-                count: count,
+                count,
             };
         };
-        next = i;
-        end = e;
-        count += 1;
+        next = x.next;
+        end = x.top;
     }
     PlainRun {
-        next: next,
+        next,
         top: end,
-        count: count,
+        count: budget,
     }
 }

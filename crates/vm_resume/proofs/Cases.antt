@@ -34,7 +34,8 @@ use Rattle.vm_definitions.specs.declared.Broken.{Broken}
 use Rattle.vm_definitions.specs.declared.Broken.TheVariants.{No, At, Somewhere}
 use Rattle.vm_calls.specs.Outcomes as outcomes
 use Rattle.vm_pauses.specs.Pauses.{handing_in, Awaits}
-use Rattle.vm_resume.specs.Within.{given_back, counts_broken, taken_up, resumed_with}
+use Rattle.vm_calls.specs.Outcomes.{given_back}
+use Rattle.vm_resume.specs.Within.{counts_broken, taken_up, resumed_with}
 use Rattle.prog_tables.proofs.Each.{one-true}
 
 -- ---- a paused record

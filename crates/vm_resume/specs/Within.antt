@@ -13,10 +13,6 @@ use Rattle.vm_definitions.specs.declared.Outcome.{Outcome}
 use Rattle.vm_definitions.specs.declared.Broken.{Broken}
 use Rattle.vm_definitions.specs.declared.Broken.TheVariants.{Somewhere}
 
--- nothing happened, but perhaps a 35
-abbrev pub given_back : Machine → Broken → Outcome
-given_back r b = record { machine = r; count = 0; broken = b }
-
 -- going on of a paused record
 unfoldable pub resumed_with : Program → ℕ → World → After
 resumed_with p v x =

@@ -7,21 +7,11 @@ ghost use Rattle.prog_tables.specs.Program.{program_from};
 ghost use Rattle.vm_definitions.specs.Step.{resume_of};
 ghost use Rattle.vm_definitions.specs.Claim.{is_paused};
 ghost use Rattle.vm_definitions.specs.Lent.{tables_of, world, left, resumed};
-ghost use Rattle.vm_resume.specs.Within.{given_back, counts_broken, taken_up, resumed_with};
+ghost use Rattle.vm_calls.specs.Outcomes.{given_back};
+ghost use Rattle.vm_resume.specs.Within.{counts_broken, taken_up, resumed_with};
 
 use base_limits::{Machine, State};
 use vm_definitions::{Broken, Outcome, Resumed};
-
-// Nothing happened, but perhaps a 35.
-fn give_back(r: Machine, b: Broken) -> Outcome
-    ensures { result ≡ given_back r b }
-{
-    Outcome {
-        machine: r,
-        count: 0,
-        broken: b,
-    }
-}
 
 // Whether a record is paused.
 fn is_paused(r: Machine) -> bool
@@ -56,8 +46,8 @@ fn take_up(
             let q = Machine::with_state(State::Running, r);
             vm_pauses::hand_in(t, c, q, v, st, m)
         }
-        Broken::At(i) => give_back(r, Broken::At(i)),
-        Broken::Somewhere => give_back(r, Broken::Somewhere),
+        Broken::At(i) => vm_calls::give_back(r, Broken::At(i)),
+        Broken::Somewhere => vm_calls::give_back(r, Broken::Somewhere),
     }
 }
 
@@ -102,7 +92,7 @@ fn go_on(
 {
     if vm_counts::count_fault(t, c, l, lc, names) {
         let b = judge_counts(t, c, l, lc, d, r, st, m.len());
-        return give_back(r, b);
+        return vm_calls::give_back(r, b);
     }
     take_up(t, c, l, lc, d, v, r, st, m)
 }
@@ -141,7 +131,7 @@ pub fn resume(
         };
     }
     Resumed {
-        outcome: give_back(machine, Broken::No),
+        outcome: vm_calls::give_back(machine, Broken::No),
         unpaused: true,
     }
 }

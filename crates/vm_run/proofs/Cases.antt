@@ -1,5 +1,6 @@
 -- The ways through a step and a run.
 -- Assumes nothing.
+use Rattle.std.proofs.Common.{Option, Some, None}
 use mathlib.Core.Path.{◌≡◌, refl, sym, ◌∙◌, ap, subst}
 use mathlib.Core.Bool.{Bool, true, false}
 use mathlib.Core.List.{List, []}
@@ -39,13 +40,13 @@ use Rattle.vm_guard.specs.FrameInUse.{good_frame_size}
 use Rattle.vm_quick_statements.specs.PlainRun.{ended_with, plain_run_of}
 use Rattle.vm_quick_statements.specs.declared.PlainRun.{PlainRun}
 use Rattle.vm_quick_statements.proofs.Right.{InFrame}
-use Rattle.vm_quick_calls.specs.Transfers.{Transferred, transferred, transfer_of}
+use Rattle.vm_quick_calls.specs.Transfers.{to_frame, Transferred, transferred, transfer_of}
 use Rattle.vm_quick_calls.specs.declared.Transfer.{Transfer}
-use Rattle.vm_quick_calls.specs.declared.Transfer.TheVariants.{To, Stays}
 use Rattle.vm_run.specs.Steps.{usable_size, after, end_by, plain_run_end, steps_in_frame_by, steps_in_frame, some_steps}
 use Rattle.vm_run.proofs.One.{one-step}
 use Rattle.vm_run.proofs.Several.{running-is, count_none, count_add, usable-good, Several, several}
-use Rattle.vm_run.specs.Within.{given_back, is_running, counts_broken, taken_step, within_step, within_run}
+use Rattle.vm_calls.specs.Outcomes.{given_back}
+use Rattle.vm_run.specs.Within.{is_running, counts_broken, taken_step, within_step, within_run}
 use Rattle.prog_tables.proofs.Each.{one-no}
 
 -- ---- a running record's step
@@ -141,18 +142,18 @@ pub keeps-running : (r q : Machine) (n frame used top : ℕ) → r.state ≡ Run
 unfolding of_parts moved_to
 keeps-running r q n frame used top s e = rw s e
 
-module _ (t : List ℕ) (c : ℕ) (lw : List ℕ) (lc g d size : ℕ) (r : Machine) (k : ℕ) (st m : List ℕ) (y : Transfer) (st' : List ℕ)
+module _ (t : List ℕ) (c : ℕ) (lw : List ℕ) (lc g d size : ℕ) (r : Machine) (k : ℕ) (st m : List ℕ) (y : Option Transfer) (st' : List ℕ)
     (e : transferred y st' ≡ transfer_of t c lw lc g d size st r.frame r.used m r.next r.top) where
   by-transfer : plain_run_end t c lw lc d g size k (world r st m) ≡ end_by t c lw lc d k (world r st m) y st'
   unfolding plain_run_end
   by-transfer = ap (λ (x : Transferred). end_by t c lw lc d k (world r st m) x.move x.stack) (sym e)
 
-  pub end-transfers : (next frame used top : ℕ) (q : Machine) → y ≡ To next frame used top → q ≡ moved_to r next frame used top
+  pub end-transfers : (next frame used top : ℕ) (q : Machine) → y ≡ to_frame next frame used top → q ≡ moved_to r next frame used top
       → left (record { machine = q; count = k + 1; broken = No }) st' m ≡ plain_run_end t c lw lc d g size k (world r st m)
   unfolding end_by
   end-transfers next frame used top q h p = sym (by-transfer ∙ rw (h, p))
 
-  pub end-rests : y ≡ Stays → 0 < k → left (record { machine = r; count = k; broken = No }) st' m ≡ plain_run_end t c lw lc d g size k (world r st m)
+  pub end-rests : y ≡ None → 0 < k → left (record { machine = r; count = k; broken = No }) st' m ≡ plain_run_end t c lw lc d g size k (world r st m)
   unfolding end_by if_lt
   end-rests h l = sym (by-transfer ∙ rw (h, lt-ltb 0 k l))
 
@@ -160,7 +161,7 @@ module _ (t : List ℕ) (c : ℕ) (lw : List ℕ) (lc g d size : ℕ) (r : Machi
   unfolding within_step is_running if_true
   running-step s = rw s
 
-  pub end-steps : (u : Machine) (o : Outcome) (st'' m'' : List ℕ) → r.state ≡ Running → u ≡ r → y ≡ Stays → k ≤ 0 → left o st'' m'' ≡ taken_step t c lw lc d (world u st' m)
+  pub end-steps : (u : Machine) (o : Outcome) (st'' m'' : List ℕ) → r.state ≡ Running → u ≡ r → y ≡ None → k ≤ 0 → left o st'' m'' ≡ taken_step t c lw lc d (world u st' m)
       → left o st'' m'' ≡ plain_run_end t c lw lc d g size k (world r st m)
   unfolding end_by if_lt
   end-steps u o st'' m'' s v h l q =

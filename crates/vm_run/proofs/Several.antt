@@ -1,5 +1,6 @@
 -- Several steps taken at once are steps of a run.
 -- Assumes nothing.
+use Rattle.std.proofs.Common.{Option, Some, None}
 use mathlib.Core.Path.{◌≡◌, refl, sym, ◌∙◌, ap, subst}
 use mathlib.Core.Bool.{Bool, true, false}
 use mathlib.Core.List.{List}
@@ -27,12 +28,10 @@ use Rattle.vm_quick_operands.specs.Fast.{size_of}
 use Rattle.vm_quick_operands.proofs.Good.{Function, size-function}
 use Rattle.vm_quick_statements.specs.PlainRun.{Taken, quick_step, Ended, adding, on_move, plain_run_of}
 use Rattle.vm_quick_statements.specs.declared.Move.{Move}
-use Rattle.vm_quick_statements.specs.declared.Move.TheVariants as move
 use Rattle.vm_quick_statements.proofs.Right.{InFrame, Went, Same, RightBy, right-step}
 use Rattle.vm_quick_statements.proofs.Unbroken.{went-fine}
-use Rattle.vm_quick_calls.specs.Transfers.{Transferred, transfer_of}
+use Rattle.vm_quick_calls.specs.Transfers.{to_frame, Transferred, transfer_of}
 use Rattle.vm_quick_calls.specs.declared.Transfer.{Transfer}
-use Rattle.vm_quick_calls.specs.declared.Transfer.TheVariants.{To, Stays}
 use Rattle.vm_quick_calls.proofs.Right as transferring
 use Rattle.vm_run.specs.Within.{is_running, taken_step, within_step, within_run}
 use Rattle.vm_run.specs.Steps.{usable_size, after, ends, end_by, plain_run_end, steps_in_frame_by, steps_in_frame, some_steps}
@@ -220,14 +219,14 @@ module _ (t : List ℕ) (c : ℕ) (lw : List ℕ) (lc d : ℕ) where
         }
 
     -- by what became of the first statement
-    from-move : (b : ℕ) (r : Machine) (st m : List ℕ) → InFrame t c g size r st m → (x : Move) (st' m' : List ℕ)
+    from-move : (b : ℕ) (r : Machine) (st m : List ℕ) → InFrame t c g size r st m → (x : Option Move) (st' m' : List ℕ)
         → ((r : Machine) (st m : List ℕ) → InFrame t c g size r st m → Right b r st m (ended b r st m)) → RightBy t c lw lc g d size r st m x st' m'
         → Right (suc b) r st m
         (on_move x (record { next = r.next; top = r.top; count = 0; stack = st'; memory = m' }) (λ i e. adding 1 (plain_run_of t c g d size r.frame b st' m' i e)))
     unfolding on_move RightBy going_on
-    from-move b r st m h (move.To i end) st' m' go w =
-        one_more_lem b r st m i end st' m' _ (went-step r st m i end st' m' h w) (go (going_on r i end) st' m' (in-frame-on r st m i end st' m' h w))
-    from-move b r st m h move.Stays st' m' go w = rw (w.stack, w.memory) (stand (suc b) r st m h)
+    from-move b r st m h (Some x) st' m' go w =
+        one_more_lem b r st m x.next x.top st' m' _ (went-step r st m x.next x.top st' m' h w) (go (going_on r x.next x.top) st' m' (in-frame-on r st m x.next x.top st' m' h w))
+    from-move b r st m h None st' m' go w = rw (w.stack, w.memory) (stand (suc b) r st m h)
 
     plain_runs : (b : ℕ) (r : Machine) (st m : List ℕ) → InFrame t c g size r st m → Right b r st m (ended b r st m)
     unfolding plain_run_of
@@ -286,10 +285,10 @@ module _ (t : List ℕ) (c : ℕ) (lw : List ℕ) (lc d : ℕ) where
         ∙ ap (λ (i : ℕ). within_run t c lw lc d i y) (let q : b - 0 ≡ b = omega arith in q) in
         record { bound = v.bound; runs = λ n. same ∙ v.runs n; stops = λ n. same ∙ v.stops n }
 
-    rests : (v : Transfer) (st' : List ℕ) → k < b → transferring.RightBy t c lw lc g d size y.machine y.stack y.memory v st' → Several b x (end_by t c lw lc d k y v st')
+    rests : (v : Option Transfer) (st' : List ℕ) → k < b → transferring.RightBy t c lw lc g d size y.machine y.stack y.memory v st' → Several b x (end_by t c lw lc d k y v st')
     unfolding transferring.RightBy end_by
-    rests (To i frame used end) st' l w = further _ l (step-leaves y.machine y.stack y.memory _ s.in_frame.state w.fine w.imports w.effect)
-    rests Stays st' l w =
+    rests (Some go) st' l w = further _ l (step-leaves y.machine y.stack y.memory _ s.in_frame.state w.fine w.imports w.effect)
+    rests None st' l w =
         rw w
         (either (Several b x) 0 k (after y k) (within_step t c lw lc d y) (λ p. alone p)
         (λ p. nothing (omega (arith, p)) (within_step t c lw lc d y) (exact b y (omega (arith, l)))))

@@ -1,7 +1,7 @@
 -- Steps taken several at once: a plain run inside the frame in use, then a call or a return; the exact step where neither can be had. They
 -- are the steps of a run (proofs/Several.antt).
 -- Assumes nothing.
-use Rattle.std.specs.Prelude.{ℕ, suc, ◌+◌, List, length}
+use Rattle.std.specs.Prelude.{ℕ, suc, ◌+◌, List, length, Option, Some, None}
 use Rattle.base_prelude.specs.Choice.{if_lt, if_eq, if_true}
 use Rattle.base_limits.specs.declared.Machine.{Machine}
 use Rattle.base_limits.specs.Record.{moved_to}
@@ -11,9 +11,8 @@ use Rattle.vm_definitions.specs.Lent.{world}
 use Rattle.vm_definitions.specs.declared.Broken.TheVariants.{No}
 use Rattle.vm_guard.specs.FrameInUse.{good_frame_size}
 use Rattle.vm_quick_statements.specs.PlainRun.{Ended, plain_run_of}
-use Rattle.vm_quick_calls.specs.Transfers.{Transferred, transfer_of}
+use Rattle.vm_quick_calls.specs.Transfers.{to_frame, Transferred, transfer_of}
 use Rattle.vm_quick_calls.specs.declared.Transfer.{Transfer}
-use Rattle.vm_quick_calls.specs.declared.Transfer.TheVariants.{To, Stays}
 use Rattle.vm_run.specs.Within.{is_running, within_step}
 
 -- the words of the frame in use, where the record is running and stands in a good one; else 0
@@ -27,9 +26,9 @@ after x k = record { world = x; count = k; broken = No }
 -- t the statement table, of c rows; lw the label table, of lc rows; d the data's length
 module _ (t : List ℕ) (c : ℕ) (lw : List ℕ) (lc d : ℕ) where
   -- the statement that a plain run of k steps ends at
-  unfoldable pub end_by : ℕ → World → Transfer → List ℕ → After
-  end_by k x (To next frame used top) st = after (world (moved_to x.machine next frame used top) st x.memory) (k + 1)
-  end_by k x Stays st = if_lt 0 k (after (world x.machine st x.memory) k) (within_step t c lw lc d (world x.machine st x.memory))
+  unfoldable pub end_by : ℕ → World → Option Transfer → List ℕ → After
+  end_by k x (Some go) st = after (world (moved_to x.machine go.next go.frame go.used go.top) st x.memory) (k + 1)
+  end_by k x None st = if_lt 0 k (after (world x.machine st x.memory) k) (within_step t c lw lc d (world x.machine st x.memory))
 
   -- a call or a return of function g, whose frame has this size; else nothing, or the exact step where k is 0
   unfoldable pub plain_run_end : ℕ → ℕ → ℕ → World → After

@@ -14,10 +14,6 @@ use Rattle.vm_definitions.specs.declared.Outcome.{Outcome}
 use Rattle.vm_definitions.specs.declared.Broken.{Broken}
 use Rattle.vm_definitions.specs.declared.Broken.TheVariants.{No, Somewhere}
 
--- nothing happened, but perhaps a 35
-abbrev pub given_back : Machine → Broken → Outcome
-given_back r b = record { machine = r; count = 0; broken = b }
-
 unfoldable pub is_running : State → Bool
 is_running Running = true
 is_running (Finished v) = false

@@ -12,23 +12,12 @@ ghost use Rattle.vm_guard.specs.Passed.{Passed};
 ghost use Rattle.vm_definitions.specs.Step.{statement_of, step_of, run_of};
 ghost use Rattle.vm_definitions.specs.Lent.{tables_of, world, left};
 ghost use Rattle.prog_tables.specs.Layout.{statement_row};
-ghost use Rattle.vm_run.specs.Within.{given_back, is_running, counts_broken, taken_step, within_step, within_run};
+ghost use Rattle.vm_calls.specs.Outcomes.{given_back};
+ghost use Rattle.vm_run.specs.Within.{is_running, counts_broken, taken_step, within_step, within_run};
 ghost use Rattle.vm_run.specs.Steps.{usable_size, plain_run_end, steps_in_frame, some_steps};
 
 use base_limits::{Machine, State};
 use vm_definitions::{Broken, Outcome};
-use vm_quick_calls::Transfer;
-
-// Nothing happened, but perhaps a 35.
-fn give_back(r: Machine, b: Broken) -> Outcome
-    ensures { result ≡ given_back r b }
-{
-    Outcome {
-        machine: r,
-        count: 0,
-        broken: b,
-    }
-}
 
 // The statement that a record stands at, one that is not refused: a call to an imported function pauses.
 fn obey(
@@ -66,8 +55,8 @@ fn take_step(
     let b = vm_guard::find_broken(t, c, l, lc, d, r, st, m.len());
     match b {
         Broken::No => obey(t, c, l, lc, d, r, st, m),
-        Broken::At(i) => give_back(r, Broken::At(i)),
-        Broken::Somewhere => give_back(r, Broken::Somewhere),
+        Broken::At(i) => vm_calls::give_back(r, Broken::At(i)),
+        Broken::Somewhere => vm_calls::give_back(r, Broken::Somewhere),
     }
 }
 
@@ -108,7 +97,7 @@ fn step_within(
     if is_running(r) {
         return take_step(t, c, l, lc, d, as_running(r), st, m);
     }
-    give_back(r, Broken::No)
+    vm_calls::give_back(r, Broken::No)
 }
 
 // The words of the frame in use, where the record is running and stands in a good one; else 0.
@@ -151,21 +140,16 @@ fn end_plain(
         t, c, l, lc, g, d, size, st, r.frame, r.used, m, r.next, r.top,
     );
     match y {
-        Transfer::To {
-            next,
-            frame,
-            used,
-            top,
-        } => Outcome {
-            machine: keep_running(r, next, frame, used, top),
+        Some(x) => Outcome {
+            machine: keep_running(r, x.next, x.frame, x.used, x.top),
             count: count + 1,
             broken: Broken::No,
         },
-        Transfer::Stays => {
+        None => {
             if 0 < count {
                 return Outcome {
                     machine: r,
-                    count: count,
+                    count,
                     broken: Broken::No,
                 };
             }
@@ -243,6 +227,7 @@ fn run_within(
 {
     let mut q = r;
     let mut count: u64 = 0;
+    // By a count: a turn takes as many steps as `advance` says, so this is no range.
     while count < budget {
         let o = advance(t, c, l, lc, d, budget - count, q, st, m);
         let counted = o.count;
@@ -311,7 +296,7 @@ fn refuse_counts(
     ensures { result ≡ given_back r (counts_broken t.now c l.now lc d r st.now m) }
 {
     let b = judge_counts(t, c, l, lc, d, r, st, m);
-    give_back(r, b)
+    vm_calls::give_back(r, b)
 }
 
 // Steps until the budget is used up, the record has finished, stopped or paused, or a 35 comes.
@@ -330,7 +315,7 @@ pub fn run(
     ensures { left result stack.new memory.new ≡ run_of (program_from Bits32 (tables_of statements.now count labels.now label_count names.now data_length)) budget (world machine stack.old memory.old) }
 {
     if budget == 0 {
-        return give_back(machine, Broken::No);
+        return vm_calls::give_back(machine, Broken::No);
     }
     if is_running(machine) {
         if vm_counts::count_fault(statements, count, labels, label_count, names) {
@@ -357,7 +342,7 @@ pub fn run(
             memory,
         );
     }
-    give_back(machine, Broken::No)
+    vm_calls::give_back(machine, Broken::No)
 }
 
 // One step of the record over the lent tables, stack and memory: a run of one.

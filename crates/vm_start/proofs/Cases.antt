@@ -1,5 +1,6 @@
 -- The ways through a start.
 -- Assumes nothing.
+use Rattle.std.proofs.Common.{Ok, Err}
 use mathlib.Core.Path.{◌≡◌, refl, sym, ◌∙◌, ap, subst}
 use mathlib.Core.Bool.{Bool, true, false, not}
 use mathlib.Core.List.{List}
@@ -32,8 +33,8 @@ use Rattle.vm_definitions.specs.Start.{exports_as, export_of, start_answer, star
 use Rattle.vm_definitions.specs.Lent.{tables_of, world}
 use Rattle.vm_definitions.specs.declared.Broken.{Broken}
 use Rattle.vm_definitions.specs.declared.Broken.TheVariants.{No, At, Somewhere}
-use Rattle.vm_definitions.specs.declared.Started.{Started}
-use Rattle.vm_definitions.specs.declared.Started.TheVariants.{Begun, Refused, Unsound}
+use Rattle.vm_definitions.specs.Start.{Started}
+use Rattle.vm_definitions.specs.declared.StartError.TheVariants.{Refused, Unsound}
 use Rattle.vm_start.specs.Opening.{Opened, opened, opening_of, labels_alone, no_function, aim_fault, rest_fault, rows_broken, refused_with, begun_at, fitted_of, entered_of}
 use Rattle.prog_tables.proofs.Each.{some_at, one-no, one-false}
 
@@ -272,35 +273,35 @@ module _ (g size d : ℕ) (bytes args st m : List ℕ) where
   begun-made st' m' r e q h = rw (e, q, h, add-one g)
 
   module _ (r : Machine) where
-    pub fit-short : length m < d → opened (record { machine = r; answer = Refused 22 }) st m ≡ fitted_of Bits32 g size d bytes args (world r st m)
+    pub fit-short : length m < d → opened (record { machine = r; answer = Err (Refused 22) }) st m ≡ fitted_of Bits32 g size d bytes args (world r st m)
     unfolding fitted_of if_true
     fit-short h = rw (lt-ltb _ _ h)
 
     module _ (h : d ≤ length m) where
-      pub fit-long : 65536 < length m → opened (record { machine = r; answer = Refused 22 }) st m ≡ fitted_of Bits32 g size d bytes args (world r st m)
+      pub fit-long : 65536 < length m → opened (record { machine = r; answer = Err (Refused 22) }) st m ≡ fitted_of Bits32 g size d bytes args (world r st m)
       unfolding fitted_of if_true
       fit-long q = rw (le-ltb _ _ h, lt-ltb _ _ q)
 
       module _ (q : length m ≤ 65536) where
-        pub fit_small : length st < size → opened (record { machine = r; answer = Refused 23 }) st m ≡ fitted_of Bits32 g size d bytes args (world r st m)
+        pub fit_small : length st < size → opened (record { machine = r; answer = Err (Refused 23) }) st m ≡ fitted_of Bits32 g size d bytes args (world r st m)
         unfolding fitted_of if_true
         fit_small e = rw (le-ltb _ _ h, le-ltb _ _ q, lt-ltb _ _ e)
 
         module _ (e : size ≤ length st) where
-          pub fit-large : 16384 < length st → opened (record { machine = r; answer = Refused 23 }) st m ≡ fitted_of Bits32 g size d bytes args (world r st m)
+          pub fit-large : 16384 < length st → opened (record { machine = r; answer = Err (Refused 23) }) st m ≡ fitted_of Bits32 g size d bytes args (world r st m)
           unfolding fitted_of if_true
           fit-large o = rw (le-ltb _ _ h, le-ltb _ _ q, le-ltb _ _ e, lt-ltb _ _ o)
 
           pub fit-begun : (r' : Machine) (st' m' : List ℕ) → length st ≤ 16384 → world r' st' m' ≡ begun_at Bits32 g size d bytes args st m
-              → opened (record { machine = r'; answer = Begun }) st' m' ≡ fitted_of Bits32 g size d bytes args (world r st m)
+              → opened (record { machine = r'; answer = Ok tt }) st' m' ≡ fitted_of Bits32 g size d bytes args (world r st m)
           unfolding fitted_of if_true
           fit-begun r' st' m' o p =
-              rw (le-ltb _ _ h, le-ltb _ _ q, le-ltb _ _ e, le-ltb _ _ o) (ap (λ (x : World). record { answer = Begun; world = x }) p)
+              rw (le-ltb _ _ h, le-ltb _ _ q, le-ltb _ _ e, le-ltb _ _ o) (ap (λ (x : World). record { answer = Ok tt; world = x }) p)
 
 pub ruleset fit-ways = (fit-short, fit-long, fit_small, fit-large, fit-begun)
 
 module _ (f : ℕ → Row) (g d : ℕ) (bytes args st m : List ℕ) (r : Machine) (p : ℕ) (e : p ≡ (f g).b) where
-  pub enter-count : (length args ≡ p → ⊥) → opened (record { machine = r; answer = Refused 21 }) st m ≡ entered_of Bits32 f g d bytes args (world r st m)
+  pub enter-count : (length args ≡ p → ⊥) → opened (record { machine = r; answer = Err (Refused 21) }) st m ≡ entered_of Bits32 f g d bytes args (world r st m)
   unfolding entered_of if_eq
   enter-count h = rw (← e, ne_eqb _ _ h)
 
@@ -440,17 +441,17 @@ module _ (t : List ℕ) (c : ℕ) (l : List ℕ) (k : ℕ) (names : List ℕ) (d
   abbrev small : Bool
   small = one_of (ltb (length st) (row_at t G).a) (ltb 16384 (length st))
 
-  entered-is : beside (if_eq (length args) (row_at t G).b (if_true short (Refused 22) (if_true small (Refused 23) Begun)) (Refused 21))
+  entered-is : beside (if_eq (length args) (row_at t G).b (if_true short (Err (Refused 22)) (if_true small (Err (Refused 23)) (Ok tt))) (Err (Refused 21)))
       ≡ entered_of Bits32 (row_at t) G d bytes args X
   unfolding entered_of fitted_of begun_by start_world begun_at
   entered-is =
-      push-eq beside (length args) (row_at t G).b (if_true short (Refused 22) (if_true small (Refused 23) Begun)) (Refused 21)
+      push-eq beside (length args) (row_at t G).b (if_true short (Err (Refused 22)) (if_true small (Err (Refused 23)) (Ok tt))) (Err (Refused 21))
       ∙ ap (λ (z : Opened). if_eq (length args) (row_at t G).b z (refused_with 21 X))
-      (push-true beside short (Refused 22) (if_true small (Refused 23) Begun)
-      ∙ ap (λ (z : Opened). if_true short (refused_with 22 X) z) (push-true beside small (Refused 23) Begun))
+      (push-true beside short (Err (Refused 22)) (if_true small (Err (Refused 23)) (Ok tt))
+      ∙ ap (λ (z : Opened). if_true short (refused_with 22 X) z) (push-true beside small (Err (Refused 23)) (Ok tt)))
 
   module _ (s : start_broken T (length bytes) ≡ No) (e : ℕ) (q : e ≡ export_of (labels_alone l k names) name) where
-    pub begin-none : k ≤ e → opened (record { machine = r; answer = Refused 20 }) st m ≡ opening_of T bytes name args X
+    pub begin-none : k ≤ e → opened (record { machine = r; answer = Err (Refused 20) }) st m ≡ opening_of T bytes name args X
     unfolding begun_by start_answer
     begin-none h = ap beside (sym (if_lt-no _ _ (subst (λ (j : ℕ). k ≤ j) (q ∙ export_is) h))) ∙ answered s
 
@@ -463,11 +464,11 @@ module _ (t : List ℕ) (c : ℕ) (l : List ℕ) (k : ℕ) (names : List ℕ) (d
         ∙ answered s
 
   module _ (b : Broken) (e : b ≡ start_broken T (length bytes)) where
-    pub start-at : (i : ℕ) → b ≡ At i → opened (record { machine = r; answer = Unsound (At i) }) st m ≡ opening_of T bytes name args X
+    pub start-at : (i : ℕ) → b ≡ At i → opened (record { machine = r; answer = Err (Unsound (At i)) }) st m ≡ opening_of T bytes name args X
     unfolding start_of start_leaves start_by begun_by
     start-at i h = rw (← e, h)
 
-    pub start-somewhere : b ≡ Somewhere → opened (record { machine = r; answer = Unsound Somewhere }) st m ≡ opening_of T bytes name args X
+    pub start-somewhere : b ≡ Somewhere → opened (record { machine = r; answer = Err (Unsound Somewhere) }) st m ≡ opening_of T bytes name args X
     unfolding start_of start_leaves start_by begun_by
     start-somewhere h = rw (← e, h)
 

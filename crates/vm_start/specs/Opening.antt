@@ -1,6 +1,6 @@
 -- A start's answer and the world it leaves, side by side; and the parts of it that the code decides one after another.
 -- Assumes nothing.
-use Rattle.std.specs.Prelude.{ℕ, suc, Bool, not, List, [], ◌∷◌, ltb, leb, eqb, length, take}
+use Rattle.std.specs.Prelude.{ℕ, suc, Bool, not, List, [], ◌∷◌, ltb, leb, eqb, length, take, Ok, Err}
 use Rattle.base_prelude.specs.Choice.{if_eq, if_true}
 use Rattle.base_limits.specs.Limits.{stack_words}
 use Rattle.base_limits.specs.Width.{memory_limit}
@@ -23,8 +23,8 @@ use Rattle.vm_definitions.specs.Lent.{tables_of, world}
 use Rattle.vm_definitions.specs.declared.Broken.{Broken}
 use Rattle.vm_definitions.specs.declared.Broken.TheVariants.{No, Somewhere}
 use Rattle.vm_definitions.specs.declared.Opening.{Opening}
-use Rattle.vm_definitions.specs.declared.Started.{Started}
-use Rattle.vm_definitions.specs.declared.Started.TheVariants.{Begun, Refused}
+use Rattle.vm_definitions.specs.Start.{Started}
+use Rattle.vm_definitions.specs.declared.StartError.TheVariants.{Refused}
 
 pub record Opened : Type 0 where
   pub answer : Started
@@ -62,7 +62,7 @@ rows_broken p n = or_else (lowest (row_fault p) (numbers_below p.count)) (if_tru
 -- ---- the parts behind the label: function row g, its frame of `size` words, d bytes of data
 
 abbrev pub refused_with : ℕ → World → Opened
-refused_with k x = record { answer = Refused k; world = x }
+refused_with k x = record { answer = Err (Refused k); world = x }
 
 unfoldable pub begun_at : Width → ℕ → ℕ → ℕ → List ℕ → List ℕ → List ℕ → List ℕ → World
 begun_at w g size d bytes args st m =
@@ -77,7 +77,7 @@ unfoldable pub fitted_of : Width → ℕ → ℕ → ℕ → List ℕ → List �
 fitted_of w g size d bytes args x =
     if_true (one_of (ltb (length x.memory) d) (ltb (memory_limit w) (length x.memory))) (refused_with 22 x)
     (if_true (one_of (ltb (length x.stack) size) (ltb stack_words (length x.stack))) (refused_with 23 x)
-    (record { answer = Begun; world = begun_at w g size d bytes args x.stack x.memory }))
+    (record { answer = Ok tt; world = begun_at w g size d bytes args x.stack x.memory }))
 
 -- 21, then these
 unfoldable pub entered_of : Width → (ℕ → Row) → ℕ → ℕ → List ℕ → List ℕ → World → Opened

@@ -19,7 +19,7 @@ ghost use Rattle.vm_start.specs.Opening.{opened, opening_of, labels_alone, no_fu
 use base_limits::Machine;
 use lang_kinds::Kind;
 use prog_tables::{LabelKind, LabelRow, Table};
-use vm_definitions::{Broken, Opening, Started};
+use vm_definitions::{Broken, Opening, StartError};
 
 // The lowest broken row.
 fn broken_row(t: &[u32], c: u32, l: &[u32], k: u32, d: u32) -> Broken
@@ -215,31 +215,31 @@ fn fit(
     if m.len() < d as usize {
         return Opening {
             machine,
-            answer: Started::Refused(22),
+            answer: Err(StartError::Refused(22)),
         };
     }
     if Machine::MEMORY_BYTES < m.len() {
         return Opening {
             machine,
-            answer: Started::Refused(22),
+            answer: Err(StartError::Refused(22)),
         };
     }
     if st.len() < size as usize {
         return Opening {
             machine,
-            answer: Started::Refused(23),
+            answer: Err(StartError::Refused(23)),
         };
     }
     if Machine::STACK_WORDS < st.len() {
         return Opening {
             machine,
-            answer: Started::Refused(23),
+            answer: Err(StartError::Refused(23)),
         };
     }
     let fresh = open(g, size, d, bytes, args, st, m);
     Opening {
         machine: fresh,
-        answer: Started::Begun,
+        answer: Ok(()),
     }
 }
 
@@ -263,7 +263,7 @@ fn enter(
     if n != p as usize {
         return Opening {
             machine,
-            answer: Started::Refused(21),
+            answer: Err(StartError::Refused(21)),
         };
     }
     let size = prog_tables::a_at(t, g);
@@ -295,7 +295,7 @@ fn begin(
     }
     Opening {
         machine,
-        answer: Started::Refused(20),
+        answer: Err(StartError::Refused(20)),
     }
 }
 
@@ -342,11 +342,11 @@ pub fn start(
         ),
         Broken::At(i) => Opening {
             machine,
-            answer: Started::Unsound(Broken::At(i)),
+            answer: Err(StartError::Unsound(Broken::At(i))),
         },
         Broken::Somewhere => Opening {
             machine,
-            answer: Started::Unsound(Broken::Somewhere),
+            answer: Err(StartError::Unsound(Broken::Somewhere)),
         },
     }
 }

@@ -1,5 +1,7 @@
 -- The ways through the functions of statements.
 -- Assumes nothing.
+use Rattle.std.proofs.Common.{Err, None, Option, Some, Ok}
+use Rattle.vm_definitions.specs.Operands.{Worked}
 use mathlib.Core.Path.{◌≡◌, refl, sym, ◌∙◌, ap}
 use mathlib.Core.Bool.{Bool, true, false}
 use mathlib.Core.List.{List, [], ◌∷◌}
@@ -27,15 +29,11 @@ use Rattle.vm_definitions.specs.Frames.{is_calling}
 use Rattle.vm_definitions.specs.Step.{Effect, keeps, stores, goes_to, block_of, end_block_of, test_of, assigned, assigned_at, set_at_of, set_byte_by, set_word_by, arguments_of, returned, worked_of, effect_of, effected}
 use Rattle.vm_definitions.specs.Lent.{world, left}
 use Rattle.vm_definitions.specs.declared.Outcome.{Outcome}
-use Rattle.vm_definitions.specs.declared.Read.{Read}
-use Rattle.vm_definitions.specs.declared.Read.TheVariants.{Got, Bad}
-use Rattle.vm_definitions.specs.declared.Worked.{Worked}
-use Rattle.vm_definitions.specs.declared.Worked.TheVariants.{Value, Stop}
 use Rattle.vm_calls.specs.Outcomes.{one_step, halted, after, calling, at_calling, tail_calling, handing, assigning, setting_byte, setting_word}
 use Rattle.vm_statements.proofs.Forms.{test-bare, test-row}
-use Rattle.vm_statements.specs.Three.{three_words}
-use Rattle.vm_statements.specs.declared.Three.{Three}
-use Rattle.vm_statements.specs.declared.Three.TheVariants.{All, Unread}
+use Rattle.vm_statements.specs.Three.{three_words, store}
+use Rattle.vm_statements.specs.declared.Store.{Store}
+use Rattle.vm_definitions.specs.declared.Value.{Value}
 use Rattle.vm_statements.specs.Ready.{Ready, setting_local, assigning_at, returning}
 use Rattle.prog_tables.proofs.Ranges.{one_more_lem}
 
@@ -136,54 +134,54 @@ module _ (t : List ℕ) (c : ℕ) (r : Machine) (st m : List ℕ) where
   test-uses e = test-used row.kind row.expr row.count e
 
   -- a test
-  module _ (k : ℕ) (a : Operand) (f : Read) (e : k ≡ row.kind) (i : is_test k ≡ true) (p : a ≡ slot t r.next 0) (q : f ≡ read_of Bits32 st r.frame m a) where
+  module _ (k : ℕ) (a : Operand) (f : Option ℕ) (e : k ≡ row.kind) (i : is_test k ≡ true) (p : a ≡ slot t r.next 0) (q : f ≡ read_of Bits32 st r.frame m a) where
     is-test : is_test row.kind ≡ true
     is-test = ap is_test (sym e) ∙ i
 
     are : row.operands ≡ slot t r.next 0 ∷ slot t r.next 1 ∷ []
     are = operands-are t r.next 2 (test-uses is-test) ∙ two-slots t r.next
 
-    pub test-first : (o : Outcome) → f ≡ Bad → o ≡ halted r 32 → left o st m ≡ after test_of t c r st m
+    pub test-first : (o : Outcome) → f ≡ None → o ≡ halted r 32 → left o st m ≡ after test_of t c r st m
     unfolding test_of on_read effected
     test-first o h d = rw (are, ← p, ← q, h, d)
 
-    module _ (b : Operand) (g : Read) (x : ℕ) (h : f ≡ Got x) (s : b ≡ slot t r.next 1) (u : g ≡ read_of Bits32 st r.frame m b) where
-      pub test-second : (o : Outcome) → g ≡ Bad → o ≡ halted r 32 → left o st m ≡ after test_of t c r st m
+    module _ (b : Operand) (g : Option ℕ) (x : ℕ) (h : f ≡ Some x) (s : b ≡ slot t r.next 1) (u : g ≡ read_of Bits32 st r.frame m b) where
+      pub test-second : (o : Outcome) → g ≡ None → o ≡ halted r 32 → left o st m ≡ after test_of t c r st m
       unfolding test_of on_read effected
       test-second o l d = rw (are, ← p, ← q, h, ← s, ← u, l, d)
 
-      pub test-both : (y : ℕ) (o : Outcome) → g ≡ Got y
+      pub test-both : (y : ℕ) (o : Outcome) → g ≡ Some y
           → o ≡ one_step (going_on r (if_true (test_holds Bits32 k x y) (suc r.next) (row_at t r.next).a) r.top) → left o st m ≡ after test_of t c r st m
       unfolding test_of on_read effected goes_to
       test-both y o l d = rw (are, ← p, ← q, h, ← s, ← u, l, ← e, d)
 
   -- `let` and `set` of a local
   module _ (x : Worked) (e : x ≡ worked_of (rows_alone t c) (world r st m)) where
-    pub assign-value : (v top a : ℕ) (st' : List ℕ) (o : Outcome) → x ≡ Value v top → a ≡ row.a → st' ≡ set st (r.frame + a) v
-        → o ≡ one_step (going_on r (r.next + 1) top) → left o st' m ≡ after assigning t c r st m
+    pub assign-value : (v : Value) (a : ℕ) (st' : List ℕ) (o : Outcome) → x ≡ Ok v → a ≡ row.a → st' ≡ set st (r.frame + a) v.word
+        → o ≡ one_step (going_on r (r.next + 1) v.top) → left o st' m ≡ after assigning t c r st m
     unfolding assigned effected keeps store_from
-    assign-value v top a st' o h d q p = rw (← e, h, ← d, q, went r top o p)
+    assign-value v a st' o h d q p = rw (← e, h, ← d, q, went r v.top o p)
 
-    pub assign-stop : (k : ℕ) (o : Outcome) → x ≡ Stop k → o ≡ halted r k → left o st m ≡ after assigning t c r st m
+    pub assign-stop : (k : ℕ) (o : Outcome) → x ≡ Err k → o ≡ halted r k → left o st m ≡ after assigning t c r st m
     unfolding assigned effected
     assign-stop k o h q = rw (← e, h, q)
 
     -- `set @`
-    pub word_value : (v top a : ℕ) (m' : List ℕ) (o : Outcome) → x ≡ Value v top → a ≡ number_in Bits32 st r.frame row.address → m' ≡ store_from m a (word_bytes 4 v)
-        → o ≡ one_step (going_on r (r.next + 1) top) → left o st m' ≡ after assigning_at t c r st m
+    pub word_value : (v : Value) (a : ℕ) (m' : List ℕ) (o : Outcome) → x ≡ Ok v → a ≡ number_in Bits32 st r.frame row.address → m' ≡ store_from m a (word_bytes 4 v.word)
+        → o ≡ one_step (going_on r (r.next + 1) v.top) → left o st m' ≡ after assigning_at t c r st m
     unfolding assigned_at effected stores
-    word_value v top a m' o h d q p = rw (← e, h, ← d, q, went r top o p)
+    word_value v a m' o h d q p = rw (← e, h, ← d, q, went r v.top o p)
 
-    pub word-stop : (k : ℕ) (o : Outcome) → x ≡ Stop k → o ≡ halted r k → left o st m ≡ after assigning_at t c r st m
+    pub word-stop : (k : ℕ) (o : Outcome) → x ≡ Err k → o ≡ halted r k → left o st m ≡ after assigning_at t c r st m
     unfolding assigned_at effected
     word-stop k o h q = rw (← e, h, q)
 
     -- `return` with an expression
-    pub return-value : (v top : ℕ) (o : Outcome) (st' m' : List ℕ) → x ≡ Value v top → left o st' m' ≡ after (handing v) t c r st m → left o st' m' ≡ after returning t c r st m
+    pub return-value : (v : Value) (o : Outcome) (st' m' : List ℕ) → x ≡ Ok v → left o st' m' ≡ after (handing v.word) t c r st m → left o st' m' ≡ after returning t c r st m
     unfolding returned
-    return-value v top o st' m' h q = rw (← e, h) q
+    return-value v o st' m' h q = rw (← e, h) q
 
-    pub return-stop : (k : ℕ) (o : Outcome) → x ≡ Stop k → o ≡ halted r k → left o st m ≡ after returning t c r st m
+    pub return-stop : (k : ℕ) (o : Outcome) → x ≡ Err k → o ≡ halted r k → left o st m ≡ after returning t c r st m
     unfolding returned effected
     return-stop k o h q = rw (← e, h, q)
 
@@ -225,64 +223,64 @@ module _ (t : List ℕ) (c : ℕ) (r : Machine) (st m : List ℕ) where
     word-off d i h q = rw (e, ← d, ← i, h, q)
 
   -- a row of either kind
-  module _ (x : Three) (e : three_words x ≡ read_all Bits32 st r.frame m (take 3 (slots t (r.next * 27)))) where
+  module _ (x : Option Store) (e : three_words x ≡ read_all Bits32 st r.frame m (take 3 (slots t (r.next * 27)))) where
     three-read : used_by row.kind row.expr row.count ≡ 3 → arguments_of (rows_alone t c) (world r st m) ≡ three_words x
     unfolding arguments_of
     three-read u = ap (read_all Bits32 st r.frame m) (operands-are t r.next 3 u) ∙ sym e
 
-    unread : x ≡ Unread → used_by row.kind row.expr row.count ≡ 3 → arguments_of (rows_alone t c) (world r st m) ≡ bad
+    unread : x ≡ None → used_by row.kind row.expr row.count ≡ 3 → arguments_of (rows_alone t c) (world r st m) ≡ bad
     unfolding three_words
     unread d u = three-read u ∙ ap three_words d
 
-    all_read : (b o v : ℕ) → x ≡ All b o v → used_by row.kind row.expr row.count ≡ 3 → arguments_of (rows_alone t c) (world r st m) ≡ machine.words (b ∷ o ∷ v ∷ [])
+    all_read : (y : Store) → x ≡ Some y → used_by row.kind row.expr row.count ≡ 3 → arguments_of (rows_alone t c) (world r st m) ≡ machine.words (y.base ∷ y.offset ∷ y.value ∷ [])
     unfolding three_words
-    all_read b o v d u = three-read u ∙ ap three_words d
+    all_read y d u = three-read u ∙ ap three_words d
 
     module _ (k : row.kind ≡ 8) where
       has-8 : used_by row.kind row.expr row.count ≡ 3
       has-8 = byte-used row.kind row.expr row.count k
 
-      pub byte-unread : (o : Outcome) → x ≡ Unread → o ≡ halted r 32 → left o st m ≡ after setting_byte t c r st m
+      pub byte-unread : (o : Outcome) → x ≡ None → o ≡ halted r 32 → left o st m ≡ after setting_byte t c r st m
       byte-unread o d q = byte-bad o (unread d has-8) q
 
-      module _ (b i v a : ℕ) (h : Bool) (o : Outcome) (d : x ≡ All b i v) (da : a ≡ byte_address Bits32 b i) (dh : h ≡ byte_good (length m) a) where
-        pub byte-in : (m' : List ℕ) → h ≡ true → m' ≡ store_from m a (v % 256 ∷ []) → o ≡ one_step (going_on r (r.next + 1) r.top) → left o st m' ≡ after setting_byte t c r st m
-        byte-in m' l w q = byte_put b i v a h o (all_read b i v d has-8) m' da dh l w q
+      module _ (y : Store) (a : ℕ) (h : Bool) (o : Outcome) (d : x ≡ Some y) (da : a ≡ byte_address Bits32 y.base y.offset) (dh : h ≡ byte_good (length m) a) where
+        pub byte-in : (m' : List ℕ) → h ≡ true → m' ≡ store_from m a (y.value % 256 ∷ []) → o ≡ one_step (going_on r (r.next + 1) r.top) → left o st m' ≡ after setting_byte t c r st m
+        byte-in m' l w q = byte_put y.base y.offset y.value a h o (all_read y d has-8) m' da dh l w q
 
         pub byte-out : h ≡ false → o ≡ halted r 32 → left o st m ≡ after setting_byte t c r st m
-        byte-out l q = byte-off b i v a h o (all_read b i v d has-8) da dh l q
+        byte-out l q = byte-off y.base y.offset y.value a h o (all_read y d has-8) da dh l q
 
     module _ (k : row.kind ≡ 9) where
       has-9 : used_by row.kind row.expr row.count ≡ 3
       has-9 = word-used row.kind row.expr row.count k
 
-      pub word-unread : (o : Outcome) → x ≡ Unread → o ≡ halted r 32 → left o st m ≡ after setting_word t c r st m
+      pub word-unread : (o : Outcome) → x ≡ None → o ≡ halted r 32 → left o st m ≡ after setting_word t c r st m
       word-unread o d q = word-bad o (unread d has-9) q
 
-      module _ (b i v a : ℕ) (h : Bool) (o : Outcome) (d : x ≡ All b i v) (da : a ≡ word_address Bits32 b i) (dh : h ≡ word_good Bits32 (length m) a) where
-        pub word_in : (m' : List ℕ) → h ≡ true → m' ≡ store_from m a (word_bytes 4 v) → o ≡ one_step (going_on r (r.next + 1) r.top) → left o st m' ≡ after setting_word t c r st m
-        word_in m' l w q = word-put b i v a h o (all_read b i v d has-9) m' da dh l w q
+      module _ (y : Store) (a : ℕ) (h : Bool) (o : Outcome) (d : x ≡ Some y) (da : a ≡ word_address Bits32 y.base y.offset) (dh : h ≡ word_good Bits32 (length m) a) where
+        pub word_in : (m' : List ℕ) → h ≡ true → m' ≡ store_from m a (word_bytes 4 y.value) → o ≡ one_step (going_on r (r.next + 1) r.top) → left o st m' ≡ after setting_word t c r st m
+        word_in m' l w q = word-put y.base y.offset y.value a h o (all_read y d has-9) m' da dh l w q
 
         pub word_out : h ≡ false → o ≡ halted r 32 → left o st m ≡ after setting_word t c r st m
-        word_out l q = word-off b i v a h o (all_read b i v d has-9) da dh l q
+        word_out l q = word-off y.base y.offset y.value a h o (all_read y d has-9) da dh l q
 
 -- three operands, left to right
-module _ (t : List ℕ) (n : ℕ) (st : List ℕ) (s : ℕ) (m : List ℕ) (p : Operand) (f : Read) (dp : p ≡ slot t n 0) (ef : f ≡ read_of Bits32 st s m p) where
-  pub three-0 : f ≡ Bad → three_words Unread ≡ read_all Bits32 st s m (take 3 (slots t (n * 27)))
+module _ (t : List ℕ) (n : ℕ) (st : List ℕ) (s : ℕ) (m : List ℕ) (p : Operand) (f : Option ℕ) (dp : p ≡ slot t n 0) (ef : f ≡ read_of Bits32 st s m p) where
+  pub three-0 : f ≡ None → three_words None ≡ read_all Bits32 st s m (take 3 (slots t (n * 27)))
   unfolding three_words read_all on_read
   three-0 e = rw (three-slots t n, ← dp, ← ef, e)
 
-  module _ (q : Operand) (g : Read) (x : ℕ) (gf : f ≡ Got x) (dq : q ≡ slot t n 1) (eg : g ≡ read_of Bits32 st s m q) where
-    pub three-1 : g ≡ Bad → three_words Unread ≡ read_all Bits32 st s m (take 3 (slots t (n * 27)))
+  module _ (q : Operand) (g : Option ℕ) (x : ℕ) (gf : f ≡ Some x) (dq : q ≡ slot t n 1) (eg : g ≡ read_of Bits32 st s m q) where
+    pub three-1 : g ≡ None → three_words None ≡ read_all Bits32 st s m (take 3 (slots t (n * 27)))
     unfolding three_words read_all on_read with_word
     three-1 e = rw (three-slots t n, ← dp, ← ef, gf, ← dq, ← eg, e)
 
-    module _ (v : Operand) (h : Read) (y : ℕ) (gg : g ≡ Got y) (dv : v ≡ slot t n 2) (eh : h ≡ read_of Bits32 st s m v) where
-      pub three-2 : h ≡ Bad → three_words Unread ≡ read_all Bits32 st s m (take 3 (slots t (n * 27)))
+    module _ (v : Operand) (h : Option ℕ) (y : ℕ) (gg : g ≡ Some y) (dv : v ≡ slot t n 2) (eh : h ≡ read_of Bits32 st s m v) where
+      pub three-2 : h ≡ None → three_words None ≡ read_all Bits32 st s m (take 3 (slots t (n * 27)))
       unfolding three_words read_all on_read with_word
       three-2 e = rw (three-slots t n, ← dp, ← ef, gf, ← dq, ← eg, gg, ← dv, ← eh, e)
 
-      pub three-all : (z : ℕ) → h ≡ Got z → three_words (All x y z) ≡ read_all Bits32 st s m (take 3 (slots t (n * 27)))
+      pub three-all : (z : ℕ) → h ≡ Some z → three_words (store x y z) ≡ read_all Bits32 st s m (take 3 (slots t (n * 27)))
       unfolding three_words read_all on_read with_word
       three-all z e = rw (three-slots t n, ← dp, ← ef, gf, ← dq, ← eg, gg, ← dv, ← eh, e)
 

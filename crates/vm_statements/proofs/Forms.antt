@@ -1,5 +1,6 @@
 -- What the statement of each kind does, and what its row has.
 -- Assumes nothing.
+use Rattle.vm_definitions.specs.Operands.{valued}
 use mathlib.Core.Path.{◌≡◌, refl, sym, ◌∙◌, ap}
 use mathlib.Core.Bool.{Bool, true, false}
 use mathlib.Core.List.{List, [], ◌∷◌}
@@ -20,7 +21,6 @@ use Rattle.prog_tables.specs.Program.{Program}
 use Rattle.prog_tables.specs.Faults.{expression_listed}
 use Rattle.vm_definitions.specs.Frames.{is_return, is_calling, importing, leaves_good}
 use Rattle.vm_definitions.specs.Step.{World, Effect, row_of, block_of, end_block_of, test_of, set_at_of, goes_to, call_of, return_of, returned, worked_of, effect_of}
-use Rattle.vm_definitions.specs.declared.Worked.TheVariants.{Value}
 use Rattle.vm_calls.specs.Outcomes.{calling, at_calling, tail_calling, handing, assigning, setting_byte, setting_word, Expressed, Calls}
 use Rattle.vm_statements.specs.Ready.{Ready, setting_local}
 use Rattle.prog_tables.proofs.Each.{one-true}

@@ -21,7 +21,7 @@ ghost use Rattle.vm_statements.specs.Ready.{Ready, setting_local, assigning_at, 
 use base_limits::Machine;
 use lang_kinds::Kind;
 use prog_tables::ExpressionKind;
-use vm_definitions::{Outcome, Read, Worked};
+use vm_definitions::{Outcome, Value};
 
 // `block`: the auto top is saved, the block's words are zeroed.
 fn enter_block(t: &[u32], r: Machine, st: &mut [u32]) -> Outcome
@@ -71,12 +71,10 @@ fn run_test(t: &[u32], c: u32, r: Machine, k: u32, st: &[u32], m: &[u8]) -> Outc
 {
     let n = r.next;
     let s = r.frame;
-    let f = vm_operands::read_operand(st, s, m, prog_tables::slot_at(t, n, 0));
-    let Read::Got(x) = f else {
+    let Some(x) = vm_operands::read_operand(st, s, m, prog_tables::slot_at(t, n, 0)) else {
         return vm_calls::stop(r, 32);
     };
-    let g = vm_operands::read_operand(st, s, m, prog_tables::slot_at(t, n, 1));
-    let Read::Got(y) = g else {
+    let Some(y) = vm_operands::read_operand(st, s, m, prog_tables::slot_at(t, n, 1)) else {
         return vm_calls::stop(r, 32);
     };
     branch(t, r, k, x, y)
@@ -91,12 +89,12 @@ fn assign(t: &[u32], c: u32, r: Machine, st: &mut [u32], m: &[u8]) -> Outcome
     let frame = r.frame;
     let x = vm_calls::work(t, c, r, st, m);
     match x {
-        Worked::Value { word, top } => {
+        Ok(v) => {
             let a = prog_tables::a_at(t, n);
-            vm_memory::put(st, frame as usize + a as usize, word);
-            vm_calls::go_on(r, n + 1, top)
+            vm_memory::put(st, frame as usize + a as usize, v.word);
+            vm_calls::go_on(r, n + 1, v.top)
         }
-        Worked::Stop(k) => vm_calls::stop(r, k),
+        Err(k) => vm_calls::stop(r, k),
     }
 }
 
@@ -121,11 +119,11 @@ fn assign_word(t: &[u32], c: u32, r: Machine, a: u32, st: &[u32], m: &mut [u8]) 
     let n = r.next;
     let x = vm_calls::work(t, c, r, st, m);
     match x {
-        Worked::Value { word, top } => {
-            vm_memory::put_word(m, a, word);
-            vm_calls::go_on(r, n + 1, top)
+        Ok(v) => {
+            vm_memory::put_word(m, a, v.word);
+            vm_calls::go_on(r, n + 1, v.top)
         }
-        Worked::Stop(k) => vm_calls::stop(r, k),
+        Err(k) => vm_calls::stop(r, k),
     }
 }
 
@@ -156,34 +154,26 @@ fn set_at(t: &[u32], c: u32, r: Machine, st: &mut [u32], m: &mut [u8]) -> Outcom
     assign_at(t, c, r, st, m)
 }
 
-// Base, offset and value of `set-byte` and `set-word`, or one of them could not be read.
-#[derive(Drop)]
-pub enum Three {
-    All { base: u32, offset: u32, value: u32 },
-    Unread,
+// Base, offset and value of `set-byte` and `set-word`.
+#[derive(Clone, Copy, Debug, PartialEq, Eq)]
+pub struct Store {
+    pub base: u32,
+    pub offset: u32,
+    pub value: u32,
 }
 
-// The three operands of row n, left to right.
-fn read_three(t: &[u32], n: u32, st: &[u32], s: u32, m: &[u8]) -> Three
+// The three operands of row n, left to right, where all could be read.
+fn read_three(t: &[u32], n: u32, st: &[u32], s: u32, m: &[u8]) -> Option<Store>
     ensures { three_words result ≡ read_all Bits32 st.now s m.now (take 3 (slots t.now (place_of n))) }
 {
-    let f = vm_operands::read_operand(st, s, m, prog_tables::slot_at(t, n, 0));
-    let Read::Got(base) = f else {
-        return Three::Unread;
-    };
-    let g = vm_operands::read_operand(st, s, m, prog_tables::slot_at(t, n, 1));
-    let Read::Got(offset) = g else {
-        return Three::Unread;
-    };
-    let h = vm_operands::read_operand(st, s, m, prog_tables::slot_at(t, n, 2));
-    let Read::Got(value) = h else {
-        return Three::Unread;
-    };
-    Three::All {
-        base: base,
-        offset: offset,
-        value: value,
-    }
+    let base = vm_operands::read_operand(st, s, m, prog_tables::slot_at(t, n, 0))?;
+    let offset = vm_operands::read_operand(st, s, m, prog_tables::slot_at(t, n, 1))?;
+    let value = vm_operands::read_operand(st, s, m, prog_tables::slot_at(t, n, 2))?;
+    Some(Store {
+        base,
+        offset,
+        value,
+    })
 }
 
 // `set-byte`: base, offset and value are read before the address is judged.
@@ -194,24 +184,19 @@ fn set_byte(t: &[u32], c: u32, r: Machine, st: &[u32], m: &mut [u8]) -> Outcome
     let n = r.next;
     let s = r.frame;
     let top = r.top;
-    let x = read_three(t, n, st, s, m);
-    let Three::All {
-        base,
-        offset,
-        value,
-    } = x
-    else {
+    let Some(x) = read_three(t, n, st, s, m) else {
         return vm_calls::stop(r, 32);
     };
-    let a = vm_operands::byte_address(base, offset);
+    let a = vm_operands::byte_address(x.base, x.offset);
     if vm_operands::has_byte(m.len(), a) {
-        vm_memory::put_byte(m, a, value);
+        vm_memory::put_byte(m, a, x.value);
         return vm_calls::go_on(r, n + 1, top);
     }
     vm_calls::stop(r, 32)
 }
 
 // `set-word`: base, offset and value are read before the address is judged.
+// Not one with `set-byte`: address, test and store differ, which it would take as arguments: no plainer.
 fn set_word(t: &[u32], c: u32, r: Machine, st: &[u32], m: &mut [u8]) -> Outcome
     requires { (r.next < greatest_word) × ((row_at t.now r.next).kind ≡ kind.set_word) }
     ensures { left result st.now m.new ≡ after setting_word t.now c r st.now m.old }
@@ -219,18 +204,12 @@ fn set_word(t: &[u32], c: u32, r: Machine, st: &[u32], m: &mut [u8]) -> Outcome
     let n = r.next;
     let s = r.frame;
     let top = r.top;
-    let x = read_three(t, n, st, s, m);
-    let Three::All {
-        base,
-        offset,
-        value,
-    } = x
-    else {
+    let Some(x) = read_three(t, n, st, s, m) else {
         return vm_calls::stop(r, 32);
     };
-    let a = vm_operands::word_address(base, offset);
+    let a = vm_operands::word_address(x.base, x.offset);
     if vm_operands::has_word(m.len(), a) {
-        vm_memory::put_word(m, a, value);
+        vm_memory::put_word(m, a, x.value);
         return vm_calls::go_on(r, n + 1, top);
     }
     vm_calls::stop(r, 32)
@@ -243,8 +222,8 @@ fn return_value(t: &[u32], c: u32, r: Machine, st: &mut [u32], m: &mut [u8]) -> 
 {
     let x = vm_calls::work(t, c, r, st, m);
     match x {
-        Worked::Value { word, top } => vm_calls::hand_back(t, c, r, word, st, m),
-        Worked::Stop(k) => vm_calls::stop(r, k),
+        Ok(v) => vm_calls::hand_back(t, c, r, v.word, st, m),
+        Err(k) => vm_calls::stop(r, k),
     }
 }
 

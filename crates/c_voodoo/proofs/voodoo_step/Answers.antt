@@ -1,10 +1,10 @@
 use Rattle.c_voodoo.proofs.Cases.{steps}
 use Rattle.c_voodoo.proofs.voodoo_step.Goals as goal
 
-pub returns-in-Fit : goal.returns-in-Fit
-returns-in-Fit c =
+pub returns-in-Some : goal.returns-in-Some
+returns-in-Some c =
     search steps
 
-pub returns-in-Unfit : goal.returns-in-Unfit
-returns-in-Unfit c =
+pub returns-in-None : goal.returns-in-None
+returns-in-None c =
     search steps

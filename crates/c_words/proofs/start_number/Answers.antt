@@ -1,17 +1,12 @@
 use Rattle.c_words.specs.Reply.{start_number}
 use Rattle.c_words.proofs.start_number.Goals as goal
 
-pub returns-in-Begun : goal.returns-in-Begun
+pub returns-in-Ok : goal.returns-in-Ok
 unfolding start_number
-returns-in-Begun c =
+returns-in-Ok c =
     cc
 
-pub returns-in-Refused : goal.returns-in-Refused
+pub returns-in-Err : goal.returns-in-Err
 unfolding start_number
-returns-in-Refused c =
-    cc
-
-pub returns-in-Unsound : goal.returns-in-Unsound
-unfolding start_number
-returns-in-Unsound c =
+returns-in-Err c =
     cc

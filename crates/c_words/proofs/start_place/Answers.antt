@@ -1,17 +1,12 @@
 use Rattle.c_words.specs.Reply.{start_place}
 use Rattle.c_words.proofs.start_place.Goals as goal
 
-pub returns-in-Begun : goal.returns-in-Begun
+pub returns-in-Ok : goal.returns-in-Ok
 unfolding start_place
-returns-in-Begun c =
+returns-in-Ok c =
     cc
 
-pub returns-in-Refused : goal.returns-in-Refused
+pub returns-in-Err : goal.returns-in-Err
 unfolding start_place
-returns-in-Refused c =
-    cc
-
-pub returns-in-Unsound : goal.returns-in-Unsound
-unfolding start_place
-returns-in-Unsound c =
+returns-in-Err c =
     cc

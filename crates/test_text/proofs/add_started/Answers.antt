@@ -1,14 +1,10 @@
 use Rattle.test_text.proofs.Cases.{starteds}
 use Rattle.test_text.proofs.add_started.Goals as goal
 
-pub returns-in-Begun : goal.returns-in-Begun
-returns-in-Begun c =
+pub returns-in-Ok : goal.returns-in-Ok
+returns-in-Ok c =
     search starteds
 
-pub returns-in-Refused : goal.returns-in-Refused
-returns-in-Refused c =
-    search starteds
-
-pub returns-in-Unsound : goal.returns-in-Unsound
-returns-in-Unsound c =
+pub returns-in-Err : goal.returns-in-Err
+returns-in-Err c =
     search starteds

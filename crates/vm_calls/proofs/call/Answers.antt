@@ -1,10 +1,10 @@
 use Rattle.vm_calls.proofs.Cases.{calls}
 use Rattle.vm_calls.proofs.call.Goals as goal
 
-pub returns-then-good : goal.returns-then-good
-returns-then-good c =
+pub returns-in-Some : goal.returns-in-Some
+returns-in-Some c =
     search calls
 
-pub returns : goal.returns
-returns c =
+pub returns-in-None : goal.returns-in-None
+returns-in-None c =
     search calls

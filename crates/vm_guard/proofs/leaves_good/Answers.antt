@@ -1,8 +1,8 @@
 use Rattle.vm_guard.proofs.Cases.{leaving}
 use Rattle.vm_guard.proofs.leaves_good.Goals as goal
 
-pub loop-left-init : goal.loop-left-init
-loop-left-init c =
+pub loop-passed-init : goal.loop-passed-init
+loop-passed-init c =
     search leaving
 
 pub returns-then-m-top : goal.returns-then-m-top
@@ -13,16 +13,16 @@ pub returns-then-is_first : goal.returns-then-is_first
 returns-then-is_first c =
     search leaving
 
-pub loop-left-preserved : goal.loop-left-preserved
-loop-left-preserved c =
+pub loop-passed-preserved : goal.loop-passed-preserved
+loop-passed-preserved c =
     search leaving
 
 pub returns-then-is_called : goal.returns-then-is_called
 returns-then-is_called c =
     search leaving
 
-pub returns-in-loop-left : goal.returns-in-loop-left
-returns-in-loop-left c =
+pub returns-in-loop-passed : goal.returns-in-loop-passed
+returns-in-loop-passed c =
     search leaving
 
 pub returns : goal.returns

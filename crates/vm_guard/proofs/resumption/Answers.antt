@@ -1,20 +1,20 @@
 use Rattle.vm_guard.proofs.Cases.{resumptions}
 use Rattle.vm_guard.proofs.resumption.Goals as goal
 
-pub loop-left-init : goal.loop-left-init
-loop-left-init c =
+pub loop-passed-init : goal.loop-passed-init
+loop-passed-init c =
     search resumptions
 
 pub returns-then-is_first : goal.returns-then-is_first
 returns-then-is_first c =
     search resumptions
 
-pub loop-left-preserved : goal.loop-left-preserved
-loop-left-preserved c =
+pub loop-passed-preserved : goal.loop-passed-preserved
+loop-passed-preserved c =
     search resumptions
 
-pub returns-in-loop-left : goal.returns-in-loop-left
-returns-in-loop-left c =
+pub returns-in-loop-passed : goal.returns-in-loop-passed
+returns-in-loop-passed c =
     search resumptions
 
 pub returns : goal.returns

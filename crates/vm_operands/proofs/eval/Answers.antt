@@ -13,8 +13,8 @@ pub returns-then-least_operands-eq1 : goal.returns-then-least_operands-eq1
 returns-then-least_operands-eq1 c =
     search eval-ways
 
-pub returns-in_default-g : goal.returns-in_default-g
-returns-in_default-g c =
+pub returns-in_default-read_operand : goal.returns-in_default-read_operand
+returns-in_default-read_operand c =
     search eval-ways
 
 pub returns : goal.returns

@@ -10,6 +10,6 @@ pub returns-then-has_word : goal.returns-then-has_word
 returns-then-has_word c =
     search fetch-ways
 
-pub returns : goal.returns
-returns c =
+pub returns-else-has_word : goal.returns-else-has_word
+returns-else-has_word c =
     search fetch-ways

@@ -1,17 +1,12 @@
 use Rattle.vm_definitions.specs.Operators.{answered}
+use Rattle.vm_operands.proofs.Cases.{answered-stop}
 use Rattle.vm_operands.proofs.from_answer.Goals as goal
 
-pub returns-in-Word : goal.returns-in-Word
+pub returns-in-Ok : goal.returns-in-Ok
 unfolding answered
-returns-in-Word c =
+returns-in-Ok c =
     cc
 
-pub returns-in-Division : goal.returns-in-Division
-unfolding answered
-returns-in-Division c =
-    cc
-
-pub returns-in-Shift : goal.returns-in-Shift
-unfolding answered
-returns-in-Shift c =
-    cc
+pub returns-in-Err : goal.returns-in-Err
+returns-in-Err c =
+    search answered-stop

@@ -1,12 +1,12 @@
 use Rattle.vm_definitions.specs.Operators.{fetched}
 use Rattle.vm_operands.proofs.from_read.Goals as goal
 
-pub returns-in-Got : goal.returns-in-Got
+pub returns-in-Some : goal.returns-in-Some
 unfolding fetched
-returns-in-Got c =
+returns-in-Some c =
     cc
 
-pub returns-in-Bad : goal.returns-in-Bad
+pub returns-in-None : goal.returns-in-None
 unfolding fetched
-returns-in-Bad c =
+returns-in-None c =
     cc

@@ -5,6 +5,6 @@ pub returns-then-a-eq0 : goal.returns-then-a-eq0
 returns-then-a-eq0 c =
     search word-ways
 
-pub returns : goal.returns
-returns c =
+pub returns-else-a-eq0 : goal.returns-else-a-eq0
+returns-else-a-eq0 c =
     search word-ways

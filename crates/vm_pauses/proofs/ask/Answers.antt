@@ -1,8 +1,8 @@
 use Rattle.vm_pauses.proofs.Cases.{asks}
 use Rattle.vm_pauses.proofs.ask.Goals as goal
 
-pub returns-then-good : goal.returns-then-good
-returns-then-good c =
+pub returns-in-Some : goal.returns-in-Some
+returns-in-Some c =
     search asks
 
 pub returns : goal.returns

@@ -5,8 +5,8 @@ pub returns-in_default : goal.returns-in_default
 returns-in_default c =
     search twos
 
-pub returns-in_default-g : goal.returns-in_default-g
-returns-in_default-g c =
+pub returns-in_default-read_second : goal.returns-in_default-read_second
+returns-in_default-read_second c =
     search twos
 
 pub returns : goal.returns

@@ -9,10 +9,10 @@ pub returns-then-size-a : goal.returns-then-size-a
 returns-then-size-a c =
     search assigns
 
-pub returns-in-Value : goal.returns-in-Value
-returns-in-Value c =
+pub returns-in-Ok : goal.returns-in-Ok
+returns-in-Ok c =
     search assigns
 
-pub returns-in-Stop : goal.returns-in-Stop
-returns-in-Stop c =
+pub returns-in-Err : goal.returns-in-Err
+returns-in-Err c =
     search assigns

@@ -6,9 +6,9 @@ pub returns-then-k-gt-ADDRESS : goal.returns-then-k-gt-ADDRESS
 returns-then-k-gt-ADDRESS c =
     search ats
 
-pub returns-in_default : goal.returns-in_default
-returns-in_default c =
-    search ats
+pub returns-in_err-a : goal.returns-in_err-a
+returns-in_err-a c =
+    rw c.from_residual.ensures (search (ats, c.in_err-a.was))
 
 pub store_at-requires : goal.store_at-requires
 store_at-requires c =
@@ -16,8 +16,8 @@ store_at-requires c =
 
 pub returns-then-has_word : goal.returns-then-has_word
 returns-then-has_word c =
-    search ats
+    search (ats, c.in_ok-a.was)
 
 pub returns : goal.returns
 returns c =
-    search ats
+    search (ats, c.in_ok-a.was)

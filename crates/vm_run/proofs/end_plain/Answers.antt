@@ -5,8 +5,8 @@ pub returns-then-count-gt0 : goal.returns-then-count-gt0
 returns-then-count-gt0 c =
     search plain-ends
 
-pub returns-in-To : goal.returns-in-To
-returns-in-To c =
+pub returns-in-Some : goal.returns-in-Some
+returns-in-Some c =
     search plain-ends
 
 pub returns-else-count-gt0 : goal.returns-else-count-gt0

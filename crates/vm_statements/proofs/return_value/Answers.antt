@@ -6,10 +6,10 @@ pub hand_back-requires : goal.hand_back-requires
 hand_back-requires c =
     search expressed-leaves
 
-pub returns-in-Value : goal.returns-in-Value
-returns-in-Value c =
+pub returns-in-Ok : goal.returns-in-Ok
+returns-in-Ok c =
     search cases.returns
 
-pub returns-in-Stop : goal.returns-in-Stop
-returns-in-Stop c =
+pub returns-in-Err : goal.returns-in-Err
+returns-in-Err c =
     search cases.returns

@@ -5,8 +5,8 @@ pub returns-in_default : goal.returns-in_default
 returns-in_default c =
     search tested
 
-pub returns-in_default-g : goal.returns-in_default-g
-returns-in_default-g c =
+pub returns-in_default-read_operand : goal.returns-in_default-read_operand
+returns-in_default-read_operand c =
     search tested
 
 pub returns : goal.returns
