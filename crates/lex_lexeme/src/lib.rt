@@ -81,6 +81,7 @@ fn read_digits(s: &[u8], at: usize) -> Decimal
     let mut i = at;
     let mut count: usize = 0;
     let mut value: u64 = 0;
+    // By index: a step leads behind a digit and the continuations before it.
     loop {
         match read_digit(s, i) {
             Ok(x) => {
@@ -93,6 +94,7 @@ fn read_digits(s: &[u8], at: usize) -> Decimal
     }
 }
 
+// A table of constants, as whole_of: one function with both would only move the numbers.
 fn half_of(w: Width) -> u64
     ensures { result ≡ half_of w }
 {
@@ -426,7 +428,7 @@ pub fn next_token(w: Width, s: &[u8], at: usize) -> Result<Option<Lexeme>, Token
     Ok(None)
 }
 
-// A symbol, plain, as a label, or under a mark.
+// A symbol, plain, as a label, or under a mark. One line, as parse_shapes.is_operator: two bounds passed are no plainer.
 pub fn is_named(kind: u32) -> bool
     ensures { result ≡ is_named kind }
 {
