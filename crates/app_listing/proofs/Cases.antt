@@ -7,20 +7,20 @@ use Rattle.base_limits.specs.declared.Width.TheVariants.{Bits32}
 use Rattle.res_hosts.specs.Marks.{host_list}
 use Rattle.res_hosts.specs.Lister.{lister_hosts}
 use Rattle.check_source.specs.Check.{lent, Filled, filled, check_of}
-use Rattle.check_source.specs.declared.Checked.{Checked}
-use Rattle.check_source.specs.declared.Checked.TheVariants.{Accepted, Refused}
+use Rattle.std.proofs.Common.{Ok, Err}
+use Rattle.check_source.specs.Checked.{Checked, Counts, Refusal}
 use Rattle.app_page.specs.Page.{Shown, shown_on, accepted_page, refused_page}
 use Rattle.app_listing.specs.Listing.{full_tables, page_by, page_of, list_of}
 
 module _ (s : List ℕ) (x : Checked) (table names rows out : List ℕ) (z : Shown) where
-  pub page-accepted : (tokens statements labels size : ℕ) → x ≡ Accepted tokens statements labels size → z ≡ shown_on (accepted_page statements labels size table names rows) out
+  pub page-accepted : (p : Counts) → x ≡ Ok p → z ≡ shown_on (accepted_page p.statements p.labels p.size table names rows) out
       → z ≡ shown_on (page_by s x table names rows) out
   unfolding page_by
-  page-accepted tokens statements labels size e q = rw e q
+  page-accepted p e q = rw e q
 
-  pub page-refused : (number place : ℕ) → x ≡ Refused number place → z ≡ shown_on (refused_page s number (place % 4294967296)) out → z ≡ shown_on (page_by s x table names rows) out
+  pub page-refused : (r : Refusal) → x ≡ Err r → z ≡ shown_on (refused_page s r.number (r.place % 4294967296)) out → z ≡ shown_on (page_by s x table names rows) out
   unfolding page_by
-  page-refused number place e q = rw e q
+  page-refused r e q = rw e q
 
 pub ruleset paging = (page-accepted, page-refused)
 

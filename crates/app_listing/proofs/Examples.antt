@@ -5,7 +5,7 @@ use mathlib.Core.List.{[]}
 use Rattle.base_limits.specs.declared.Width.TheVariants.{Bits32}
 use Rattle.prog_tables.specs.Hosts.{Hosts}
 use Rattle.check_source.specs.Check.{lent, refuse, check_of}
-use Rattle.check_source.specs.declared.Checked.TheVariants.{Accepted}
+use Rattle.check_source.specs.Checked.{accepted}
 use Rattle.app_listing.specs.Cases.{case1, case1-page, empty-page, one_byte}
 use Rattle.app_listing.specs.Listing.{list_of}
 use Rattle.app_listing.proofs.Opened.{opened}
@@ -25,7 +25,7 @@ abbrev no_hosts : Hosts
 no_hosts = record { words = []; names = [] }
 
 -- buffers that are just long enough
-pub exact-accepted : (check_of Bits32 no_hosts one_byte (lent 56 0 4 64 1)).answer ≡ Accepted 7 0 1 1
+pub exact-accepted : (check_of Bits32 no_hosts one_byte (lent 56 0 4 64 1)).answer ≡ accepted 7 0 1 1
 unfolding opened
 exact-accepted = refl
 

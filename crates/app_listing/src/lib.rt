@@ -6,12 +6,12 @@ ghost use Rattle.app_page.specs.Page.{shown, shown_on};
 ghost use Rattle.app_listing.specs.Listing.{page_by, list_of};
 ghost use Rattle.base_prelude.specs.Lists.{overlay};
 
-use base_limits::{Machine, Width};
-use check_source::Checked;
+use base_limits::{Machine, Refusal, Width};
+use check_source::Counts;
 use prog_tables::Table;
 
 fn page_of(
-    x: Checked,
+    x: Result<Counts, Refusal>,
     s: &[u8],
     table: &[u32],
     names: &[u8],
@@ -21,14 +21,16 @@ fn page_of(
     ensures { shown result out.new ≡ shown_on (page_by s.now x table.now names.now rows.now) out.old }
 {
     match x {
-        Checked::Accepted {
-            tokens: _,
-            statements,
-            labels,
-            size,
-        } => app_page::accepted_page(statements, labels, size, table, names, rows, out),
-        Checked::Refused { number, place } => {
-            app_page::refused_page(s, number, (place as u64 % Machine::WORD_VALUES) as u32, out)
+        Ok(p) => {
+            app_page::accepted_page(p.statements, p.labels, p.size, table, names, rows, out)
+        }
+        Err(r) => {
+            app_page::refused_page(
+                s,
+                r.number,
+                (r.place as u64 % Machine::WORD_VALUES) as u32,
+                out,
+            )
         }
     }
 }

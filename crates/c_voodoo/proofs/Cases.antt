@@ -8,8 +8,8 @@ use lib.ListN.{length}
 use Rattle.base_prelude.specs.Lists.{overlay}
 use Rattle.base_prelude.proofs.Choice.{if_lt-yes, if_lt-no}
 use Rattle.check_source.specs.Check.{Filled, filled}
-use Rattle.check_source.specs.declared.Checked.{Checked}
-use Rattle.check_source.specs.declared.Checked.TheVariants.{Accepted, Refused}
+use Rattle.std.proofs.Common.{Ok, Err}
+use Rattle.check_source.specs.Checked.{Checked, Counts, Refusal}
 use Rattle.base_limits.specs.declared.Width.TheVariants.{Bits32}
 use Rattle.base_limits.specs.declared.Machine.{Machine}
 use Rattle.base_limits.specs.Record.{fresh_of}
@@ -31,21 +31,21 @@ use Rattle.c_voodoo.specs.Calls.{Answered, answered, replied, unfit, outcome_ans
 -- ---- the answer in words
 
 module _ (x : Checked) (out o : List ℕ) (r : ℕ) where
-  module _ (n c l size : ℕ) (e : x ≡ Accepted n c l size) where
+  module _ (p : Counts) (e : x ≡ Ok p) where
     pub number-accepted : r ≡ 0 → r ≡ answer_number x
     unfolding answer_number
     number-accepted q = q ∙ sym (ap answer_number e)
 
-    pub words-accepted : o ≡ overlay (0 ∷ 0 ∷ n ∷ c ∷ l ∷ size ∷ []) out → o ≡ overlay (result_words x) out
+    pub words-accepted : o ≡ overlay (0 ∷ 0 ∷ p.tokens ∷ p.statements ∷ p.labels ∷ p.size ∷ []) out → o ≡ overlay (result_words x) out
     unfolding result_words
     words-accepted q = q ∙ sym (ap (λ (y : Checked). overlay (result_words y) out) e)
 
-  module _ (number place : ℕ) (e : x ≡ Refused number place) where
-    pub number-refused : r ≡ number → r ≡ answer_number x
+  module _ (f : Refusal) (e : x ≡ Err f) where
+    pub number-refused : r ≡ f.number → r ≡ answer_number x
     unfolding answer_number
     number-refused q = q ∙ sym (ap answer_number e)
 
-    pub words-refused : o ≡ overlay (number ∷ place % 4294967296 ∷ 0 ∷ 0 ∷ 0 ∷ 0 ∷ []) out → o ≡ overlay (result_words x) out
+    pub words-refused : o ≡ overlay (f.number ∷ f.place % 4294967296 ∷ 0 ∷ 0 ∷ 0 ∷ 0 ∷ []) out → o ≡ overlay (result_words x) out
     unfolding result_words
     words-refused q = q ∙ sym (ap (λ (y : Checked). overlay (result_words y) out) e)
 

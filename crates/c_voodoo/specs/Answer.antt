@@ -1,21 +1,20 @@
 -- The answer of the check as the tracker gets it: 01's number and values for each case.
 -- Assumes nothing.
-use Rattle.std.specs.Prelude.{ℕ, ◌%◌, List, [], ◌∷◌}
+use Rattle.std.specs.Prelude.{ℕ, ◌%◌, List, [], ◌∷◌, Ok, Err}
 use Rattle.base_limits.specs.Limits.{word_values}
 use Rattle.base_prelude.specs.Lists.{overlay}
 use Rattle.check_source.specs.Check.{Filled}
-use Rattle.check_source.specs.declared.Checked.{Checked}
-use Rattle.check_source.specs.declared.Checked.TheVariants.{Accepted, Refused}
+use Rattle.check_source.specs.Checked.{Checked}
 
 -- 01's number, "Numbers given back"; 0: accepted
 unfoldable pub answer_number : Checked → ℕ
-answer_number (Accepted tokens statements labels size) = 0
-answer_number (Refused number place) = number
+answer_number (Ok p) = 0
+answer_number (Err r) = r.number
 
 -- number, place, tokens, statements, labels, bytes of data; 0 where the case has none. The words have 32 bits
 unfoldable pub result_words : Checked → List ℕ
-result_words (Accepted tokens statements labels size) = 0 ∷ 0 ∷ tokens ∷ statements ∷ labels ∷ size ∷ []
-result_words (Refused number place) = number ∷ place % word_values ∷ 0 ∷ 0 ∷ 0 ∷ 0 ∷ []
+result_words (Ok p) = 0 ∷ 0 ∷ p.tokens ∷ p.statements ∷ p.labels ∷ p.size ∷ []
+result_words (Err r) = r.number ∷ r.place % word_values ∷ 0 ∷ 0 ∷ 0 ∷ 0 ∷ []
 
 -- the number given back, and what the buffers then hold
 pub record Told : Type 0 where

@@ -10,25 +10,20 @@ ghost use Rattle.vm_definitions.specs.Lent.{tables_of};
 ghost use Rattle.c_voodoo.specs.Answer.{answer_number, result_words, told, told_of};
 ghost use Rattle.c_voodoo.specs.Calls.{answered, start_call, step_call, run_call, resume_call};
 
-use base_limits::{Machine, Width};
+use base_limits::{Machine, Refusal, Width};
 use c_words::RecordWord;
-use check_source::Checked;
+use check_source::Counts;
 
 // Writes an answer in six words, and gives its number.
-fn put_answer(x: Checked, out: &mut [u32]) -> u32
+fn put_answer(x: Result<Counts, Refusal>, out: &mut [u32]) -> u32
     ensures { (result ≡ answer_number x) × (out.new ≡ overlay (result_words x) out.old) }
 {
     match x {
-        Checked::Accepted {
-            tokens,
-            statements,
-            labels,
-            size,
-        } => c_words::put_six(out, 0, 0, tokens, statements, labels, size),
-        Checked::Refused { number, place } => c_words::put_six(
+        Ok(p) => c_words::put_six(out, 0, 0, p.tokens, p.statements, p.labels, p.size),
+        Err(r) => c_words::put_six(
             out,
-            number,
-            (place as u64 % Machine::WORD_VALUES) as u32,
+            r.number,
+            (r.place as u64 % Machine::WORD_VALUES) as u32,
             0,
             0,
             0,

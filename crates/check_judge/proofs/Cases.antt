@@ -10,14 +10,14 @@ use Rattle.base_prelude.proofs.Choice.{if_lt-yes, if_lt-no}
 use Rattle.base_limits.specs.declared.Width.{Width}
 use Rattle.parse_lines.specs.Tokens.{place_at}
 use Rattle.parse_outline.specs.Outline.{Outlined, parsed, outline_of}
-use Rattle.parse_outline.specs.declared.Parsed.{Parsed}
-use Rattle.parse_outline.specs.declared.Parsed.TheVariants.{Accepted, Refused}
+use Rattle.base_limits.specs.declared.Refusal.{Refusal}
+use Rattle.parse_outline.specs.Parsed.{Parsed}
+use Rattle.parse_outline.specs.declared.RowCounts.{RowCounts}
 use Rattle.res_skeleton.specs.Skeleton.{skeleton_of}
 use Rattle.res_names.specs.Naming.{Naming, naming, names_of}
 use Rattle.res_exports.specs.Exports.{Exported, exported, exports_of}
 use Rattle.res_data.specs.Sizes.{measure_of}
-use Rattle.res_data.specs.declared.Measured.{Measured}
-use Rattle.res_data.specs.declared.Measured.TheVariants.{Length, Big}
+use Rattle.std.specs.Prelude.{Result, Ok, Err}
 use Rattle.parse_verdict.proofs.Counts.{accepted-counts}
 use Rattle.check_judge.specs.Judge.{known, Judged, refusal, fine, size_group, names_with, names_judged, fault_group, name_group, outline_group, line_group}
 
@@ -34,37 +34,35 @@ module _ (w : Width) (same : ℕ → ℕ → Bool) (m n : ℕ) (t : List ℕ) (r
   unfolding line_group
   line-is = ap (λ (o : Outlined). outline_group w same m n t o.answer o.rows o.labels) (sym h)
 
-  pub lines-refused : (number place : ℕ) → r ≡ Refused number place → refusal number place ≡ line_group w same m n t
+  pub lines-refused : (f : Refusal) → r ≡ Err f → refusal f.number f.place ≡ line_group w same m n t
   unfolding outline_group
-  lines-refused number place e = sym (line-is ∙ ap (λ (i : Parsed). outline_group w same m n t i x y) e)
+  lines-refused f e = sym (line-is ∙ ap (λ (i : Parsed). outline_group w same m n t i x y) e)
 
-  module _ (c l : ℕ) (k : List ℕ) (e : r ≡ Accepted c l) (d : k ≡ skeleton_of x c) (fault : ℕ) (f : List ℕ) (g : exported fault f ≡ names_judged same t m k y l c) where
-    named : line_group w same m n t ≡ fault_group w m n t c k l y (exported fault f)
+  module _ (p : RowCounts) (k : List ℕ) (e : r ≡ Ok p) (d : k ≡ skeleton_of x p.statements) (fault : ℕ) (f : List ℕ) (g : exported fault f ≡ names_judged same t m k y p.labels p.statements) where
+    named : line_group w same m n t ≡ fault_group w m n t p.statements k p.labels y (exported fault f)
     unfolding outline_group name_group
     named =
         line-is ∙ ap (λ (i : Parsed). outline_group w same m n t i x y) e
-        ∙ ap (λ (i : List ℕ). name_group w same m n t c i l y) (sym d)
-        ∙ ap (fault_group w m n t c k l y) (sym g)
+        ∙ ap (λ (i : List ℕ). name_group w same m n t p.statements i p.labels y) (sym d)
+        ∙ ap (fault_group w m n t p.statements k p.labels y) (sym g)
 
     pub names-refused : fault < none → refusal (fault % 64) (fault / 64) ≡ line_group w same m n t
     unfolding fault_group
     names-refused o = sym (named ∙ if_lt-yes _ _ o)
 
-    module _ (o : none ≤ fault) (z : Measured) (u : z ≡ measure_of w t 4098) where
-      sized : line_group w same m n t ≡ size_group m (known n t c k l y f) z
+    module _ (o : none ≤ fault) (z : Result ℕ ℕ) (u : z ≡ measure_of w t 4098) where
+      sized : line_group w same m n t ≡ size_group m (known n t p.statements k p.labels y f) z
       unfolding fault_group
-      sized = named ∙ if_lt-no _ _ o ∙ ap (size_group m (known n t c k l y f)) (sym u)
+      sized = named ∙ if_lt-no _ _ o ∙ ap (size_group m (known n t p.statements k p.labels y f)) (sym u)
 
-      pub size-fine : (size : ℕ) → z ≡ Length size → fine (known n t c k l y f) size ≡ line_group w same m n t
+      pub size-fine : (size : ℕ) → z ≡ Ok size → fine (known n t p.statements k p.labels y f) size ≡ line_group w same m n t
       unfolding size_group
-      size-fine size v = sym (sized ∙ ap (size_group m (known n t c k l y f)) v)
+      size-fine size v = sym (sized ∙ ap (size_group m (known n t p.statements k p.labels y f)) v)
 
-      pub size-big : (i place : ℕ) → z ≡ Big i → place ≡ place_at t m i → refusal 15 place ≡ line_group w same m n t
+      pub size-big : (i place : ℕ) → z ≡ Err i → place ≡ place_at t m i → refusal 15 place ≡ line_group w same m n t
       unfolding size_group
-      size-big i place v q = ap (refusal 15) q ∙ sym (sized ∙ ap (size_group m (known n t c k l y f)) v)
-
-pub ruleset token-ways = (lines-refused, names-refused, size-big)
+      size-big i place v q = ap (refusal 15) q ∙ sym (sized ∙ ap (size_group m (known n t p.statements k p.labels y f)) v)
 
 -- what a skeleton asks
-pub lines-few : (w : Width) (m c l : ℕ) (t x y : List ℕ) (r : Parsed) → r ≡ Accepted c l → parsed r x y ≡ outline_of w t m → length t ≡ 32768 → c ≤ 1024
-lines-few w m c l t x y r e h long = (accepted-counts w t m c l long (ap (λ (o : Outlined). o.answer) (sym h) ∙ e)).0
+pub lines-few : (w : Width) (m : ℕ) (p : RowCounts) (t x y : List ℕ) (r : Parsed) → r ≡ Ok p → parsed r x y ≡ outline_of w t m → length t ≡ 32768 → p.statements ≤ 1024
+lines-few w m p t x y r e h long = (accepted-counts w t m p.statements p.labels long (ap (λ (o : Outlined). o.answer) (sym h) ∙ e)).0

@@ -14,13 +14,12 @@ use Rattle.prog_tables.specs.Hosts.{Hosts}
 use Rattle.lex_source.specs.Lex.{Outcome, accepted, refused, lex_of}
 use Rattle.lex_source.proofs.Laws.{accepted-good}
 use Rattle.parse_outline.specs.Outline.{outline_of}
-use Rattle.parse_outline.specs.declared.Parsed.{Parsed}
-use Rattle.parse_outline.specs.declared.Parsed.TheVariants.{Accepted, Refused}
+use Rattle.parse_outline.specs.Parsed.{Parsed}
+use Rattle.parse_outline.specs.Parsed as parsed
 use Rattle.res_skeleton.specs.Skeleton.{skeleton_of}
 use Rattle.res_exports.specs.Exports.{Exported}
 use Rattle.res_data.specs.Sizes.{length_of}
-use Rattle.res_data.specs.declared.Measured.{Measured}
-use Rattle.res_data.specs.declared.Measured.TheVariants.{Length, Big}
+use Rattle.std.specs.Prelude.{Result, Ok, Err}
 use Rattle.res_scope.specs.Names.{same_number}
 use Rattle.res_text.specs.Same.{same_text}
 use Rattle.parse_verdict.proofs.Counts.{accepted-counts}
@@ -30,13 +29,13 @@ use Rattle.check_judge.proofs.Hosted.{hosted-same, table-long}
 not-fine : {X : Type 0} (number place : ℕ) (p : Known) (size : ℕ) → refusal number place ≡ fine p size → X
 not-fine number place p size e = let z : ◌≡◌ {A = ℕ} 0 1 = cc in absurd (let y : ⊥ = omega arith in y)
 
-size-fine : (m : ℕ) (q : Known) (z : Measured) (p : Known) (size : ℕ) → size_group m q z ≡ fine p size → (z ≡ Length size) × (p ≡ q)
+size-fine : (m : ℕ) (q : Known) (z : Result ℕ ℕ) (p : Known) (size : ℕ) → size_group m q z ≡ fine p size → (z ≡ Ok size) × (p ≡ q)
 unfolding size_group
-size-fine m q (Length n) p size h = (cc, cc)
-size-fine m q (Big i) p size h = not-fine _ _ p size h
+size-fine m q (Ok n) p size h = (cc, cc)
+size-fine m q (Err i) p size h = not-fine _ _ p size h
 
 fault-fine : (w : Width) (m n : ℕ) (t : List ℕ) (c : ℕ) (k : List ℕ) (l : ℕ) (y : List ℕ) (e : Exported) (p : Known) (size : ℕ) → fault_group w m n t c k l y e ≡ fine p size
-    → (none ≤ e.fault) × (length_of w t ≡ Length size) × (p ≡ known n t c k l y e.flags)
+    → (none ≤ e.fault) × (length_of w t ≡ Ok size) × (p ≡ known n t c k l y e.flags)
 unfolding fault_group
 fault-fine w m n t c k l y e p size h =
     elim (dec_lt e.fault none) [
@@ -61,9 +60,9 @@ pub record Passed (w : Width) (h : Hosts) (s : List ℕ) (p : Known) (size : ℕ
   pub c : ℕ
   pub l : ℕ
   pub lexes : lex_of w s ≡ accepted tokens
-  pub outlines : (outline_of w (hosted_table h s tokens) (length s)).answer ≡ Accepted c l
+  pub outlines : (outline_of w (hosted_table h s tokens) (length s)).answer ≡ parsed.accepted c l
   pub names : none ≤ (names_in w h s tokens c l).fault
-  pub sized : length_of w (hosted_table h s tokens) ≡ Length size
+  pub sized : length_of w (hosted_table h s tokens) ≡ Ok size
   pub is : p ≡ known_in w h s tokens c l
 
 module _ (w : Width) (h : Hosts) (s : List ℕ) (p : Known) (size : ℕ) where
@@ -71,10 +70,10 @@ module _ (w : Width) (h : Hosts) (s : List ℕ) (p : Known) (size : ℕ) where
       → outline_group w (same_text s (hosted_table h s ts)) (length s) (length ts) (hosted_table h s ts) a (outline_of w (hosted_table h s ts) (length s)).rows (outline_of w (hosted_table h s ts) (length s)).labels ≡ fine p size
       → Passed w h s p size
   unfolding outline_group name_group
-  outline-passed ts e (Accepted c l) a g =
-      let v = fault-fine w (length s) (length ts) (hosted_table h s ts) c _ l _ (names_in w h s ts c l) p size g in
-      record { tokens = ts; c = c; l = l; lexes = e; outlines = a; names = v.0; sized = v.1; is = v.2 }
-  outline-passed ts e (Refused number place) a g = not-fine number place p size g
+  outline-passed ts e (Ok o) a g =
+      let v = fault-fine w (length s) (length ts) (hosted_table h s ts) o.statements _ o.labels _ (names_in w h s ts o.statements o.labels) p size g in
+      record { tokens = ts; c = o.statements; l = o.labels; lexes = e; outlines = a; names = v.0; sized = v.1; is = v.2 }
+  outline-passed ts e (Err r) a g = not-fine r.number r.place p size g
 
   token-passed : (o : Outcome) → lex_of w s ≡ o → token_group w h s o ≡ fine p size → Passed w h s p size
   unfolding token_group line_group

@@ -11,14 +11,12 @@ use Rattle.lex_source.specs.Rows.{token_table}
 use Rattle.prog_tables.specs.Hosts.{Hosts}
 use Rattle.parse_lines.specs.Tokens.{place_at}
 use Rattle.parse_outline.specs.Outline.{outline_of}
-use Rattle.parse_outline.specs.declared.Parsed.{Parsed}
-use Rattle.parse_outline.specs.declared.Parsed.TheVariants.{Accepted, Refused}
+use Rattle.parse_outline.specs.Parsed.{Parsed}
 use Rattle.res_skeleton.specs.Skeleton.{skeleton_of}
 use Rattle.res_names.specs.Naming.{Naming, names_of}
 use Rattle.res_exports.specs.Exports.{Exported, exported, exports_of}
 use Rattle.res_data.specs.Sizes.{length_of}
-use Rattle.res_data.specs.declared.Measured.{Measured}
-use Rattle.res_data.specs.declared.Measured.TheVariants.{Length, Big}
+use Rattle.std.specs.Prelude.{Result, Ok, Err}
 use Rattle.res_text.specs.Same.{same_text}
 use Rattle.res_hosts.specs.Marks.{hosted_tokens}
 
@@ -47,9 +45,9 @@ pub data Judged : Type 0 where
 -- ---- the groups, last to first; m is the number of the source's bytes, `same` says whether two tokens have one name
 
 -- 15
-unfoldable pub size_group : ℕ → Known → Measured → Judged
-size_group m p (Length size) = fine p size
-size_group m p (Big i) = refusal 15 (place_at p.t m i)
+unfoldable pub size_group : ℕ → Known → Result ℕ ℕ → Judged
+size_group m p (Ok size) = fine p size
+size_group m p (Err i) = refusal 15 (place_at p.t m i)
 
 -- 10 to 13 and 17: the least fault of all names, and which labels are exported
 unfoldable pub names_with : (ℕ → ℕ → Bool) → List ℕ → ℕ → List ℕ → ℕ → Naming → Exported
@@ -68,8 +66,8 @@ name_group w same m n t c k l y = fault_group w m n t c k l y (names_judged same
 
 -- 7, 8, 9 and other 14
 unfoldable pub outline_group : Width → (ℕ → ℕ → Bool) → ℕ → ℕ → List ℕ → Parsed → List ℕ → List ℕ → Judged
-outline_group w same m n t (Accepted c l) x y = name_group w same m n t c (skeleton_of x c) l y
-outline_group w same m n t (Refused number place) x y = refusal number place
+outline_group w same m n t (Ok o) x y = name_group w same m n t o.statements (skeleton_of x o.statements) o.labels y
+outline_group w same m n t (Err r) x y = refusal r.number r.place
 
 unfoldable pub line_group : Width → (ℕ → ℕ → Bool) → ℕ → ℕ → List ℕ → Judged
 line_group w same m n t = outline_group w same m n t (outline_of w t m).answer (outline_of w t m).rows (outline_of w t m).labels

@@ -10,10 +10,9 @@ ghost use Rattle.res_skeleton.specs.Skeleton.{skeleton_of};
 ghost use Rattle.check_judge.specs.Judge.{names_judged, line_group, judge_of};
 ghost use Rattle.check_judge.specs.Judged.{judged};
 
-use base_limits::{Machine, Width};
-use parse_outline::{Outline, Parsed};
+use base_limits::{Machine, Refusal, Width};
+use parse_outline::Outline;
 use prog_tables::Table;
-use res_data::Measured;
 
 // The numbers of tokens, statements, labels and data bytes.
 #[derive(Clone, Copy)]
@@ -22,13 +21,6 @@ pub struct Counts {
     pub statements: u32,
     pub labels: u32,
     pub size: u32,
-}
-
-// The counts of a source without a fault; or a refusal's number and place.
-#[derive(Drop)]
-pub enum Judgement {
-    Fine(Counts),
-    Refused { number: u32, place: usize },
 }
 
 // No fault: above every key.
@@ -68,41 +60,28 @@ fn judge_tokens(
     k: &mut [u32; Table::STATEMENT_WORDS],
     y: &mut [u32; Outline::LABEL_WORDS],
     flags: &mut [u32; Machine::LABELS],
-) -> Judgement
+) -> Result<Counts, Refusal>
     requires { length t.now ≡ limits.token_words }
     ensures { judged result t.now k.new y.new flags.new ≡ line_group w (same_number t.now) m n t.now }
 {
     let mut x = [0u32; Outline::WORDS];
-    match parse_outline::parse(w, m, t, &mut x, y) {
-        Parsed::Refused { number, place } => Judgement::Refused {
-            number: number,
-            place: place,
-        },
-        Parsed::Accepted {
-            statements: c,
-            labels: l,
-        } => {
-            make_skeleton(&x, c, k);
-            let fault = names_fault(t, m, k, y, l, c, flags);
-            if fault < NONE {
-                return Judgement::Refused {
-                    number: (fault % 64) as u32,
-                    place: (fault / 64) as usize,
-                };
-            }
-            match res_data::measure(w, t, 4098) {
-                Measured::Length(size) => Judgement::Fine(Counts {
-                    tokens: n,
-                    statements: c,
-                    labels: l,
-                    size: size,
-                }),
-                Measured::Big(i) => Judgement::Refused {
-                    number: 15,
-                    place: parse_lines::place_at(t, m, i) as usize,
-                },
-            }
-        }
+    let p = parse_outline::parse(w, m, t, &mut x, y)?;
+    make_skeleton(&x, p.statements, k);
+    let fault = names_fault(t, m, k, y, p.labels, p.statements, flags);
+    if fault < NONE {
+        return Err(parse_outline::refusal_of(fault));
+    }
+    match res_data::measure(w, t, 4098) {
+        Ok(size) => Ok(Counts {
+            tokens: n,
+            statements: p.statements,
+            labels: p.labels,
+            size,
+        }),
+        Err(i) => Err(Refusal {
+            number: 15,
+            place: parse_lines::place_at(t, m, i) as usize,
+        }),
     }
 }
 
@@ -117,25 +96,11 @@ pub fn judge(
     k: &mut [u32; Table::STATEMENT_WORDS],
     y: &mut [u32; Outline::LABEL_WORDS],
     flags: &mut [u32; Machine::LABELS],
-) -> Judgement
+) -> Result<Counts, Refusal>
     ensures { judged result t.new k.new y.new flags.new ≡ judge_of w (host_list hosts.now host_names.now) s.now }
 {
-    match lex_source::lex(w, s, t) {
-        Ok(n) => {
-            res_hosts::mark_hosts(s, n as u32, hosts, host_names, t);
-            judge_tokens(
-                w,
-                (s.len() as u64 % Machine::WORD_VALUES) as u32,
-                t,
-                n as u32,
-                k,
-                y,
-                flags,
-            )
-        }
-        Err(e) => Judgement::Refused {
-            number: e.number,
-            place: e.place,
-        },
-    }
+    let n = lex_source::lex(w, s, t)? as u32;
+    res_hosts::mark_hosts(s, n, hosts, host_names, t);
+    let m = (s.len() as u64 % Machine::WORD_VALUES) as u32;
+    judge_tokens(w, m, t, n, k, y, flags)
 }

@@ -11,19 +11,18 @@ use Rattle.base_limits.specs.declared.Width.{Width}
 use Rattle.prog_tables.specs.Hosts.{Hosts}
 use Rattle.res_scope.specs.Names.{same_number}
 use Rattle.check_judge.specs.Judge.{Judged, fine, judge_of}
-use Rattle.check_judge.specs.Judged.{known_by, judged}
+use Rattle.check_judge.specs.Judged.{known_by, Judgement, judged}
 use Rattle.check_judge.specs.declared.Counts.{Counts}
-use Rattle.check_judge.specs.declared.Judgement.{Judgement}
-use Rattle.check_judge.specs.declared.Judgement.TheVariants as judge
+use Rattle.std.proofs.Common.{Ok, Err}
 use Rattle.check_judge.proofs.Fine.{fine-few, fine-same}
 use Rattle.check_fill.specs.Fill.{Lent, lent, buffers, zeroed, fill_of}
 use Rattle.check_fill.specs.Fits.{Room}
 use Rattle.check_source.specs.Check.{Filled, filled, filled_by, refuse, accept, has_room, answer_to, check_of}
-use Rattle.check_source.specs.declared.Checked.TheVariants.{Accepted, Refused}
+use Rattle.check_source.specs.Checked.{Refusal}
 
-pub refuse-is : (number place : ℕ) (b : Lent) (x y z u v : List ℕ) → buffers x y z u v ≡ zeroed b → filled (Refused number place) x y z u v ≡ refuse number place b
+pub refuse-is : (r : Refusal) (b : Lent) (x y z u v : List ℕ) → buffers x y z u v ≡ zeroed b → filled (Err r) x y z u v ≡ refuse r.number r.place b
 unfolding refuse
-refuse-is number place b x y z u v h = ap (filled_by (Refused number place)) h
+refuse-is r b x y z u v h = ap (filled_by (Err r)) h
 
 -- ---- 16
 
@@ -82,7 +81,7 @@ pub ruleset room-ways = (short-tokens, short-statements, short-labels, short-nam
 -- ---- `check`
 
 module _ (w : Width) (hosts : Hosts) (s t k y flags : List ℕ) (r : Judgement) (h : judged r t k y flags ≡ judge_of w hosts s) where
-  module _ (p : Counts) (e : r ≡ judge.Fine p) where
+  module _ (p : Counts) (e : r ≡ Ok p) where
     is-fine : judge_of w hosts s ≡ fine (known_by p t k y flags) p.size
     is-fine = sym h ∙ ap (λ (j : Judgement). judged j t k y flags) e
 
@@ -92,10 +91,10 @@ module _ (w : Width) (hosts : Hosts) (s t k y flags : List ℕ) (r : Judgement) 
 
     module _ (b : Lent) (v : Bool) (q : v ≡ has_room b p.tokens p.statements p.labels p.size) where
       pub check-accepts : (x y' z u f : List ℕ) → v ≡ true → buffers x y' z u f ≡ fill_of w s (same_number t) (known_by p t k y flags) b
-          → filled (Accepted p.tokens p.statements p.labels p.size) x y' z u f ≡ check_of w hosts s b
+          → filled (Ok p) x y' z u f ≡ check_of w hosts s b
       unfolding answer_to accept
       check-accepts x y' z u f g d =
-          ap (filled_by (Accepted p.tokens p.statements p.labels p.size))
+          ap (filled_by (Ok p))
           (d ∙ ap (λ (same : ℕ → ℕ → Bool). fill_of w s same (known_by p t k y flags) b) (fine-same w hosts s (known_by p t k y flags) p.size is-fine))
           ∙ sym (answer-is b ∙ if_true-yes _ _ (sym q ∙ g))
 
@@ -103,13 +102,13 @@ module _ (w : Width) (hosts : Hosts) (s t k y flags : List ℕ) (r : Judgement) 
       unfolding answer_to
       check-short x g d = d ∙ sym (answer-is b ∙ if_true-no _ _ (sym q ∙ g))
 
-  pub check-refuses : (number place : ℕ) (b : Lent) (x : Filled) → r ≡ judge.Refused number place → x ≡ refuse number place b → x ≡ check_of w hosts s b
+  pub check-refuses : (f : Refusal) (b : Lent) (x : Filled) → r ≡ Err f → x ≡ refuse f.number f.place b → x ≡ check_of w hosts s b
   unfolding check_of answer_to
-  check-refuses number place b x e d =
+  check-refuses f b x e d =
       d ∙ ap (λ (j : Judged). answer_to w s j b) (ap (λ (j : Judgement). judged j t k y flags) (sym e) ∙ h)
 
 -- what filling asks
-pub check-room : (p : Counts) (a b c d f : ℕ) (r : Judgement) (v : Bool) (w : Width) (hosts : Hosts) (s t k y flags : List ℕ) → r ≡ judge.Fine p
+pub check-room : (p : Counts) (a b c d f : ℕ) (r : Judgement) (v : Bool) (w : Width) (hosts : Hosts) (s t k y flags : List ℕ) → r ≡ Ok p
     → v ≡ has_room (lent a b c d f) p.tokens p.statements p.labels p.size → v ≡ true → judged r t k y flags ≡ judge_of w hosts s
     → Room a b c d p.tokens p.statements p.labels
 check-room p a b c d f r v w hosts s t k y flags e q g h =

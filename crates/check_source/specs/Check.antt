@@ -11,8 +11,7 @@ use Rattle.res_text.specs.Same.{same_text}
 use Rattle.check_judge.specs.Judge.{Known, Judged, refusal, fine, judge_of}
 pub use Rattle.check_fill.specs.Fill.{Lent, lent}
 use Rattle.check_fill.specs.Fill.{Buffers, zeroed, fill_of}
-use Rattle.check_source.specs.declared.Checked.{Checked}
-use Rattle.check_source.specs.declared.Checked.TheVariants.{Accepted, Refused}
+use Rattle.check_source.specs.Checked.{Checked, accepted, refused}
 
 -- the answer, and what the buffers then hold
 pub record Filled : Type 0 where
@@ -32,11 +31,11 @@ filled_by answer x = filled answer x.tokens x.statements x.labels x.names x.byte
 
 -- "A refused check zeroes every lent table and the data buffer"
 unfoldable pub refuse : ℕ → ℕ → Lent → Filled
-refuse number place b = filled_by (Refused number place) (zeroed b)
+refuse number place b = filled_by (refused number place) (zeroed b)
 
 -- "an accepted one zeroes what lies beyond its rows"
 unfoldable pub accept : Width → List ℕ → Known → ℕ → Lent → Filled
-accept w s p size b = filled_by (Accepted p.n p.c p.l size) (fill_of w s (same_text s p.t) p b)
+accept w s p size b = filled_by (accepted p.n p.c p.l size) (fill_of w s (same_text s p.t) p b)
 
 -- 16: "a lent table or data buffer is shorter than needed"
 unfoldable pub has_room : Lent → ℕ → ℕ → ℕ → ℕ → Bool

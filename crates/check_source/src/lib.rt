@@ -6,25 +6,10 @@ ghost use Rattle.res_hosts.specs.Marks.{host_list};
 ghost use Rattle.check_fill.specs.Fill.{lent};
 ghost use Rattle.check_source.specs.Check.{filled, refuse, has_room, check_of};
 
-use base_limits::{Machine, Width};
-use check_judge::{Counts, Judgement};
+use base_limits::{Machine, Refusal, Width};
+pub use check_judge::Counts;
 use parse_outline::Outline;
 use prog_tables::Table;
-
-// The numbers of tokens, statements, labels and data bytes; or a refusal's number and place.
-#[derive(Drop)]
-pub enum Checked {
-    Accepted {
-        tokens: u32,
-        statements: u32,
-        labels: u32,
-        size: u32,
-    },
-    Refused {
-        number: u32,
-        place: usize,
-    },
-}
 
 // Whether the buffers can hold a source with these counts.
 fn has_room(
@@ -56,21 +41,17 @@ fn has_room(
 }
 
 fn refuse_all(
-    number: u32,
-    place: usize,
+    refusal: Refusal,
     tokens: &mut [u32],
     statements: &mut [u32],
     labels: &mut [u32],
     names: &mut [u8],
     bytes: &mut [u8],
-) -> Checked
-    ensures { filled result tokens.new statements.new labels.new names.new bytes.new ≡ refuse number place (lent (length tokens.old) (length statements.old) (length labels.old) (length names.old) (length bytes.old)) }
+) -> Result<Counts, Refusal>
+    ensures { filled result tokens.new statements.new labels.new names.new bytes.new ≡ refuse refusal.number refusal.place (lent (length tokens.old) (length statements.old) (length labels.old) (length names.old) (length bytes.old)) }
 {
     check_fill::zero(tokens, statements, labels, names, bytes);
-    Checked::Refused {
-        number: number,
-        place: place,
-    }
+    Err(refusal)
 }
 
 // Checks a source against the host's list, two words and 64 bytes of name an entry, into a token table, a statement table, a label table with
@@ -85,7 +66,7 @@ pub fn check(
     labels: &mut [u32],
     names: &mut [u8],
     bytes: &mut [u8],
-) -> Checked
+) -> Result<Counts, Refusal>
     ensures { filled result tokens.new statements.new labels.new names.new bytes.new ≡ check_of w (host_list hosts.now host_names.now) s.now (lent (length tokens.old) (length statements.old) (length labels.old) (length names.old) (length bytes.old)) }
 {
     let mut t = [0u32; Machine::TOKEN_WORDS];
@@ -93,22 +74,19 @@ pub fn check(
     let mut y = [0u32; Outline::LABEL_WORDS];
     let mut flags = [0u32; Machine::LABELS];
     match check_judge::judge(w, s, hosts, host_names, &mut t, &mut k, &mut y, &mut flags) {
-        Judgement::Fine(p) => {
+        Ok(p) => {
             if has_room(p, tokens, statements, labels, names, bytes) {
                 check_fill::fill(
                     w, s, p, &t, &k, &y, &flags, tokens, statements, labels, names, bytes,
                 );
-                return Checked::Accepted {
-                    tokens: p.tokens,
-                    statements: p.statements,
-                    labels: p.labels,
-                    size: p.size,
-                };
+                return Ok(p);
             }
-            refuse_all(16, 0, tokens, statements, labels, names, bytes)
+            let short = Refusal {
+                number: 16,
+                place: 0,
+            };
+            refuse_all(short, tokens, statements, labels, names, bytes)
         }
-        Judgement::Refused { number, place } => {
-            refuse_all(number, place, tokens, statements, labels, names, bytes)
-        }
+        Err(refusal) => refuse_all(refusal, tokens, statements, labels, names, bytes),
     }
 }

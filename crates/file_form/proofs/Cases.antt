@@ -1,16 +1,16 @@
 -- The ways through the functions on fields.
 -- Assumes nothing.
-use mathlib.Core.Path.{◌≡◌, refl, sym, ◌∙◌, ap}
-use mathlib.Core.Bool.{Bool, true, false, not}
+use mathlib.Core.Path.{◌≡◌, refl, sym, ◌∙◌}
+use mathlib.Core.Bool.{Bool, true, false}
 use mathlib.Core.List.{List}
 use native.Mathlib.Decide.{dec_le}
 use native.Mathlib.Nat.{sub-zero}
 use Prim.Native.Nat.{ℕ, zero, suc, ◌+◌, ◌-◌, ◌*◌, ◌<◌, ◌≤◌}
 use native.Mathlib.Omega.{arith}
-use lib.Dec.{eqb, ltb, leb}
+use lib.Dec.{eqb, leb}
 use lib.ListN.{length, get_or, take, drop}
-use borrow.Author.Tests.{leb-true, eq-eqb, ne_eqb, lt-ltb, le-ltb, le-leb, lt-leb}
-use Rattle.base_prelude.specs.Choice.{if_true, if_eq, if_lt}
+use borrow.Author.Tests.{leb-true, eq-eqb, ne_eqb, le-leb, lt-leb}
+use Rattle.base_prelude.specs.Choice.{if_true, if_eq}
 use Rattle.file_codec.specs.Fields.{size_at, behind_at, is_whole, body_at}
 use Rattle.prog_tables.specs.Tests.{both}
 use Rattle.prog_tables.proofs.Each.{both_left, both_right, both_false}
@@ -19,9 +19,7 @@ use Rattle.file_codec.specs.Rows.{row_fits}
 use Rattle.file_codec.specs.Labels.{label_fits}
 use Rattle.file_codec.specs.Form.{field_good, behind_fields, statements_in, labels_in, data_in, is_long, counts_end, data_end, rows_end, labels_end, formed}
 use Rattle.file_form.specs.Shape.{fits_of, place_of, is_within, form_of}
-use Rattle.file_form.specs.declared.End.{End}
-use Rattle.file_form.specs.declared.End.TheVariants.{At, Nowhere}
-use Rattle.file_form.specs.declared.Form.TheVariants.{Good, Bad}
+use Rattle.std.specs.Prelude.{Some, None}
 
 pub size-made : (b : List ℕ) (at x y : ℕ) → x ≡ get_or b (at + 1) 0 → y ≡ get_or b (at + 2) 0 → x + 256 * y ≡ size_at b at
 unfolding size_at
@@ -81,11 +79,11 @@ module _ (tag long : ℕ) (b : List ℕ) (at : ℕ) where
   good-tag x d h = rw (← d, ne_eqb _ _ h)
 
   module _ (x : ℕ) (d : x ≡ get_or b at 0) (h : x ≡ tag) (v : Bool) (e : v ≡ is_whole b at) where
-    pub good-body : (r : Bool) → v ≡ true → r ≡ fits_of tag long (body_at b at) → r ≡ field_good tag (fits_of tag long) b at
+    pub good-body : (r : Bool) (y : List ℕ) → v ≡ true → y ≡ body_at b at → r ≡ fits_of tag long y → r ≡ field_good tag (fits_of tag long) b at
     unfolding field_good
-    good-body r p q = rw (← d, eq-eqb _ _ h, ← e, p) q
+    good-body r y p o q = rw (← d, eq-eqb _ _ h, ← e, p, ← o) q
 
-    pub good-cut : v ≡ false → false ≡ field_good tag (fits_of tag long) b at
+    pub good-cut : v ≡ false → v ≡ field_good tag (fits_of tag long) b at
     unfolding field_good
     good-cut p = rw (← d, eq-eqb _ _ h, ← e, p)
 
@@ -161,63 +159,62 @@ pub ruleset skipping = (skip-start, skip-more)
 
 -- what `skip` gives
 module _ (tag : ℕ) (fits : List ℕ → Bool) (b : List ℕ) (n at i p : ℕ) (h : Skipping tag fits b n at i p) where
-  pub ends_at : n ≤ i → place_of (length b) (At p) ≡ behind_fields tag fits b n at
+  pub ends_at : n ≤ i → place_of (length b) (Some p) ≡ behind_fields tag fits b n at
   unfolding place_of
   ends_at l = skip-done tag fits b n at i p h l
 
-  pub ends_nowhere : (v : Bool) → i < n → v ≡ field_good tag fits b p → v ≡ false → place_of (length b) Nowhere ≡ behind_fields tag fits b n at
+  pub ends_nowhere : (v : Bool) → i < n → v ≡ field_good tag fits b p → v ≡ false → place_of (length b) None ≡ behind_fields tag fits b n at
   unfolding place_of
   ends_nowhere v l d e = skip-not tag fits b n at i p h v l d e
 
-  pub within-at : is_within (length b) (At p) ≡ true
+  pub within-at : is_within (length b) (Some p) ≡ true
   unfolding is_within
   within-at = le-leb p (length b) h.within
 
-pub within-nowhere : (n : ℕ) → is_within n Nowhere ≡ true
+pub within-nowhere : (n : ℕ) → is_within n None ≡ true
 unfolding is_within
 within-nowhere n = refl
 
 -- ---- the parts of a file
 
-module _ (b : List ℕ) (r : End) where
-  pub at_place : (p x : ℕ) → r ≡ At p → place_of (length b) r ≡ x → p ≡ x
+module _ (b : List ℕ) where
+  pub at_place : (p x : ℕ) → place_of (length b) (Some p) ≡ x → p ≡ x
   unfolding place_of
-  at_place p x e d = ap (place_of (length b)) (sym e) ∙ d
+  at_place p x d = d
 
-  pub at-within : (p : ℕ) → r ≡ At p → is_within (length b) r ≡ true → p ≤ length b
+  pub at-within : (p : ℕ) → is_within (length b) (Some p) ≡ true → p ≤ length b
   unfolding is_within
-  at-within p e d = leb-true p (length b) (ap (is_within (length b)) (sym e) ∙ d)
+  at-within p d = leb-true p (length b) d
 
-  nowhere-place : (x : ℕ) → r ≡ Nowhere → place_of (length b) r ≡ x → x ≡ suc (length b)
+  nowhere-place : (x : ℕ) → place_of (length b) None ≡ x → x ≡ suc (length b)
   unfolding place_of
-  nowhere-place x e d = sym d ∙ ap (place_of (length b)) e
+  nowhere-place x d = sym d
 
-  bad-end : labels_end b ≡ suc (length b) → Bad ≡ form_of b
+  bad-end : labels_end b ≡ suc (length b) → None ≡ form_of b
   unfolding form_of formed if_true
   bad-end e = rw (e, ne_eqb (suc (length b)) (length b) (λ q. omega arith))
 
-  module _ (e : r ≡ Nowhere) where
-    pub counts-nowhere : place_of (length b) r ≡ behind_fields 1 (fits_of 1 12) b 1 0 → Bad ≡ form_of b
-    unfolding counts_end data_end rows_end labels_end fits_of if_eq
-    counts-nowhere d =
-        let z : counts_end b ≡ suc (length b) = nowhere-place (counts_end b) e d in
-        bad-end (rw (z, past-stays 2 (is_long (data_in b)) b 1, past-stays 3 row_fits b (statements_in b)) (past-stays 4 label_fits b (labels_in b)))
+  pub counts-nowhere : place_of (length b) None ≡ behind_fields 1 (fits_of 1 12) b 1 0 → None ≡ form_of b
+  unfolding counts_end data_end rows_end labels_end fits_of if_eq
+  counts-nowhere d =
+      let z : counts_end b ≡ suc (length b) = nowhere-place (counts_end b) d in
+      bad-end (rw (z, past-stays 2 (is_long (data_in b)) b 1, past-stays 3 row_fits b (statements_in b)) (past-stays 4 label_fits b (labels_in b)))
 
-    pub data-nowhere : (n at : ℕ) → n ≡ word_in (body_at b 0) 8 → at ≡ counts_end b → place_of (length b) r ≡ behind_fields 2 (fits_of 2 n) b 1 at → Bad ≡ form_of b
-    unfolding data_end rows_end labels_end fits_of if_eq data_in
-    data-nowhere n at p q d =
-        let z : data_end b ≡ suc (length b) = nowhere-place (data_end b) e (d ∙ rw (p, q)) in
-        bad-end (rw (z, past-stays 3 row_fits b (statements_in b)) (past-stays 4 label_fits b (labels_in b)))
+  pub data-nowhere : (n at : ℕ) → n ≡ word_in (body_at b 0) 8 → at ≡ counts_end b → place_of (length b) None ≡ behind_fields 2 (fits_of 2 n) b 1 at → None ≡ form_of b
+  unfolding data_end rows_end labels_end fits_of if_eq data_in
+  data-nowhere n at p q d =
+      let z : data_end b ≡ suc (length b) = nowhere-place (data_end b) (d ∙ rw (p, q)) in
+      bad-end (rw (z, past-stays 3 row_fits b (statements_in b)) (past-stays 4 label_fits b (labels_in b)))
 
-    pub rows-nowhere : (n at : ℕ) → n ≡ statements_in b → at ≡ data_end b → place_of (length b) r ≡ behind_fields 3 (fits_of 3 0) b n at → Bad ≡ form_of b
-    unfolding rows_end labels_end fits_of if_eq
-    rows-nowhere n at p q d =
-        let z : rows_end b ≡ suc (length b) = nowhere-place (rows_end b) e (d ∙ rw (p, q)) in
-        bad-end (rw z (past-stays 4 label_fits b (labels_in b)))
+  pub rows-nowhere : (n at : ℕ) → n ≡ statements_in b → at ≡ data_end b → place_of (length b) None ≡ behind_fields 3 (fits_of 3 0) b n at → None ≡ form_of b
+  unfolding rows_end labels_end fits_of if_eq
+  rows-nowhere n at p q d =
+      let z : rows_end b ≡ suc (length b) = nowhere-place (rows_end b) (d ∙ rw (p, q)) in
+      bad-end (rw z (past-stays 4 label_fits b (labels_in b)))
 
-    pub labels-nowhere : (n at : ℕ) → n ≡ labels_in b → at ≡ rows_end b → place_of (length b) r ≡ behind_fields 4 (fits_of 4 0) b n at → Bad ≡ form_of b
-    unfolding labels_end fits_of if_eq
-    labels-nowhere n at p q d = bad-end (nowhere-place (labels_end b) e (d ∙ rw (p, q)))
+  pub labels-nowhere : (n at : ℕ) → n ≡ labels_in b → at ≡ rows_end b → place_of (length b) None ≡ behind_fields 4 (fits_of 4 0) b n at → None ≡ form_of b
+  unfolding labels_end fits_of if_eq
+  labels-nowhere n at p q d = bad-end (nowhere-place (labels_end b) (d ∙ rw (p, q)))
 
 module _ (b : List ℕ) where
   pub counts-at : (p : ℕ) → p ≡ behind_fields 1 (fits_of 1 12) b 1 0 → p ≡ counts_end b
@@ -236,16 +233,16 @@ module _ (b : List ℕ) where
   unfolding labels_end fits_of if_eq
   labels_at n at p q e d = d ∙ rw (q, e)
 
-  module _ (c l d rows at end : ℕ) (r : End) (pc : c ≡ statements_in b) (pl : l ≡ labels_in b) (pd : d ≡ data_in b) (pr : rows ≡ data_end b) (pa : at ≡ rows_end b) (e : r ≡ At end)
-      (g : place_of (length b) r ≡ behind_fields 4 (fits_of 4 0) b l at) where
+  module _ (c l d rows at end : ℕ) (pc : c ≡ statements_in b) (pl : l ≡ labels_in b) (pd : d ≡ data_in b) (pr : rows ≡ data_end b) (pa : at ≡ rows_end b)
+      (g : place_of (length b) (Some end) ≡ behind_fields 4 (fits_of 4 0) b l at) where
     the_end : end ≡ labels_end b
-    the_end = labels_at l at end pl pa (at_place b r end (behind_fields 4 (fits_of 4 0) b l at) e g)
+    the_end = labels_at l at end pl pa (at_place b end (behind_fields 4 (fits_of 4 0) b l at) g)
 
-    pub form-good : end ≡ length b → Good c l d rows at ≡ form_of b
+    pub form-good : end ≡ length b → Some (record { statements = c; labels = l; size = d; rows = rows; names = at }) ≡ form_of b
     unfolding form_of formed if_true
     form-good h = rw (eq-eqb (labels_end b) (length b) (sym the_end ∙ h), pc, pl, pd, pr, pa)
 
-    pub form-surplus : (end ≡ length b → ⊥) → Bad ≡ form_of b
+    pub form-surplus : (end ≡ length b → ⊥) → None ≡ form_of b
     unfolding form_of formed if_true
     form-surplus h = rw (ne_eqb (labels_end b) (length b) (λ q. h (the_end ∙ q)))
 
@@ -274,14 +271,6 @@ pub body-cut : (b : List ℕ) (at s : ℕ) → s ≡ size_at b at → take (at +
 unfolding body_at
 body-cut b at s d = let z : at + 3 + s - (at + 3) ≡ size_at b at = omega arith in rw z
 
-pub body-fits-cut : (b : List ℕ) (at s tag long : ℕ) (r : Bool) → s ≡ size_at b at → r ≡ fits_of tag long (take (at + 3 + s - (at + 3)) (drop (at + 3) b))
-    → r ≡ fits_of tag long (body_at b at)
-body-fits-cut b at s tag long r d e = e ∙ ap (fits_of tag long) (body-cut b at s d)
-
-pub word_cut : (b : List ℕ) (s i r : ℕ) → s ≡ size_at b 0 → r ≡ word_in (take (3 + s - 3) (drop 3 b)) i → r ≡ word_in (body_at b 0) i
-unfolding body_at
-word_cut b s i r d e = let z : 3 + s - 3 ≡ size_at b 0 = omega arith in e ∙ ap (λ (n : ℕ). word_in (take n (drop 3 b)) i) z
-
 pub whole-fits-by : (b : List ℕ) (at : ℕ) (v : Bool) → v ≡ is_whole b at → v ≡ true → at + 3 + size_at b at ≤ length b
 whole-fits-by b at v d h = whole-fits b at (sym d ∙ h)
 
@@ -293,15 +282,15 @@ counts-fit b at e h = whole-fits b 0 (counts_whole b at e h)
 
 -- ---- what each part owes the next
 
-module _ (b : List ℕ) (r : End) (end : ℕ) (e : r ≡ At end) where
-  pub counts-place : place_of (length b) r ≡ behind_fields 1 (fits_of 1 12) b 1 0 → end ≡ counts_end b
-  counts-place g = counts-at b end (at_place b r end (behind_fields 1 (fits_of 1 12) b 1 0) e g)
+module _ (b : List ℕ) (end : ℕ) where
+  pub counts-place : place_of (length b) (Some end) ≡ behind_fields 1 (fits_of 1 12) b 1 0 → end ≡ counts_end b
+  counts-place g = counts-at b end (at_place b end (behind_fields 1 (fits_of 1 12) b 1 0) g)
 
-  pub data-place : (d at : ℕ) → d ≡ word_in (body_at b 0) 8 → at ≡ counts_end b → place_of (length b) r ≡ behind_fields 2 (fits_of 2 d) b 1 at → end ≡ data_end b
-  data-place d at pd pa g = data-at b d at end (count-data b d pd) pa (at_place b r end (behind_fields 2 (fits_of 2 d) b 1 at) e g)
+  pub data-place : (d at : ℕ) → d ≡ word_in (body_at b 0) 8 → at ≡ counts_end b → place_of (length b) (Some end) ≡ behind_fields 2 (fits_of 2 d) b 1 at → end ≡ data_end b
+  data-place d at pd pa g = data-at b d at end (count-data b d pd) pa (at_place b end (behind_fields 2 (fits_of 2 d) b 1 at) g)
 
-  pub rows-place : (c at : ℕ) → c ≡ statements_in b → at ≡ data_end b → place_of (length b) r ≡ behind_fields 3 (fits_of 3 0) b c at → end ≡ rows_end b
-  rows-place c at pc pa g = rows_at b c at end pc pa (at_place b r end (behind_fields 3 (fits_of 3 0) b c at) e g)
+  pub rows-place : (c at : ℕ) → c ≡ statements_in b → at ≡ data_end b → place_of (length b) (Some end) ≡ behind_fields 3 (fits_of 3 0) b c at → end ≡ rows_end b
+  rows-place c at pc pa g = rows_at b c at end pc pa (at_place b end (behind_fields 3 (fits_of 3 0) b c at) g)
 
 pub ruleset places = (counts-place, data-place, rows-place, at-within, count-statements, count-labels, count-data)
 

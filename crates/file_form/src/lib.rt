@@ -27,24 +27,14 @@ impl Tag {
     pub const COUNTS_SIZE: u32 = 12;
 }
 
-// The place behind some fields, or nowhere: one of them is not good.
-#[derive(Drop)]
-pub enum End {
-    At(usize),
-    Nowhere,
-}
-
 // The counts of statements, labels and data bytes of a file of right form, and where the fields of statements and labels begin.
-#[derive(Drop)]
-pub enum Form {
-    Good {
-        statements: u32,
-        labels: u32,
-        size: u32,
-        rows: usize,
-        names: usize,
-    },
-    Bad,
+#[derive(Clone, Copy)]
+pub struct Form {
+    pub statements: u32,
+    pub labels: u32,
+    pub size: u32,
+    pub rows: usize,
+    pub names: usize,
 }
 
 // The length of the field at a place.
@@ -83,14 +73,15 @@ fn fits(tag: u32, long: u32, x: &[u8]) -> bool
     x.len() == long as usize
 }
 
-// The same of the field that stands whole at a place.
-fn body_fits(b: &[u8], at: usize, tag: u32, long: u32) -> bool
+// The bytes of the field that stands whole at a place.
+pub fn body(b: &[u8], at: usize) -> &[u8]
     requires { at + head_bytes + size_at b.now at ≤ length b.now }
-    ensures { result ≡ fits_of tag long (body_at b.now at) }
+    ensures value { result.now ≡ body_at b.now at }
+    ensures upper_bound { length result.now < 65536 }
 {
     let from = at + Tag::HEAD;
     let to = from + size_at(b, at);
-    fits(tag, long, &b[from..to])
+    &b[from..to]
 }
 
 // Whether a good field with a tag stands at a place.
@@ -100,10 +91,7 @@ fn is_good(b: &[u8], at: usize, tag: u32, long: u32) -> bool
     if file_codec::byte_in(b, at) != tag {
         return false;
     }
-    if is_whole(b, at) {
-        return body_fits(b, at, tag, long);
-    }
-    false
+    is_whole(b, at) && fits(tag, long, body(b, at))
 }
 
 // The place behind the field that stands whole at a place.
@@ -114,22 +102,19 @@ pub fn behind(b: &[u8], at: usize) -> usize
     at + Tag::HEAD + size_at(b, at)
 }
 
-// The place behind n good fields with a tag.
-fn skip(b: &[u8], tag: u32, long: u32, n: u32, at: usize) -> End
+// The place behind n good fields with a tag; None where one of them is not good.
+fn skip(b: &[u8], tag: u32, long: u32, n: u32, at: usize) -> Option<usize>
     requires { at ≤ length b.now }
     ensures { (place_of (length b.now) result ≡ behind_fields tag (fits_of tag long) b.now n at) × (is_within (length b.now) result ≡ true) }
 {
     let mut p = at;
-    let mut i: u32 = 0;
-    while i < n {
-        if is_good(b, p, tag, long) {
-            p = behind(b, p);
-            i += 1;
-        } else {
-            return End::Nowhere;
+    for _ in 0..n {
+        if !is_good(b, p, tag, long) {
+            return None;
         }
+        p = behind(b, p);
     }
-    End::At(p)
+    Some(p)
 }
 
 // A word of the counts.
@@ -137,64 +122,52 @@ fn count_word(b: &[u8], i: usize) -> u32
     requires { (i < 12) × (head_bytes + size_at b.now 0 ≤ length b.now) }
     ensures { result ≡ word_in (body_at b.now 0) i }
 {
-    let from = Tag::HEAD;
-    let to = from + size_at(b, 0);
-    file_codec::word_in(&b[from..to], i)
+    file_codec::word_in(body(b, 0), i)
 }
 
 // The form behind the statement rows, which end at a place: the label rows, and nothing behind them.
-fn labels_form(b: &[u8], c: u32, l: u32, d: u32, rows: usize, at: usize) -> Form
+fn labels_form(b: &[u8], c: u32, l: u32, d: u32, rows: usize, at: usize) -> Option<Form>
     requires { (c ≡ statements_in b.now) × (l ≡ labels_in b.now) × (d ≡ data_in b.now) × (rows ≡ data_end b.now) × (at ≡ rows_end b.now) × (at ≤ length b.now) }
     ensures { result ≡ form_of b.now }
 {
-    match skip(b, Tag::LABEL, 0, l, at) {
-        End::At(end) => {
-            if end == b.len() {
-                return Form::Good {
-                    statements: c,
-                    labels: l,
-                    size: d,
-                    rows: rows,
-                    names: at,
-                };
-            }
-            Form::Bad
-        }
-        End::Nowhere => Form::Bad,
+    let end = skip(b, Tag::LABEL, 0, l, at)?;
+    if end != b.len() {
+        return None;
     }
+    Some(Form {
+        statements: c,
+        labels: l,
+        size: d,
+        rows,
+        names: at,
+    })
 }
 
 // The form behind the data, which end at a place.
-fn rows_form(b: &[u8], c: u32, l: u32, d: u32, at: usize) -> Form
+fn rows_form(b: &[u8], c: u32, l: u32, d: u32, at: usize) -> Option<Form>
     requires { (c ≡ statements_in b.now) × (l ≡ labels_in b.now) × (d ≡ data_in b.now) × (at ≡ data_end b.now) × (at ≤ length b.now) }
     ensures { result ≡ form_of b.now }
 {
-    match skip(b, Tag::ROW, 0, c, at) {
-        End::At(end) => labels_form(b, c, l, d, at, end),
-        End::Nowhere => Form::Bad,
-    }
+    let end = skip(b, Tag::ROW, 0, c, at)?;
+    labels_form(b, c, l, d, at, end)
 }
 
 // The form behind the counts, which end at a place.
-fn data_form(b: &[u8], at: usize) -> Form
+fn data_form(b: &[u8], at: usize) -> Option<Form>
     requires { (at ≡ counts_end b.now) × (at ≤ length b.now) }
     ensures { result ≡ form_of b.now }
 {
     let c = count_word(b, 0);
     let l = count_word(b, 4);
     let d = count_word(b, 8);
-    match skip(b, Tag::DATA, d, 1, at) {
-        End::At(end) => rows_form(b, c, l, d, end),
-        End::Nowhere => Form::Bad,
-    }
+    let end = skip(b, Tag::DATA, d, 1, at)?;
+    rows_form(b, c, l, d, end)
 }
 
-// The form of a file.
-pub fn find_form(b: &[u8]) -> Form
+// The form of a file; None where it is not right.
+pub fn find_form(b: &[u8]) -> Option<Form>
     ensures { result ≡ form_of b.now }
 {
-    match skip(b, Tag::COUNTS, Tag::COUNTS_SIZE, 1, 0) {
-        End::At(end) => data_form(b, end),
-        End::Nowhere => Form::Bad,
-    }
+    let end = skip(b, Tag::COUNTS, Tag::COUNTS_SIZE, 1, 0)?;
+    data_form(b, end)
 }

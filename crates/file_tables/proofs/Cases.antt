@@ -2,26 +2,26 @@
 -- Assumes nothing.
 use mathlib.Core.Path.{◌≡◌, refl, sym, ◌∙◌, ap}
 use mathlib.Core.Bool.{Bool, true, false}
-use mathlib.Core.List.{List, [], ◌∷◌, ◌++◌}
+use mathlib.Core.List.{List, ◌∷◌}
 use Prim.Native.Nat.{ℕ, zero, suc, ◌+◌, ◌-◌, ◌*◌, ◌<◌, ◌≤◌}
 use native.Mathlib.Nat.{sub-zero, zero-mul, suc-mul}
 use native.Mathlib.Numerals.{add-one}
 use native.Mathlib.Omega.{arith}
-use lib.ListN.{length, get_or, take, drop, set, length-set, length-append, get_or-eq_default}
+use lib.ListN.{length, get_or, set, length-set}
 use lib.Seq.{get_or-drop}
-use Rattle.base_prelude.specs.Choice.{pick, if_true, if_eq}
+use Rattle.base_prelude.specs.Choice.{pick}
 use Rattle.base_prelude.proofs.Choice.{if_true-yes, if_true-no, if_eq-yes, if_eq-no}
 use Rattle.prog_tables.specs.Tests.{count_below}
 use Rattle.vm_definitions.specs.Access.{store_from}
 use Rattle.vm_memory.proofs.Cases.{store-next, store-append}
 use Rattle.file_codec.specs.Words.{word_in, listed}
-use Rattle.file_codec.specs.Fields.{size_at, behind_at, is_whole, body_at}
+use Rattle.file_codec.specs.Fields.{size_at, behind_at, body_at}
 use Rattle.file_codec.specs.Rows.{uses, unpacked_at, kind_in, expr_in, count_in, uses_in, unpacked}
 use Rattle.file_codec.specs.Labels.{label_head, label_kind_in, name_in, name_size, arguments_in, label_words_in, name_slot}
 use Rattle.file_codec.specs.Form.{field_good, behind_fields}
 use Rattle.file_codec.specs.Tables.{each_field}
 use Rattle.file_codec.proofs.Counts.{count-more}
-use Rattle.file_form.proofs.Cases.{body-cut, first_good, skip-good, good-whole, whole-fits}
+use Rattle.file_form.proofs.Cases.{first_good, skip-good, good-whole, whole-fits}
 
 pub listed-length : (g : ℕ → ℕ) (n j : ℕ) → length (listed g n j) ≡ n
 unfolding listed
@@ -73,25 +73,27 @@ module _ (k e n : ℕ) (x : List ℕ) where
   unpacking-start t at = record { words = listing_start (unpacked_at (uses k e n) x) 27 t at; place = refl; small = omega arith }
 
   module _ (t₀ : List ℕ) (at : ℕ) (t : List ℕ) (p j : ℕ) (h : Unpacking t₀ at t p j) (b : Bool) (l : j < 27) (d : b ≡ uses k e n j) where
-    pub unpacking-used : (v : ℕ) → b ≡ true → v ≡ word_in x p → Unpacking t₀ at (set t (at + j) v) (p + 4) (j + 1)
+    pub unpacking-used : (v m : ℕ) (t' : List ℕ) → b ≡ true → v ≡ word_in x p → t' ≡ set t (at + j) v → m ≡ p + 4 → Unpacking t₀ at t' m (j + 1)
     unfolding unpacked_at
-    unpacking-used v q r =
+    unpacking-used v m t' q r f g =
         let c : count_below (uses k e n) (j + 1) ≡ count_below (uses k e n) j + 1 = ap (count_below (uses k e n)) (add-one j) ∙ count-more (uses k e n) j ∙ ap (λ (y : Bool). count_below (uses k e n) j + pick y 1 0) (sym d ∙ q) in
-        record {
+        rw (f, g)
+        (record {
           words = listing-more (unpacked_at (uses k e n) x) 27 t₀ at t j h.words v l (r ∙ ap (word_in x) h.place ∙ sym (if_true-yes (word_in x (4 * count_below (uses k e n) j)) 0 (sym d ∙ q)));
           place = omega (arith, h.place, c);
           small = omega (arith, h.small);
-        }
+        })
 
-    pub unpacking-unused : b ≡ false → Unpacking t₀ at (set t (at + j) 0) p (j + 1)
+    pub unpacking-unused : (m : ℕ) (t' : List ℕ) → b ≡ false → t' ≡ set t (at + j) 0 → m ≡ p → Unpacking t₀ at t' m (j + 1)
     unfolding unpacked_at
-    unpacking-unused q =
+    unpacking-unused m t' q f g =
         let c : count_below (uses k e n) (j + 1) ≡ count_below (uses k e n) j + 0 = ap (count_below (uses k e n)) (add-one j) ∙ count-more (uses k e n) j ∙ ap (λ (y : Bool). count_below (uses k e n) j + pick y 1 0) (sym d ∙ q) in
-        record {
+        rw (f, g)
+        (record {
           words = listing-more (unpacked_at (uses k e n) x) 27 t₀ at t j h.words 0 l (sym (if_true-no (word_in x (4 * count_below (uses k e n) j)) 0 (sym d ∙ q)));
           place = omega (arith, h.place, c);
           small = omega (arith, h.small);
-        }
+        })
 
   pub unpacking-done : (t₀ : List ℕ) (at : ℕ) (t : List ℕ) (p j : ℕ) → Unpacking t₀ at t p j → 27 ≤ j → t ≡ store_from t₀ at (listed (unpacked_at (uses k e n) x) 27 0)
   unpacking-done t₀ at t p j h l = listing-done (unpacked_at (uses k e n) x) 27 t₀ at t j h.words l
@@ -102,24 +104,6 @@ pub row-unpacked : (x : List ℕ) (k e n : ℕ) (t₀ t : List ℕ) (at : ℕ) �
     → t ≡ store_from t₀ at (listed (unpacked_at (uses k e n) x) 27 0) → t ≡ store_from t₀ at (unpacked x)
 unfolding unpacked uses_in count_in expr_in kind_in
 row-unpacked x k e n t₀ t at p q r d = d ∙ rw (r, q, p)
-
--- ---- a field's bytes as a part of the file
-
-module _ (make : List ℕ → List ℕ) (b : List ℕ) (p s : ℕ) (t₀ t : List ℕ) (at : ℕ) where
-  field-unpacked : s ≡ size_at b p → t ≡ store_from t₀ at (make (take (p + 3 + s - (p + 3)) (drop (p + 3) b))) → t ≡ store_from t₀ at (make (body_at b p))
-  field-unpacked d e = e ∙ ap (λ (y : List ℕ). store_from t₀ at (make y)) (body-cut b p s d)
-
-module _ (b : List ℕ) (p s : ℕ) (t₀ t : List ℕ) (at : ℕ) (d : s ≡ size_at b p) where
-  pub row_field : t ≡ store_from t₀ at (unpacked (take (p + 3 + s - (p + 3)) (drop (p + 3) b))) → t ≡ store_from t₀ at (unpacked (body_at b p))
-  row_field e = field-unpacked unpacked b p s t₀ t at d e
-
-  pub label-field : t ≡ store_from t₀ at (label_words_in (take (p + 3 + s - (p + 3)) (drop (p + 3) b))) → t ≡ store_from t₀ at (label_words_in (body_at b p))
-  label-field e = field-unpacked label_words_in b p s t₀ t at d e
-
-  pub name-field : t ≡ store_from t₀ at (name_slot (take (p + 3 + s - (p + 3)) (drop (p + 3) b))) → t ≡ store_from t₀ at (name_slot (body_at b p))
-  name-field e = field-unpacked name_slot b p s t₀ t at d e
-
-pub ruleset fields = (row_field, label-field, name-field)
 
 -- ---- the fields of n rows, m words each
 
@@ -143,16 +127,16 @@ module _ (tag : ℕ) (fits : List ℕ → Bool) (make : List ℕ → List ℕ) (
     pub fielding-whole : p + 3 + size_at b p ≤ length b
     fielding-whole = whole-fits b p (good-whole tag fits b p is-good)
 
-    pub fielding-more : (t' : List ℕ) (q : ℕ) → t' ≡ store_from t (i * m) (make (body_at b p)) → length t' ≡ length t → q ≡ behind_at b p → Fielding t₀ t' q (i + 1)
+    pub fielding-more : (t' y : List ℕ) (q : ℕ) → y ≡ body_at b p → t' ≡ store_from t (i * m) (make y) → length t' ≡ length t → q ≡ behind_at b p → Fielding t₀ t' q (i + 1)
     unfolding each_field
-    fielding-more t' q e s d =
+    fielding-more t' y q o e s d =
         let z : (i + 1) * m ≡ i * m + length (make (body_at b p)) = next (each (body_at b p)) in
         record {
           below = omega arith;
           long = s ∙ h.long;
           good = rw (d, ← skip-good tag fits b (n - (i + 1)) p is-good, ← left) h.good;
           rest =
-              rw (d, e, z)
+              rw (d, e, o, z)
               (sym (store-append t (i * m) (make (body_at b p)) (each_field make b (n - (i + 1)) (behind_at b p)))
               ∙ ap (λ (y : ℕ). store_from t (i * m) (each_field make b y p)) (sym left)
               ∙ h.rest);
@@ -180,9 +164,6 @@ slot-length x = listed-length (λ j. get_or (name_in x) j 0) 64 0
 pub ruleset fielding = (fielding-start, fielding-whole, fielding-more, fielding-done)
 
 -- ---- labels
-
-pub byte_past : (x : List ℕ) (i : ℕ) → length x ≤ i → 0 ≡ get_or x i 0
-byte_past x i h = sym (get_or-eq_default x 0 h)
 
 pub arguments-import : (x : List ℕ) (k v : ℕ) → k ≡ 6 → v ≡ word_in x 8 → v ≡ arguments_in k x
 unfolding arguments_in

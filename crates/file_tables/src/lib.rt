@@ -22,15 +22,12 @@ fn unpack_words(x: &[u8], k: u32, e: u32, n: u32, t: &mut [u32], at: usize)
     ensures { t.new ≡ store_from t.old at (listed (unpacked_at (uses k e n) x.now) statement_row 0) }
 {
     let mut p: usize = 0;
-    let mut j: usize = 0;
-    while j < Table::STATEMENT_ROW {
+    for j in 0..Table::STATEMENT_ROW {
         if file_codec::uses(k, e, n, j) {
             t[at + j] = file_codec::word_in(x, p);
             p += 4;
-            j += 1;
         } else {
             t[at + j] = 0;
-            j += 1;
         }
     }
 }
@@ -46,35 +43,16 @@ fn unpack_row(x: &[u8], t: &mut [u32], at: usize)
     unpack_words(x, k, e, n, t, at);
 }
 
-// The row whose field stands at a place of the file.
-fn unpack_field(b: &[u8], p: usize, t: &mut [u32], at: usize)
-    requires { (p + head_bytes + size_at b.now p ≤ length b.now) × (at + statement_row ≤ length t.old) }
-    ensures { t.new ≡ store_from t.old at (unpacked (body_at b.now p)) }
-{
-    let from = p + Tag::HEAD;
-    let to = from + file_form::size_at(b, p);
-    unpack_row(&b[from..to], t, at);
-}
-
 // n rows, whose fields stand from a place on, to the front of the table.
 pub fn unpack_rows(b: &[u8], n: u32, at: usize, t: &mut [u32])
     requires { (n * statement_row ≤ length t.old) × (behind_fields row_tag row_fits b.now n at ≤ length b.now) }
     ensures { t.new ≡ store_from t.old 0 (each_field unpacked b.now n at) }
 {
     let mut p = at;
-    let mut i: u32 = 0;
-    while i < n {
-        unpack_field(b, p, t, i as usize * Table::STATEMENT_ROW);
+    for i in 0..n {
+        unpack_row(file_form::body(b, p), t, i as usize * Table::STATEMENT_ROW);
         p = file_form::behind(b, p);
-        i += 1;
     }
-}
-
-// A byte, 0 past the end.
-fn byte_of(x: &[u8], i: usize) -> u8
-    ensures { result ≡ get_or x.now i 0 }
-{
-    if i < x.len() { x[i] } else { 0 }
 }
 
 // The argument count of a label of kind k: that of an import.
@@ -117,31 +95,9 @@ fn unpack_name(x: &[u8], names: &mut [u8], at: usize)
     ensures { names.new ≡ store_from names.old at (name_slot x.now) }
 {
     let head = file_codec::label_head(file_codec::word_in(x, 0));
-    let mut j: usize = 0;
-    while j < Machine::NAME_BYTES {
-        names[at + j] = byte_of(x, head + j);
-        j += 1;
+    for j in 0..Machine::NAME_BYTES {
+        names[at + j] = x.get(head + j).copied().unwrap_or(0);
     }
-}
-
-// The words of the label whose field stands at a place of the file.
-fn unpack_label_field(b: &[u8], p: usize, l: &mut [u32], at: usize)
-    requires { (p + head_bytes + size_at b.now p ≤ length b.now) × (at + label_row ≤ length l.old) }
-    ensures { l.new ≡ store_from l.old at (label_words_in (body_at b.now p)) }
-{
-    let from = p + Tag::HEAD;
-    let to = from + file_form::size_at(b, p);
-    unpack_label(&b[from..to], l, at);
-}
-
-// Its name.
-fn unpack_name_field(b: &[u8], p: usize, names: &mut [u8], at: usize)
-    requires { (p + head_bytes + size_at b.now p ≤ length b.now) × (at + name_bytes ≤ length names.old) }
-    ensures { names.new ≡ store_from names.old at (name_slot (body_at b.now p)) }
-{
-    let from = p + Tag::HEAD;
-    let to = from + file_form::size_at(b, p);
-    unpack_name(&b[from..to], names, at);
 }
 
 // The words of n labels, whose fields stand from a place on, to the front of the table.
@@ -150,11 +106,9 @@ pub fn unpack_labels(b: &[u8], n: u32, at: usize, l: &mut [u32])
     ensures { l.new ≡ store_from l.old 0 (each_field label_words_in b.now n at) }
 {
     let mut p = at;
-    let mut i: u32 = 0;
-    while i < n {
-        unpack_label_field(b, p, l, i as usize * Table::LABEL_ROW);
+    for i in 0..n {
+        unpack_label(file_form::body(b, p), l, i as usize * Table::LABEL_ROW);
         p = file_form::behind(b, p);
-        i += 1;
     }
 }
 
@@ -164,10 +118,12 @@ pub fn unpack_names(b: &[u8], n: u32, at: usize, names: &mut [u8])
     ensures { names.new ≡ store_from names.old 0 (each_field name_slot b.now n at) }
 {
     let mut p = at;
-    let mut i: u32 = 0;
-    while i < n {
-        unpack_name_field(b, p, names, i as usize * Machine::NAME_BYTES);
+    for i in 0..n {
+        unpack_name(
+            file_form::body(b, p),
+            names,
+            i as usize * Machine::NAME_BYTES,
+        );
         p = file_form::behind(b, p);
-        i += 1;
     }
 }

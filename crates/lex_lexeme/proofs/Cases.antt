@@ -141,15 +141,6 @@ pub string-is : (s : List ℕ) (first : ℕ) (r : TokenRead) (x : Spelled) → x
 unfolding string_read string_by
 string-is s first r x p q = q ∙ ap (string_by s first) p
 
-module _ (kind first next : ℕ) (n : Option ℕ) (x : Lexeme) where
-  pub integer-word : (v : ℕ) → n ≡ Some v → x ≡ valued kind first next v true → x ≡ integer_from kind first next n
-  unfolding integer_from
-  integer-word v p q = rw p q
-
-  pub integer-far : n ≡ None → x ≡ valued kind first next 0 false → x ≡ integer_from kind first next n
-  unfolding integer_from
-  integer-far p q = rw p q
-
 empty : (w : Width) (kind first : ℕ) (neg : Bool) (ds : List ℕ) (next : ℕ) → length ds ≡ 0 → Err (Lone first) ≡ integer_by w kind first neg ds next
 unfolding integer_by
 empty w kind first neg [] next e = refl
@@ -166,9 +157,9 @@ module _ (w : Width) (s : List ℕ) (kind first : ℕ) (neg : Bool) (at : ℕ) (
   unfolding digits_read
   unsigned-none e = empty w kind first neg (digits_at s at).digits (digits_at s at).next (sym (decimal-count d (digits_at s at) p) ∙ e)
 
-  pub unsigned-some : (n : Option ℕ) (x : Lexeme) → (d.count ≡ 0 → ⊥) → n ≡ integer_of w neg d.value → x ≡ integer_from kind first d.next n
+  pub unsigned-some : (n : Option ℕ) (x : Lexeme) → (d.count ≡ 0 → ⊥) → n ≡ integer_of w neg d.value → x ≡ valued kind first d.next n
       → Ok x ≡ digits_read w s kind first neg at
-  unfolding digits_read
+  unfolding digits_read integer_from
   unsigned-some n x e q f =
       ap (λ (y : Lexeme). Ok y) (f ∙ ap (integer_from kind first d.next) (q ∙ decimal-number w neg d (digits_at s at) p)
       ∙ ap (λ (j : ℕ). integer_from kind first j (integer_of w neg (value_of (digits_at s at).digits))) (decimal-next d (digits_at s at) p))
@@ -260,7 +251,7 @@ module _ (w : Width) (s : List ℕ) (at c : ℕ) (p : c ≡ byte_at s at) where
     unfolding token_at
     token-plain e f g k q = rw (← p, ← q) (search tests)
 
-  pub token-newline : (x : Lexeme) → c ≡ 10 → x ≡ valued 1 at (at + 1) 0 true → Ok x ≡ token_at w s at
+  pub token-newline : (x : Lexeme) → c ≡ 10 → x ≡ valued 1 at (at + 1) (Some 0) → Ok x ≡ token_at w s at
   unfolding token_at
   token-newline x e q = rw (← p, ← q) (search tests)
 
@@ -284,7 +275,7 @@ pub ruleset symbols = (to-label, to-symbol, to-marked, end-stopped, end-broken, 
 
 pub ruleset strings = (to-string, to-open, string-stopped, string-broken, string-is)
 
-pub ruleset integers = (integer-word, integer-far, unsigned-none, unsigned-some, integer-negative, integer-positive, integer-plain)
+pub ruleset integers = (unsigned-none, unsigned-some, integer-negative, integer-positive, integer-plain)
 
 pub ruleset marks = (marked-symbol, marked-lone, marked-is, at-percent, at_name, at-number, at-lone, at-is)
 

@@ -249,8 +249,8 @@ digits_in s at l = within-digits (suc (length s)) s at l
 
 -- integers
 module _ (s : List ℕ) (kind first : ℕ) (k7 : 7 ≤ kind) (k8 : kind ≤ 8) where
-  valued-in : (next v : ℕ) (f : Bool) → first < next → next ≤ length s → LexemeIn s first (valued kind first next v f)
-  valued-in next v f a w =
+  valued-in : (next : ℕ) (v : Option ℕ) → first < next → next ≤ length s → LexemeIn s first (valued kind first next v)
+  valued-in next v a w =
       let t : text_of s kind first ≡ [] = text-none s kind first (unnamed-is kind k7) (λ e. let z : ⊥ = omega arith in z) in
       record {
         first-is = refl;
@@ -267,8 +267,7 @@ module _ (s : List ℕ) (kind first : ℕ) (k7 : 7 ≤ kind) (k8 : kind ≤ 8) w
 
   number_in : (next : ℕ) (n : Option ℕ) → first < next → next ≤ length s → LexemeIn s first (integer_from kind first next n)
   unfolding integer_from
-  number_in next (Some v) a w = valued-in next v true a w
-  number_in next None a w = valued-in next 0 false a w
+  number_in next n a w = valued-in next n a w
 
   by_in : (w : Width) (neg : Bool) (at : ℕ) (ds : List ℕ) (next : ℕ) → first < length s → first ≤ at → at + length ds ≤ next → next ≤ length s
       → TokenIn s first (integer_by w kind first neg ds next)
@@ -327,7 +326,7 @@ plain_in w s at l j =
     (λ b. integer-in s 7 at (omega arith) (omega arith) w at (omega arith) l)
     (λ _. (omega arith, omega arith)))
 
-newline-in : (s : List ℕ) (at : ℕ) → at < length s → LexemeIn s at (valued 1 at (at + 1) 0 true)
+newline-in : (s : List ℕ) (at : ℕ) → at < length s → LexemeIn s at (valued 1 at (at + 1) (Some 0))
 newline-in s at l =
     let t : text_of s 1 at ≡ [] = text-none s 1 at nothing-named (λ e. let z : ⊥ = omega arith in z) in
     record {

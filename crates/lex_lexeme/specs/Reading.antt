@@ -35,12 +35,12 @@ starts_integer c = if_true (is_digit c) true (if_eq c 43 true (if_eq c 45 true f
 -- a token with a text: where it and its text start, its next byte, the text's size and hash
 abbrev pub texted : ℕ → ℕ → ℕ → ℕ → ℕ → ℕ → Lexeme
 texted kind first start next size hash =
-    record { kind = kind; first = first; start = start; next = next; size = size; hash = hash; value = 0; fits = true }
+    record { kind = kind; first = first; start = start; next = next; size = size; hash = hash; value = Some 0 }
 
 -- a token without a text
-abbrev pub valued : ℕ → ℕ → ℕ → ℕ → Bool → Lexeme
-valued kind first next value fits =
-    record { kind = kind; first = first; start = first; next = next; size = 0; hash = 0; value = value; fits = fits }
+abbrev pub valued : ℕ → ℕ → ℕ → Option ℕ → Lexeme
+valued kind first next value =
+    record { kind = kind; first = first; start = first; next = next; size = 0; hash = 0; value = value }
 
 -- "label (symbol directly followed by `:`)"; under a mark it stays what it is
 unfoldable pub symbol_to : List ℕ → ℕ → ℕ → ℕ → ℕ → ℕ → ℕ → Lexeme
@@ -75,10 +75,9 @@ string_by s first x = string_end s first x.size x.hash x.ending
 unfoldable pub string_read : List ℕ → ℕ → TokenRead
 string_read s first = string_by s first (measured (spelled_at true s (first + 1)))
 
--- a number out of range is a token all the same, of value 0
+-- a number out of range is a token all the same, of no word
 unfoldable pub integer_from : ℕ → ℕ → ℕ → Option ℕ → Lexeme
-integer_from kind first next (Some v) = valued kind first next v true
-integer_from kind first next None = valued kind first next 0 false
+integer_from kind first next n = valued kind first next n
 
 -- one digit at least; else what stands first is a lone sign or mark
 unfoldable pub integer_by : Width → ℕ → ℕ → Bool → List ℕ → ℕ → TokenRead
@@ -123,7 +122,7 @@ plain_read w s at c =
 -- the token at a place of the source
 unfoldable pub token_at : Width → List ℕ → ℕ → TokenRead
 token_at w s at =
-    if_eq (byte_at s at) 10 (Ok (valued token.newline at (at + 1) 0 true))
+    if_eq (byte_at s at) 10 (Ok (valued token.newline at (at + 1) (Some 0)))
     (if_eq (byte_at s at) 34 (string_read s at)
     (if_eq (byte_at s at) 37 (marked_at s token.substitute at (at + 1))
     (if_eq (byte_at s at) 64 (at_read w s at)

@@ -6,7 +6,7 @@ ghost use Rattle.base_limits.specs.Limits.{word_values};
 ghost use Rattle.base_limits.specs.Width.{bits_of};
 ghost use Rattle.lex_lexeme.specs.Number.{digit_from, digit_at, digits_at, decimal_of, half_of, whole_of, integer_of};
 ghost use Rattle.lex_lexeme.specs.Gap.{comment_end, gap_skip, gap_end};
-ghost use Rattle.lex_lexeme.specs.Reading.{starts_symbol, starts_integer, texted, valued, symbol_to, symbol_end, symbol_at, string_to, string_end, string_read, integer_from, digits_read, integer_at, marked_from, marked_at, at_from, at_read, plain_read, token_at, next_read, is_named, name_start};
+ghost use Rattle.lex_lexeme.specs.Reading.{starts_symbol, starts_integer, texted, valued, symbol_to, symbol_end, symbol_at, string_to, string_end, string_read, digits_read, integer_at, marked_from, marked_at, at_from, at_read, plain_read, token_at, next_read, is_named, name_start};
 ghost use Rattle.lex_spelling.specs.Text.{end_of};
 
 use base_limits::{Machine, Width};
@@ -21,8 +21,8 @@ pub struct Decimal {
     pub next: usize,
 }
 
-// A token: its kind, first byte, first byte of its text, next byte, its text's size and hash, an integer's word and whether
-// it is in range.
+// A token: its kind, first byte, first byte of its text, next byte, its text's size and hash, and an integer's word, none where
+// it is out of range.
 #[derive(Clone, Copy)]
 pub struct Lexeme {
     pub kind: u32,
@@ -31,8 +31,7 @@ pub struct Lexeme {
     pub next: usize,
     pub size: usize,
     pub hash: u32,
-    pub value: u32,
-    pub fits: bool,
+    pub value: Option<u32>,
 }
 
 // Why no token is read: a byte that starts none, a bad escape, or a string that does not end, each with its place.
@@ -151,13 +150,12 @@ fn with_text(kind: u32, first: usize, start: usize, next: usize, size: usize, ha
         next,
         size,
         hash,
-        value: 0,
-        fits: true,
+        value: Some(0),
     }
 }
 
-fn with_value(kind: u32, first: usize, next: usize, value: u32, fits: bool) -> Lexeme
-    ensures { result ≡ valued kind first next value fits }
+fn with_value(kind: u32, first: usize, next: usize, value: Option<u32>) -> Lexeme
+    ensures { result ≡ valued kind first next value }
 {
     Lexeme {
         kind,
@@ -167,7 +165,6 @@ fn with_value(kind: u32, first: usize, next: usize, value: u32, fits: bool) -> L
         size: 0,
         hash: 0,
         value,
-        fits,
     }
 }
 
@@ -308,15 +305,6 @@ fn read_string(s: &[u8], first: usize) -> Result<Lexeme, TokenError>
     string_end(s, first, x.size, x.hash, x.ending)
 }
 
-fn integer_from(kind: u32, first: usize, next: usize, n: Option<u32>) -> Lexeme
-    ensures { result ≡ integer_from kind first next n }
-{
-    match n {
-        Some(v) => with_value(kind, first, next, v, true),
-        None => with_value(kind, first, next, 0, false),
-    }
-}
-
 fn read_unsigned(
     w: Width,
     s: &[u8],
@@ -331,7 +319,7 @@ fn read_unsigned(
     if d.count == 0 {
         return Err(TokenError::Lone(first));
     }
-    Ok(integer_from(kind, first, d.next, to_word(w, negative, d.value)))
+    Ok(with_value(kind, first, d.next, to_word(w, negative, d.value)))
 }
 
 // An integer whose sign or first digit stands at a place.
@@ -419,7 +407,7 @@ fn read_token(w: Width, s: &[u8], at: usize) -> Result<Lexeme, TokenError>
 {
     let c = base_prelude::byte_at(s, at);
     match c {
-        10 => Ok(with_value(Token::NEWLINE, at, at + 1, 0, true)),
+        10 => Ok(with_value(Token::NEWLINE, at, at + 1, Some(0))),
         34 => read_string(s, at),
         37 => read_marked(s, Token::SUBSTITUTE, at, at + 1),
         64 => read_at_sign(w, s, at),

@@ -21,6 +21,7 @@ use Rattle.lex_lexeme.specs.Reading.{is_named, name_start}
 use Rattle.lex_source.specs.Token.{is_substitute, substitute_value, token_value}
 use Rattle.lex_source.specs.Faults.{range_fault, length_fault, limit_fault, follow_fault}
 use Rattle.lex_source.specs.Filling.{row_named, word_named}
+use Rattle.std.specs.Prelude.{is_some}
 
 module _ (w : Width) (k : ℕ) where
   pub stands-bits : (v : ℕ) → k ≡ 1 → v ≡ bits_of w → v ≡ substitute_value w k
@@ -57,13 +58,13 @@ module _ (w : Width) (kind value size word : ℕ) (b : Bool) (p : b ≡ is_subst
 pub ruleset valuing = (value-substitute, value-integer, value-at, value-text)
 
 module _ (x : Lexeme) where
-  pub range-good : x.fits ≡ true → none ≡ range_fault x
+  pub range-good : (b : Bool) → b ≡ is_some x.value → b ≡ true → none ≡ range_fault x
   unfolding range_fault
-  range-good e = search tests
+  range-good b p e = rw (← p) (search tests)
 
-  pub range-bad : (k : ℕ) → x.fits ≡ false → k ≡ key x.first 5 → k ≡ range_fault x
+  pub range-bad : (b : Bool) (k : ℕ) → b ≡ is_some x.value → b ≡ false → k ≡ key x.first 5 → k ≡ range_fault x
   unfolding range_fault
-  range-bad k e p = rw (← p) (search tests)
+  range-bad b k q e p = rw (← q, ← p) (search tests)
 
   pub length-long : (b : Bool) (k : ℕ) → b ≡ is_named x.kind → b ≡ true → 64 < x.size → k ≡ key x.first 6 → k ≡ length_fault x
   unfolding length_fault

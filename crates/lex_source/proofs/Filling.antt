@@ -33,6 +33,7 @@ use Rattle.lex_source.proofs.Finding.{find-most}
 use Rattle.lex_source.proofs.Rows.{length-put, taken-put, length-rows, rows_more}
 use Rattle.lex_source.proofs.Tokens.{Every, every_more, Spelt, number_is}
 use Rattle.std.proofs.Common.{Some, None, Ok, Err}
+use Rattle.std.specs.Prelude.{unwrap_or}
 
 -- `row_from`
 module _ (s t : List ℕ) (n : ℕ) (x : Lexeme) (b : Bool) (h : LexemeFits s t n x) (p : b ≡ is_named x.kind) (e : b ≡ true) where
@@ -43,16 +44,20 @@ module _ (s t : List ℕ) (n : ℕ) (x : Lexeme) (b : Bool) (h : LexemeFits s t 
   named-short = (h.named (sym p ∙ e)).1
 
 module _ (w : Width) (s t : List ℕ) (n : ℕ) (x : Lexeme) (b : Bool) (p : b ≡ is_named x.kind) where
-  pub row_named_lem : (word value name : ℕ) → b ≡ true → word ≡ word_named x.kind (name_at s x.start) → value ≡ token_value w x.kind x.value x.size word
-      → name ≡ find_name s t n x.hash x.start
+  pub row_named_lem : (word v value name : ℕ) → b ≡ true → word ≡ word_named x.kind (name_at s x.start) → v ≡ unwrap_or x.value 0
+      → value ≡ token_value w x.kind v x.size word → name ≡ find_name s t n x.hash x.start
       → record { kind = x.kind; first = x.first; next = x.next; value = value; name = name; word = word; hash = x.hash } ≡ row_from w s t n x
   unfolding row_from
-  row_named_lem word value name e f g i = rw (← p, ← f, ← g, ← i) (search tests)
+  row_named_lem word v value name e f q g i =
+      let k : value ≡ token_value w x.kind (unwrap_or x.value 0) x.size word = g ∙ ap (λ (z : ℕ). token_value w x.kind z x.size word) q in
+      rw (← p, ← f, ← k, ← i) (search tests)
 
-  pub row_plain : (value : ℕ) → b ≡ false → value ≡ token_value w x.kind x.value x.size 0
+  pub row_plain : (v value : ℕ) → b ≡ false → v ≡ unwrap_or x.value 0 → value ≡ token_value w x.kind v x.size 0
       → record { kind = x.kind; first = x.first; next = x.next; value = value; name = 0; word = 0; hash = x.hash } ≡ row_from w s t n x
   unfolding row_from
-  row_plain value e g = rw (← p, ← g) (search tests)
+  row_plain v value e q g =
+      let k : value ≡ token_value w x.kind (unwrap_or x.value 0) x.size 0 = g ∙ ap (λ (z : ℕ). token_value w x.kind z x.size 0) q in
+      rw (← p, ← k) (search tests)
 
 pub ruleset rowing = (row_named_lem, row_plain)
 
@@ -136,18 +141,18 @@ module _ (w : Width) (s t : List ℕ) (n at : ℕ) (ts : List Token) (x : Lexeme
       let wd : word_named x.kind (name_at s x.start) ≡ word_of x.kind (text_of s x.kind x.start) = ap (word_named x.kind) (sym m) ∙ sym (word-is x.kind (text_of s x.kind x.start) e) in
       let nm : find_name s t n x.hash x.start ≡ name_number ts (text_of s x.kind x.start) = ap (λ (i : ℕ). find_name s t n i x.start) (hs ∙ ap hash_of m) ∙ number_is s t ts n x.start r c v ∙ ap (name_number ts) (sym m) in
       ap (λ (y : Row). words_of y) (if_true-yes _ _ e)
-      ∙ ap (λ (i : ℕ). x.kind ∷ x.first ∷ x.next ∷ token_value w x.kind x.value i (word_named x.kind (name_at s x.start)) ∷ find_name s t n x.hash x.start ∷ word_named x.kind (name_at s x.start) ∷ x.hash ∷ 0 ∷ []) sz
-      ∙ ap (λ (i : ℕ). x.kind ∷ x.first ∷ x.next ∷ token_value w x.kind x.value (length (text_of s x.kind x.start)) i ∷ find_name s t n x.hash x.start ∷ i ∷ x.hash ∷ 0 ∷ []) wd
-      ∙ ap₂ (λ (i j : ℕ). x.kind ∷ x.first ∷ x.next ∷ token_value w x.kind x.value (length (text_of s x.kind x.start)) (word_of x.kind (text_of s x.kind x.start)) ∷ i ∷ word_of x.kind (text_of s x.kind x.start) ∷ j ∷ 0 ∷ []) (nm ∙ sym (if_true-yes _ _ e)) hs
+      ∙ ap (λ (i : ℕ). x.kind ∷ x.first ∷ x.next ∷ token_value w x.kind (unwrap_or x.value 0) i (word_named x.kind (name_at s x.start)) ∷ find_name s t n x.hash x.start ∷ word_named x.kind (name_at s x.start) ∷ x.hash ∷ 0 ∷ []) sz
+      ∙ ap (λ (i : ℕ). x.kind ∷ x.first ∷ x.next ∷ token_value w x.kind (unwrap_or x.value 0) (length (text_of s x.kind x.start)) i ∷ find_name s t n x.hash x.start ∷ i ∷ x.hash ∷ 0 ∷ []) wd
+      ∙ ap₂ (λ (i j : ℕ). x.kind ∷ x.first ∷ x.next ∷ token_value w x.kind (unwrap_or x.value 0) (length (text_of s x.kind x.start)) (word_of x.kind (text_of s x.kind x.start)) ∷ i ∷ word_of x.kind (text_of s x.kind x.start) ∷ j ∷ 0 ∷ []) (nm ∙ sym (if_true-yes _ _ e)) hs
 
   row-is-plain : is_named x.kind ≡ false → words_of (row_from w s t n x) ≡ row_of (token_of w s ts x)
   unfolding row_of token_of row_from
   row-is-plain e =
       let wd : 0 ≡ word_of x.kind (text_of s x.kind x.start) = sym (no_word x.kind (text_of s x.kind x.start) e) in
       ap (λ (y : Row). words_of y) (if_true-no _ _ e)
-      ∙ ap (λ (i : ℕ). x.kind ∷ x.first ∷ x.next ∷ token_value w x.kind x.value i 0 ∷ 0 ∷ 0 ∷ x.hash ∷ 0 ∷ []) h.sized
-      ∙ ap (λ (i : ℕ). x.kind ∷ x.first ∷ x.next ∷ token_value w x.kind x.value (length (text_of s x.kind x.start)) i ∷ 0 ∷ i ∷ x.hash ∷ 0 ∷ []) wd
-      ∙ ap₂ (λ (i j : ℕ). x.kind ∷ x.first ∷ x.next ∷ token_value w x.kind x.value (length (text_of s x.kind x.start)) (word_of x.kind (text_of s x.kind x.start)) ∷ i ∷ word_of x.kind (text_of s x.kind x.start) ∷ j ∷ 0 ∷ []) (sym (if_true-no _ _ e)) h.hashed
+      ∙ ap (λ (i : ℕ). x.kind ∷ x.first ∷ x.next ∷ token_value w x.kind (unwrap_or x.value 0) i 0 ∷ 0 ∷ 0 ∷ x.hash ∷ 0 ∷ []) h.sized
+      ∙ ap (λ (i : ℕ). x.kind ∷ x.first ∷ x.next ∷ token_value w x.kind (unwrap_or x.value 0) (length (text_of s x.kind x.start)) i ∷ 0 ∷ i ∷ x.hash ∷ 0 ∷ []) wd
+      ∙ ap₂ (λ (i j : ℕ). x.kind ∷ x.first ∷ x.next ∷ token_value w x.kind (unwrap_or x.value 0) (length (text_of s x.kind x.start)) (word_of x.kind (text_of s x.kind x.start)) ∷ i ∷ word_of x.kind (text_of s x.kind x.start) ∷ j ∷ 0 ∷ []) (sym (if_true-no _ _ e)) h.hashed
 
   row_is : words_of (row_from w s t n x) ≡ row_of (token_of w s ts x)
   row_is = by (is_named x.kind) refl

@@ -1,6 +1,6 @@
 -- The rules that a token may break, each as the fault it finds: a key of place and number, or none.
 -- Assumes nothing.
-use Rattle.std.specs.Prelude.{Some, None, Ok, Err, ℕ, List, [], ◌∷◌}
+use Rattle.std.specs.Prelude.{Some, None, Ok, Err, ℕ, List, [], ◌∷◌, is_some}
 use Rattle.base_prelude.specs.Choice.{if_lt, if_true}
 use Rattle.base_prelude.specs.Bytes.{byte_at}
 use Rattle.base_prelude.specs.Fault.{none, key, least_of}
@@ -37,7 +37,7 @@ open_rule (Ok (Some x)) = none
 
 -- 5: "integer out of range: token start"
 unfoldable pub range_fault : Lexeme → ℕ
-range_fault x = if_true x.fits none (key x.first 5)
+range_fault x = if_true (is_some x.value) none (key x.first 5)
 
 -- 6: "name too long: token start"
 unfoldable pub length_fault : Lexeme → ℕ

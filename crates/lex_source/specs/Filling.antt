@@ -1,7 +1,7 @@
 -- How the code fills the table: a name is looked for in the rows written so far. proofs/Filling shows that the rows are those of
 -- specs/Lex.
 -- Assumes nothing.
-use Rattle.std.specs.Prelude.{Option, Some, None, Result, Ok, Err, ℕ, zero, suc, ◌+◌, ◌*◌, Bool, false, List, [], ◌∷◌, ◌++◌, get_or, take, drop}
+use Rattle.std.specs.Prelude.{Option, Some, None, Result, Ok, Err, ℕ, zero, suc, ◌+◌, ◌*◌, Bool, false, List, [], ◌∷◌, ◌++◌, get_or, take, drop, unwrap_or}
 use Rattle.base_prelude.specs.Choice.{if_lt, if_eq, if_true}
 use Rattle.base_prelude.specs.Fault.{none}
 use Rattle.base_prelude.specs.Lists.{same_list}
@@ -45,7 +45,7 @@ row_from w s t n x =
       kind = x.kind;
       first = x.first;
       next = x.next;
-      value = token_value w x.kind x.value x.size (word_named x.kind (name_at s x.start));
+      value = token_value w x.kind (unwrap_or x.value 0) x.size (word_named x.kind (name_at s x.start));
       name = find_name s t n x.hash x.start;
       word = word_named x.kind (name_at s x.start);
       hash = x.hash;
@@ -54,7 +54,7 @@ row_from w s t n x =
       kind = x.kind;
       first = x.first;
       next = x.next;
-      value = token_value w x.kind x.value x.size 0;
+      value = token_value w x.kind (unwrap_or x.value 0) x.size 0;
       name = 0;
       word = 0;
       hash = x.hash;

@@ -1,6 +1,6 @@
 -- A token: what is known of it, and its row in the token table.
 -- Assumes nothing.
-use Rattle.std.specs.Prelude.{ℕ, ◌+◌, Bool, true, false, List, [], ◌∷◌, length}
+use Rattle.std.specs.Prelude.{ℕ, ◌+◌, Bool, true, false, List, [], ◌∷◌, length, unwrap_or}
 use Rattle.base_prelude.specs.Choice.{if_eq, if_true}
 use Rattle.base_prelude.specs.Lists.{same_list}
 use Rattle.base_limits.specs.Width.{bits_of, bytes_of}
@@ -61,7 +61,7 @@ token_of w s ts x =
       kind = x.kind;
       first = x.first;
       next = x.next;
-      value = token_value w x.kind x.value (length (text_of s x.kind x.start)) (word_of x.kind (text_of s x.kind x.start));
+      value = token_value w x.kind (unwrap_or x.value 0) (length (text_of s x.kind x.start)) (word_of x.kind (text_of s x.kind x.start));
       text = text_of s x.kind x.start;
       name = if_true (is_named x.kind) (name_number ts (text_of s x.kind x.start)) 0;
       word = word_of x.kind (text_of s x.kind x.start);

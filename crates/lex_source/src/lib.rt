@@ -63,7 +63,7 @@ fn value_of(w: Width, kind: u32, value: u32, size: usize, word: u32) -> u32
 fn range_fault(x: Lexeme) -> u64
     ensures { result ≡ range_fault x }
 {
-    if x.fits {
+    if x.value.is_some() {
         return 1099511627776;
     }
     base_prelude::fault(x.first, 5)
@@ -185,9 +185,9 @@ fn row_from(w: Width, s: &[u8], t: &[u32], n: usize, x: Lexeme) -> Row
             kind: x.kind,
             first: x.first as u32,
             next: x.next as u32,
-            value: value_of(w, x.kind, x.value, x.size, word),
+            value: value_of(w, x.kind, x.value.unwrap_or(0), x.size, word),
             name: find_name(s, t, n, x.hash, x.start) as u32,
-            word: word,
+            word,
             hash: x.hash,
         };
     }
@@ -195,7 +195,7 @@ fn row_from(w: Width, s: &[u8], t: &[u32], n: usize, x: Lexeme) -> Row
         kind: x.kind,
         first: x.first as u32,
         next: x.next as u32,
-        value: value_of(w, x.kind, x.value, x.size, 0),
+        value: value_of(w, x.kind, x.value.unwrap_or(0), x.size, 0),
         name: 0,
         word: 0,
         hash: x.hash,

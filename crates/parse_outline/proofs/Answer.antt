@@ -3,23 +3,24 @@
 use mathlib.Core.Path.{◌≡◌, refl, sym, ◌∙◌, ap, ap₂}
 use mathlib.Core.List.{List}
 use Prim.Native.Nat.{ℕ, ◌-◌, ◌%◌, ◌/◌}
+use Rattle.std.proofs.Common.{Ok, Err}
 use Rattle.base_limits.specs.declared.Width.{Width}
+use Rattle.base_limits.specs.declared.Refusal.{Refusal}
 use Rattle.parse_units.specs.Parse.{Result, parse_result, parse_of}
-use Rattle.parse_units.specs.declared.Verdict.{Verdict}
-use Rattle.parse_units.specs.declared.Verdict.TheVariants as verdict
+use Rattle.parse_units.specs.Verdict.{Verdict}
+use Rattle.parse_units.specs.declared.Totals.{Totals}
 use Rattle.parse_outline.specs.Labels.{label_rows}
 use Rattle.parse_outline.specs.Outline.{answer_of, parsed, outline_of}
-use Rattle.parse_outline.specs.declared.Parsed.{Parsed}
-use Rattle.parse_outline.specs.declared.Parsed.TheVariants.{Accepted, Refused}
+use Rattle.parse_outline.specs.Parsed.{Parsed, accepted, refusal_of}
 
 module _ (v : Verdict) where
-  pub answer-accepted : (count labels m : ℕ) → v ≡ verdict.Accepted count labels → m ≡ count - 1 → Accepted m labels ≡ answer_of v
+  pub answer-accepted : (x : Totals) (m : ℕ) → v ≡ Ok x → m ≡ x.count - 1 → accepted m x.labels ≡ answer_of v
   unfolding answer_of
-  answer-accepted count labels m e q = rw (e, q)
+  answer-accepted x m e q = rw (e, q)
 
-  pub answer-refused : (k : ℕ) → v ≡ verdict.Refused k → Refused (k % 64) (k / 64) ≡ answer_of v
+  pub answer-refused : (k : ℕ) (r : Refusal) → v ≡ Err k → r ≡ refusal_of k → Err r ≡ answer_of v
   unfolding answer_of
-  answer-refused k e = rw e
+  answer-refused k r e q = rw (e, q)
 
 pub ruleset answering = (answer-accepted, answer-refused)
 

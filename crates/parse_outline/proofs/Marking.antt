@@ -6,7 +6,7 @@ use Prim.Native.Nat.{ℕ, zero, suc, ◌+◌, ◌*◌, ◌-◌, ◌%◌, ◌/◌
 use native.Mathlib.Omega.{arith}
 use lib.ListN.{length}
 use Rattle.base_prelude.specs.Choice.{if_lt, if_eq}
-use Rattle.base_prelude.specs.Lists.{zeros, cleared_from}
+use Rattle.base_prelude.specs.Lists.{zeros}
 use Rattle.base_prelude.specs.Walk.{Step, go, stop, walk}
 use Rattle.base_prelude.proofs.Choice.{either, either-eq, if_eq-yes, if_eq-no}
 use Rattle.base_prelude.proofs.Walk.{Runs, runs-start, runs-go, runs-stop}
@@ -19,8 +19,7 @@ use Rattle.parse_units.proofs.Bounds.{unit-order, unit-near, unit-next, line-som
 use Rattle.parse_outline.specs.Labels.{Marked, marked, mark_unit, Marking, marking, marks_behind, mark_on, mark_step, going, marks_from, first_marks, label_rows}
 use Rattle.parse_outline.specs.Fits.{MarksFit}
 use Rattle.parse_outline.specs.declared.Marks.{Marks}
-use Rattle.parse_outline.specs.declared.Going.{Going}
-use Rattle.parse_outline.specs.declared.Going.TheVariants.{On, Over}
+use Rattle.std.proofs.Common.{Option, Some, None}
 use Rattle.parse_outline.proofs.Cases.{unit_kept}
 
 pub rows_fit : (s : Marks) (k r : ℕ) → s.row ≤ 8195 → r ≡ rows_of k → s.row + r < 4294967296
@@ -47,11 +46,11 @@ module _ (t : List ℕ) (s : Marks) (x : List ℕ) (u : Span) (k c : ℕ) (x' : 
   unfolding mark_step
   on-is = ap₂ (λ (v : Span) (i : ℕ). mark_on t v i (marking s x)) (sym pu) (sym kind-is)
 
-  pub step-over : k ≡ 0 → going Over x' ≡ mark_step t (marking s x)
+  pub step-over : k ≡ 0 → going None x' ≡ mark_step t (marking s x)
   unfolding mark_on
   step-over e = ap (λ (m : Marked). stop m.table) pc ∙ sym (on-is ∙ if_eq-yes _ _ e)
 
-  pub step-on : (y : Marks) → (k ≡ 0 → ⊥) → y ≡ marks_behind u k s c → going (On y) x' ≡ mark_step t (marking s x)
+  pub step-on : (y : Marks) → (k ≡ 0 → ⊥) → y ≡ marks_behind u k s c → going (Some y) x' ≡ mark_step t (marking s x)
   unfolding mark_on
   step-on y e q =
       ap (λ (z : Marks). go (marking z x')) q ∙ ap (λ (m : Marked). go (marking (marks_behind u k s m.count) m.table)) pc ∙ sym (on-is ∙ if_eq-no _ _ e)
@@ -94,22 +93,22 @@ module _ (t : List ℕ) (start : Marks) (x₀ : List ℕ) where
   pub walking-fits : (s : Marks) (x : List ℕ) → Walking t start x₀ s x → MarksFit t x s
   walking-fits s x h = h.fits
 
-  module _ (s : Marks) (x : List ℕ) (g : Going) (x' : List ℕ) (h : Walking t start x₀ s x) (p : going g x' ≡ mark_step t (marking s x)) where
-    more-good : (y : Marks) → g ≡ On y → MarksFit t x' y × (s.at < y.at)
-    more-good y e = subst (StepGood t s) (sym (ap (λ (z : Going). going z x') (sym e) ∙ p)) (step-good t s x h.fits)
+  module _ (s : Marks) (x : List ℕ) (g : Option Marks) (x' : List ℕ) (h : Walking t start x₀ s x) (p : going g x' ≡ mark_step t (marking s x)) where
+    more-good : (y : Marks) → g ≡ Some y → MarksFit t x' y × (s.at < y.at)
+    more-good y e = subst (StepGood t s) (sym (ap (λ (z : Option Marks). going z x') (sym e) ∙ p)) (step-good t s x h.fits)
 
-    pub walking-less : (y : Marks) → g ≡ On y → 4097 - y.at < 4097 - s.at
+    pub walking-less : (y : Marks) → g ≡ Some y → 4097 - y.at < 4097 - s.at
     walking-less y e = let m = more-good y e in omega (arith, m.1, m.0.near)
 
-    pub walking-more : (y : Marks) → g ≡ On y → Walking t start x₀ y x'
+    pub walking-more : (y : Marks) → g ≡ Some y → Walking t start x₀ y x'
     walking-more y e =
         record {
           fits = (more-good y e).0;
-          runs = runs-go _ _ _ _ _ (4097 - s.at) _ h.runs (sym (ap (λ (z : Going). going z x') (sym e) ∙ p)) (omega (arith, walking-less y e));
+          runs = runs-go _ _ _ _ _ (4097 - s.at) _ h.runs (sym (ap (λ (z : Option Marks). going z x') (sym e) ∙ p)) (omega (arith, walking-less y e));
         }
 
-    pub walking-done : g ≡ Over → x' ≡ marks_from t (marking start x₀)
-    walking-done e = runs-stop _ _ _ _ _ _ h.runs (sym (ap (λ (z : Going). going z x') (sym e) ∙ p))
+    pub walking-done : g ≡ None → x' ≡ marks_from t (marking start x₀)
+    walking-done e = runs-stop _ _ _ _ _ _ h.runs (sym (ap (λ (z : Option Marks). going z x') (sym e) ∙ p))
 
 pub ruleset walking = (walking_start, walking-more, walking-done)
 
@@ -117,8 +116,6 @@ pub first_fits : (t x x' : List ℕ) (s : Marks) → length t ≡ 32768 → leng
 first_fits t x x' s a b c e =
     subst (MarksFit t x') (sym e) (record { tokens = a; long = c ∙ b; near = omega arith; few = omega arith; rows = omega arith })
 
-pub rows_are : (t x x' x'' : List ℕ) (s : Marks) → length x ≡ 1024 → x' ≡ cleared_from x 0 → s ≡ first_marks → x'' ≡ marks_from t (marking s x') → x'' ≡ label_rows t
-unfolding label_rows cleared_from
-rows_are t x x' x'' s l e f q =
-    let z : length x - 0 ≡ 1024 = omega arith in
-    q ∙ ap₂ (λ (a : Marks) (b : List ℕ). marks_from t (marking a b)) f (e ∙ ap zeros z)
+pub rows_are : (t x x' x'' : List ℕ) (s : Marks) → length x ≡ 1024 → x' ≡ zeros (length x) → s ≡ first_marks → x'' ≡ marks_from t (marking s x') → x'' ≡ label_rows t
+unfolding label_rows
+rows_are t x x' x'' s l e f q = q ∙ ap₂ (λ (a : Marks) (b : List ℕ). marks_from t (marking a b)) f (e ∙ ap zeros l)

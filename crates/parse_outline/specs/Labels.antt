@@ -1,7 +1,7 @@
 -- Label rows: four words for each label, in source order: its token, its kind, what it names, 0. An imported name is a label too, at its
 -- token; what it names is the mark of the host's entry.
 -- Assumes nothing.
-use Rattle.std.specs.Prelude.{ℕ, zero, suc, ◌+◌, ◌-◌, ◌*◌, List, [], ◌∷◌, ◌++◌, length, take, drop}
+use Rattle.std.specs.Prelude.{ℕ, zero, suc, ◌+◌, ◌-◌, ◌*◌, List, [], ◌∷◌, ◌++◌, length, take, drop, Option, Some, None}
 use Rattle.base_prelude.specs.Choice.{if_lt, if_eq}
 use Rattle.base_prelude.specs.Lists.{zeros}
 use Rattle.base_prelude.specs.Walk.{Step, go, stop, walk}
@@ -18,8 +18,6 @@ use Rattle.parse_lines.specs.declared.Span.{Span}
 use Rattle.parse_units.specs.Places.{import_labels}
 use Rattle.parse_units.specs.Parse.{section_behind}
 use Rattle.parse_outline.specs.declared.Marks.{Marks}
-use Rattle.parse_outline.specs.declared.Going.{Going}
-use Rattle.parse_outline.specs.declared.Going.TheVariants.{On, Over}
 
 -- data, function or place: by the section, and whether the line is a function
 unfoldable pub label_kind : ℕ → ℕ → ℕ
@@ -84,9 +82,9 @@ unfoldable pub mark_step : List ℕ → Marking → Step Marking (List ℕ)
 mark_step t m = mark_on t (unit_at t m.state.at) (line_kind t (unit_at t m.state.at).word) m
 
 -- what one step of the code's loop comes to
-abbrev pub going : Going → List ℕ → Step Marking (List ℕ)
-going (On s) x = go (marking s x)
-going Over x = stop x
+abbrev pub going : Option Marks → List ℕ → Step Marking (List ℕ)
+going (Some s) x = go (marking s x)
+going None x = stop x
 
 unfoldable pub marks_from : List ℕ → Marking → List ℕ
 marks_from t m = walk (mark_step t) [] (suc (length t)) m

@@ -1,3 +1,4 @@
 pub mod Labels
+pub mod Parsed
 pub mod Outline
 pub mod Fits

@@ -1,19 +1,16 @@
 -- The answer of the stage.
 -- Assumes nothing.
-use Rattle.std.specs.Prelude.{ℕ, ◌-◌, List}
-use Rattle.base_prelude.specs.Fault.{key_number, key_place}
+use Rattle.std.specs.Prelude.{ℕ, ◌-◌, List, Ok, Err}
 use Rattle.base_limits.specs.declared.Width.{Width}
 use Rattle.parse_units.specs.Parse.{Result, parse_of}
-use Rattle.parse_units.specs.declared.Verdict.{Verdict}
-use Rattle.parse_units.specs.declared.Verdict.TheVariants as verdict
+use Rattle.parse_units.specs.Verdict.{Verdict}
 use Rattle.parse_outline.specs.Labels.{label_rows}
-use Rattle.parse_outline.specs.declared.Parsed.{Parsed}
-use Rattle.parse_outline.specs.declared.Parsed.TheVariants.{Accepted, Refused}
+use Rattle.parse_outline.specs.Parsed.{Parsed, accepted, refusal_of}
 
 -- statements and labels, or 01's number and place
 unfoldable pub answer_of : Verdict → Parsed
-answer_of (verdict.Accepted count labels) = Accepted (count - 1) labels
-answer_of (verdict.Refused k) = Refused (key_number k) (key_place k)
+answer_of (Ok x) = accepted (x.count - 1) x.labels
+answer_of (Err k) = Err (refusal_of k)
 
 -- the answer, the statement rows and the label rows
 pub record Outlined : Type 0 where

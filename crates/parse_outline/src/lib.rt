@@ -8,35 +8,23 @@ ghost use Rattle.parse_units.specs.Outline.{outline_words};
 ghost use Rattle.parse_units.specs.Parse.{parse_result, parse_of};
 ghost use Rattle.parse_outline.specs.Labels.{label_kind, label_number, put_label, marked, mark_token, mark_from, mark_before, mark_import, mark_unit, marking, marks_behind, mark_step, marks_from, label_rows, first_marks, going};
 ghost use Rattle.parse_outline.specs.Fits.{MarksFit};
+ghost use Rattle.parse_outline.specs.Parsed.{refusal_of};
 ghost use Rattle.parse_outline.specs.Outline.{answer_of, parsed, outline_of};
 
-use base_limits::{Machine, Width};
+use base_limits::{Machine, Refusal, Width};
 use lang_kinds::{Ground, Kind, Token};
 use parse_lines::Span;
-use parse_units::Verdict;
+pub use parse_units::Outline;
+use parse_units::Totals;
 use prog_tables::{LabelKind, OutlineLabel};
 
 const MOST_LABELS: u32 = Machine::LABELS as u32;
 
-// Sizes of the outline's tables, in words.
-#[derive(Drop)]
-pub struct Outline {}
-
-impl Outline {
-    pub const ROW: usize = 8;
-
-    pub const WORDS: usize = (Machine::STATEMENTS + 1) * 8;
-
-    pub const LABEL_ROW: usize = 4;
-
-    pub const LABEL_WORDS: usize = Machine::LABELS * 4;
-}
-
-// The numbers of statements and labels, or a refusal's number and place.
-#[derive(Drop)]
-pub enum Parsed {
-    Accepted { statements: u32, labels: u32 },
-    Refused { number: u32, place: usize },
+// The numbers of statement rows and of label rows of an outline.
+#[derive(Clone, Copy)]
+pub struct RowCounts {
+    pub statements: u32,
+    pub labels: u32,
 }
 
 // Between two units: the next token, the next row, the section, the labels so far.
@@ -113,10 +101,8 @@ fn mark_from(
     ensures { marked result x.new ≡ mark_from (end - first) t.now first kind number (marked start x.old) }
 {
     let mut c = start;
-    let mut i = first;
-    while i < end {
+    for i in first..end {
         c = mark_token(t, x, i, kind, number, c);
-        i += 1;
     }
     c
 }
@@ -160,18 +146,12 @@ fn marks_behind(u: Span, k: u32, s: Marks, labels: u32) -> Marks
         at: u.next,
         row: s.row + lang_kinds::rows_of(k),
         section: parse_units::section_behind(k, s.section),
-        labels: labels,
+        labels,
     }
 }
 
-// What one unit leads to.
-#[derive(Drop)]
-pub enum Going {
-    On(Marks),
-    Over,
-}
-
-fn mark_step(t: &[u32], x: &mut [u32], s: Marks) -> Going
+// Marks one unit: where the next one starts, or nothing behind the last.
+fn mark_step(t: &[u32], x: &mut [u32], s: Marks) -> Option<Marks>
     requires { MarksFit t.now x.old s }
     ensures { going result x.new ≡ mark_step t.now (marking s x.old) }
 {
@@ -179,9 +159,9 @@ fn mark_step(t: &[u32], x: &mut [u32], s: Marks) -> Going
     let k = parse_lines::line_kind(t, u.word);
     let c = mark_unit(t, x, u, k, s);
     if k == Kind::EDGE {
-        return Going::Over;
+        return None;
     }
-    Going::On(marks_behind(u, k, s, c))
+    Some(marks_behind(u, k, s, c))
 }
 
 fn marks_from(t: &[u32], x: &mut [u32], start: Marks)
@@ -189,15 +169,8 @@ fn marks_from(t: &[u32], x: &mut [u32], start: Marks)
     ensures { x.new ≡ marks_from t.now (marking start x.old) }
 {
     let mut s = start;
-    loop {
-        match mark_step(t, x, s) {
-            Going::On(y) => {
-                s = y;
-            }
-            Going::Over => {
-                return;
-            }
-        }
+    while let Some(y) = mark_step(t, x, s) {
+        s = y;
     }
 }
 
@@ -217,35 +190,39 @@ fn label_rows(t: &[u32], x: &mut [u32])
     requires { (length t.now ≡ limits.token_words) × (length x.old ≡ label_words) }
     ensures { x.new ≡ label_rows t.now }
 {
-    base_prelude::clear_from(x, 0);
+    x.fill(0);
     marks_from(t, x, first_marks());
 }
 
-fn less_one(count: u32) -> u32
-    ensures { result ≡ count - 1 }
+// The refusal that a key stands for.
+pub fn refusal_of(key: u64) -> Refusal
+    ensures { result ≡ refusal_of key }
 {
-    if count < 1 {
-        return 0;
+    Refusal {
+        number: (key % 64) as u32,
+        place: (key / 64) as usize,
     }
-    count - 1
 }
 
-fn answer_of(v: Verdict) -> Parsed
+fn answer_of(v: Result<Totals, u64>) -> Result<RowCounts, Refusal>
     ensures { result ≡ answer_of v }
 {
     match v {
-        Verdict::Accepted { count, labels } => Parsed::Accepted {
-            statements: less_one(count),
-            labels: labels,
-        },
-        Verdict::Refused(k) => Parsed::Refused {
-            number: (k % 64) as u32,
-            place: (k / 64) as usize,
-        },
+        Ok(x) => Ok(RowCounts {
+            statements: x.count.saturating_sub(1),
+            labels: x.labels,
+        }),
+        Err(key) => Err(refusal_of(key)),
     }
 }
 
-fn parse_all(w: Width, n: u32, t: &[u32], rows: &mut [u32], labels: &mut [u32]) -> Parsed
+fn parse_all(
+    w: Width,
+    n: u32,
+    t: &[u32],
+    rows: &mut [u32],
+    labels: &mut [u32],
+) -> Result<RowCounts, Refusal>
     requires { (length t.now ≡ limits.token_words) × (length rows.old ≡ outline_words) × (length labels.old ≡ label_words) }
     ensures { parsed result rows.new labels.new ≡ outline_of w t.now n }
 {
@@ -261,7 +238,7 @@ pub fn parse(
     t: &[u32; Machine::TOKEN_WORDS],
     rows: &mut [u32; Outline::WORDS],
     labels: &mut [u32; Outline::LABEL_WORDS],
-) -> Parsed
+) -> Result<RowCounts, Refusal>
     ensures { parsed result rows.new labels.new ≡ outline_of w t.now n }
 {
     parse_all(w, n, t, rows, labels)

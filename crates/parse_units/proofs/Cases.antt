@@ -154,29 +154,15 @@ module _ (t : List ℕ) (n : ℕ) (u : Span) where
     unfolding room_rule
     room-good count a b p q h = rw (← p, ← q) (search tests)
 
-    pub locals-good : (locals : ℕ) → k ≡ 5 → locals < 64 → none ≡ locals_rule t n u k locals
-    unfolding locals_rule
-    locals-good locals e h = search tests
+    module _ (adds count limit : ℕ) where
+      pub most-good : k ≡ adds → count < limit → none ≡ if_eq k adds (if_lt count limit none (key_at t n u.word 14)) none
+      most-good e h = search tests
 
-    pub locals-many : (locals r : ℕ) → k ≡ 5 → 64 ≤ locals → r ≡ key_at t n u.word 14 → r ≡ locals_rule t n u k locals
-    unfolding locals_rule
-    locals-many locals r e h q = rw (← q) (search tests)
+      pub most-many : (r : ℕ) → k ≡ adds → limit ≤ count → r ≡ key_at t n u.word 14 → r ≡ if_eq k adds (if_lt count limit none (key_at t n u.word 14)) none
+      most-many r e h q = rw (← q) (search tests)
 
-    pub locals-none : (locals : ℕ) → (k ≡ 5 → ⊥) → none ≡ locals_rule t n u k locals
-    unfolding locals_rule
-    locals-none locals e = search tests
-
-    pub depth-good : (depth : ℕ) → k ≡ 3 → depth < 16 → none ≡ depth_rule t n u k depth
-    unfolding depth_rule
-    depth-good depth e h = search tests
-
-    pub depth-many : (depth r : ℕ) → k ≡ 3 → 16 ≤ depth → r ≡ key_at t n u.word 14 → r ≡ depth_rule t n u k depth
-    unfolding depth_rule
-    depth-many depth r e h q = rw (← q) (search tests)
-
-    pub depth-none : (depth : ℕ) → (k ≡ 3 → ⊥) → none ≡ depth_rule t n u k depth
-    unfolding depth_rule
-    depth-none depth e = search tests
+      pub most-none : (k ≡ adds → ⊥) → none ≡ if_eq k adds (if_lt count limit none (key_at t n u.word 14)) none
+      most-none e = search tests
 
 pub ruleset labelling = (label-none, label-good, label-bad)
 
@@ -184,7 +170,7 @@ pub ruleset importing = (import-other, import-nameless, import-unlisted, import-
 
 pub ruleset placing = (place-low, place-good, place-high)
 
-pub ruleset limiting = (room-full, room-good, locals-good, locals-many, locals-none, depth-good, depth-many, depth-none)
+pub ruleset limiting = (room-full, room-good, most-good, most-many, most-none)
 
 module _ (m : ℕ) (t : List ℕ) (u : Span) (k : ℕ) (s : State) (rows : List ℕ) where
   pub grow-none : m ≡ 0 → world s rows ≡ grow_by m t u k (world s rows)
@@ -245,10 +231,10 @@ module _ (w : Width) (t : List ℕ) (n : ℕ) (u : Span) (k g : ℕ) (s : State)
       (e11 ∙ ap (λ (j : ℕ). min j none) (e12 ∙ ap (λ (y : Labelled). import_rule t n u k y.count) e4))))))
 
 module _ (t : List ℕ) (n : ℕ) (u : Span) (k : ℕ) (s : State) where
-  pub limit-least : (r room d loc c dep b tok a l : ℕ) → r ≡ min room d → room ≡ room_rule t n u k s.count → d ≡ min loc c → loc ≡ locals_rule t n u k s.locals
-      → c ≡ min dep b → dep ≡ depth_rule t n u k s.depth → b ≡ min tok a → tok ≡ tokens_rule t n u k → a ≡ min l none → l ≡ list_rule t n u k
+  pub limit-least : (r room d loc c dep b tok a l : ℕ) → r ≡ min room d → room ≡ room_rule t n u k s.count → d ≡ min loc c → loc ≡ if_eq k 5 (if_lt s.locals 64 none (key_at t n u.word 14)) none
+      → c ≡ min dep b → dep ≡ if_eq k 3 (if_lt s.depth 16 none (key_at t n u.word 14)) none → b ≡ min tok a → tok ≡ tokens_rule t n u k → a ≡ min l none → l ≡ list_rule t n u k
       → r ≡ least_of (limit_faults t n u k s)
-  unfolding least_of limit_faults
+  unfolding least_of limit_faults locals_rule depth_rule
   limit-least r room d loc c dep b tok a l e1 e2 e3 e4 e5 e6 e7 e8 e9 e10 =
       e1 ∙ ap₂ min e2 (e3 ∙ ap₂ min e4 (e5 ∙ ap₂ min e6 (e7 ∙ ap₂ min e8 (e9 ∙ ap (λ (i : ℕ). min i none) e10))))
 

@@ -8,7 +8,7 @@ use native.Mathlib.Omega.{arith}
 use lib.ListN.{length, length-set}
 use Rattle.base_prelude.specs.Choice.{if_lt, if_eq, if_true}
 use Rattle.base_prelude.specs.Fault.{none}
-use Rattle.base_prelude.specs.Lists.{zeros, cleared_from}
+use Rattle.base_prelude.specs.Lists.{zeros}
 use Rattle.base_prelude.specs.Walk.{Step, go, stop, walk}
 use Rattle.base_prelude.proofs.Choice.{tests, either, either-eq, if_lt-yes, if_lt-no, if_eq-yes, if_eq-no}
 use Rattle.base_prelude.proofs.Walk.{Runs, runs-start, runs-go, runs-stop}
@@ -24,10 +24,9 @@ use Rattle.parse_units.specs.Parse.{World, world, put_state, put_kind, grow_two,
 use Rattle.parse_units.specs.Fits.{StepFits, UnitStepFits}
 use Rattle.parse_units.specs.declared.Row.{Row}
 use Rattle.parse_units.specs.declared.State.{State}
-use Rattle.parse_units.specs.declared.UnitStep.{UnitStep}
-use Rattle.parse_units.specs.declared.UnitStep.TheVariants.{More, Done}
-use Rattle.parse_units.specs.declared.Verdict.{Verdict}
-use Rattle.parse_units.specs.declared.Verdict.TheVariants.{Accepted, Refused}
+use Rattle.std.specs.declared.ops.ControlFlow.{ControlFlow}
+use Rattle.std.specs.declared.ops.ControlFlow.TheVariants.{Continue, Break}
+use Rattle.parse_units.specs.Verdict.{Verdict, accepted, refused}
 use Rattle.parse_units.proofs.Cases.{row_put}
 use Rattle.parse_units.proofs.Bounds.{unit-order, unit-near, unit-next, line-some, labels-count, import-few, clean-room, clean-lets, clean-deep, clean_line, unit-clean}
 
@@ -43,15 +42,15 @@ module _ (w : Width) (t : List ℕ) (n : ℕ) (s : State) (rows : List ℕ) (u :
   kind-is : k ≡ line_kind t (unit_at t s.at).word
   kind-is = pk ∙ ap (λ (v : Span). line_kind t v.word) pu
 
-  pub unit-step-refused : f < none → stepped (Done (Refused f)) rows ≡ unit_step w t n (world s rows)
+  pub unit-step-refused : f < none → stepped (Break (refused f)) rows ≡ unit_step w t n (world s rows)
   unfolding unit_step unit_step_on
   unit-step-refused h = rw (← fault-is) (sym (if_lt-yes _ _ h))
 
-  pub unit-step-accepted : none ≤ f → k ≡ 0 → stepped (Done (Accepted s.count s.labels)) rows ≡ unit_step w t n (world s rows)
+  pub unit-step-accepted : none ≤ f → k ≡ 0 → stepped (Break (accepted s.count s.labels)) rows ≡ unit_step w t n (world s rows)
   unfolding unit_step unit_step_on
   unit-step-accepted h e = rw (← fault-is, ← kind-is) (sym (if_lt-no _ _ h ∙ if_eq-yes _ _ e))
 
-  pub unit-step-more : (x : State) (rows' : List ℕ) → none ≤ f → (k ≡ 0 → ⊥) → world x rows' ≡ advance t n u k (world s rows) → stepped (More x) rows' ≡ unit_step w t n (world s rows)
+  pub unit-step-more : (x : State) (rows' : List ℕ) → none ≤ f → (k ≡ 0 → ⊥) → world x rows' ≡ advance t n u k (world s rows) → stepped (Continue x) rows' ≡ unit_step w t n (world s rows)
   unfolding unit_step unit_step_on
   unit-step-more x rows' h e q =
       ap go (q ∙ ap (λ (i : ℕ). advance t n u i (world s rows)) kind-is ∙ ap (λ (v : Span). advance t n v (line_kind t (unit_at t s.at).word) (world s rows)) pu)
@@ -147,24 +146,24 @@ module _ (w : Width) (t : List ℕ) (n : ℕ) (s : State) (rows : List ℕ) (h :
 pub record Parsing (w : Width) (t : List ℕ) (n : ℕ) (start : State) (rows₀ : List ℕ) (s : State) (rows : List ℕ) : Type 0 where
   pub fits : UnitStepFits t rows s
   pub labels : s.labels ≤ s.at
-  pub runs : Runs (unit_step w t n) (parse_result (Refused none) []) (parse_from w t n (world start rows₀)) (world s rows) (suc (4097 - s.at))
+  pub runs : Runs (unit_step w t n) (parse_result (refused none) []) (parse_from w t n (world start rows₀)) (world s rows) (suc (4097 - s.at))
 
 module _ (w : Width) (t : List ℕ) (n : ℕ) (start : State) (rows₀ : List ℕ) where
   pub parsing-start : UnitStepFits t rows₀ start → start.labels ≤ start.at → Parsing w t n start rows₀ start rows₀
   unfolding parse_from
   parsing-start h l = record { fits = h; labels = l; runs = runs-start _ _ _ _ _ (omega (arith, h.tokens)) }
 
-  module _ (s : State) (rows : List ℕ) (x : UnitStep) (rows' : List ℕ) (h : Parsing w t n start rows₀ s rows) (p : stepped x rows' ≡ unit_step w t n (world s rows)) where
-    more-is : (y : State) → x ≡ More y → go (world y rows') ≡ unit_step w t n (world s rows)
-    more-is y e = ap (λ (z : UnitStep). stepped z rows') (sym e) ∙ p
+  module _ (s : State) (rows : List ℕ) (x : ControlFlow Verdict State) (rows' : List ℕ) (h : Parsing w t n start rows₀ s rows) (p : stepped x rows' ≡ unit_step w t n (world s rows)) where
+    more-is : (y : State) → x ≡ Continue y → go (world y rows') ≡ unit_step w t n (world s rows)
+    more-is y e = ap (λ (z : ControlFlow Verdict State). stepped z rows') (sym e) ∙ p
 
-    more-good : (y : State) → x ≡ More y → (UnitStepFits t rows' y × (y.labels ≤ y.at)) × (s.at < y.at)
+    more-good : (y : State) → x ≡ Continue y → (UnitStepFits t rows' y × (y.labels ≤ y.at)) × (s.at < y.at)
     more-good y e = subst (UnitStepGood t s) (sym (more-is y e)) (unit-step-good w t n s rows h.fits h.labels)
 
-    pub parsing-less : (y : State) → x ≡ More y → 4097 - y.at < 4097 - s.at
+    pub parsing-less : (y : State) → x ≡ Continue y → 4097 - y.at < 4097 - s.at
     parsing-less y e = let g = more-good y e in omega (arith, g.1, g.0.0.near)
 
-    pub parsing-more : (y : State) → x ≡ More y → Parsing w t n start rows₀ y rows'
+    pub parsing-more : (y : State) → x ≡ Continue y → Parsing w t n start rows₀ y rows'
     parsing-more y e =
         let g = more-good y e in
         record {
@@ -173,8 +172,8 @@ module _ (w : Width) (t : List ℕ) (n : ℕ) (start : State) (rows₀ : List �
           runs = runs-go _ _ _ _ _ (4097 - s.at) _ h.runs (sym (more-is y e)) (omega (arith, parsing-less y e));
         }
 
-    pub parsing-done : (v : Verdict) → x ≡ Done v → parse_result v rows' ≡ parse_from w t n (world start rows₀)
-    parsing-done v e = runs-stop _ _ _ _ _ _ h.runs (sym (ap (λ (z : UnitStep). stepped z rows') (sym e) ∙ p))
+    pub parsing-done : (v : Verdict) → x ≡ Break v → parse_result v rows' ≡ parse_from w t n (world start rows₀)
+    parsing-done v e = runs-stop _ _ _ _ _ _ h.runs (sym (ap (λ (z : ControlFlow Verdict State). stepped z rows') (sym e) ∙ p))
 
   pub parsing-fits : (s : State) (rows : List ℕ) → Parsing w t n start rows₀ s rows → UnitStepFits t rows s
   parsing-fits s rows h = h.fits
@@ -189,12 +188,8 @@ start_fits t rows rows' s a b c e =
 pub start-labels : (s : State) → s ≡ begin → s.labels ≤ s.at
 start-labels s e = subst (λ (x : State). x.labels ≤ x.at) (sym e) (omega arith)
 
-cleared-is : (rows : List ℕ) → length rows ≡ 8200 → cleared_from rows 0 ≡ zeros 8200
-unfolding cleared_from
-cleared-is rows h = let z : length rows - 0 ≡ 8200 = omega arith in ap zeros z
-
-pub parse-is : (w : Width) (t : List ℕ) (n : ℕ) (rows rows' rows'' : List ℕ) (s : State) (r : Verdict) → length rows ≡ 8200 → rows' ≡ cleared_from rows 0 → s ≡ begin
+pub parse-is : (w : Width) (t : List ℕ) (n : ℕ) (rows rows' rows'' : List ℕ) (s : State) (r : Verdict) → length rows ≡ 8200 → rows' ≡ zeros (length rows) → s ≡ begin
     → parse_result r rows'' ≡ parse_from w t n (world s rows') → parse_result r rows'' ≡ parse_of w t n
 unfolding parse_of
 parse-is w t n rows rows' rows'' s r h e f q =
-    q ∙ ap₂ (λ (x : State) (y : List ℕ). parse_from w t n (world x y)) f (e ∙ cleared-is rows h)
+    q ∙ ap₂ (λ (x : State) (y : List ℕ). parse_from w t n (world x y)) f (e ∙ ap zeros h)

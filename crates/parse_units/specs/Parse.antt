@@ -19,10 +19,9 @@ use Rattle.parse_units.specs.Outline.{outline_words, row_at, put_row, row_in, be
 use Rattle.parse_units.specs.Places.{ground_in, line_on, import_labels, unit_fault}
 use Rattle.parse_units.specs.declared.Row.{Row}
 use Rattle.parse_units.specs.declared.State.{State}
-use Rattle.parse_units.specs.declared.UnitStep.{UnitStep}
-use Rattle.parse_units.specs.declared.UnitStep.TheVariants.{More, Done}
-use Rattle.parse_units.specs.declared.Verdict.{Verdict}
-use Rattle.parse_units.specs.declared.Verdict.TheVariants.{Accepted, Refused}
+use Rattle.std.specs.declared.ops.ControlFlow.{ControlFlow}
+use Rattle.std.specs.declared.ops.ControlFlow.TheVariants.{Continue, Break}
+use Rattle.parse_units.specs.Verdict.{Verdict, accepted, refused}
 
 -- the state between two units, and the outline so far
 pub record World : Type 0 where
@@ -100,9 +99,9 @@ abbrev pub parse_result : Verdict → List ℕ → Result
 parse_result v t = record { verdict = v; outline = t }
 
 -- what one step of the code's loop comes to
-abbrev pub stepped : UnitStep → List ℕ → Step World Result
-stepped (More s) t = go (world s t)
-stepped (Done v) t = stop (parse_result v t)
+abbrev pub stepped : ControlFlow Verdict State → List ℕ → Step World Result
+stepped (Continue s) t = go (world s t)
+stepped (Break v) t = stop (parse_result v t)
 
 unfoldable pub open_row : World → Row
 open_row x = row_at x.table x.state.top
@@ -114,8 +113,8 @@ fault_in w t n u x =
 -- the unit at the state's token: refused, the end, or on to the next
 unfoldable pub unit_step_on : Width → List ℕ → ℕ → Span → World → Step World Result
 unit_step_on w t n u x =
-    if_lt (fault_in w t n u x) none (stop (parse_result (Refused (fault_in w t n u x)) x.table))
-    (if_eq (line_kind t u.word) kind.edge (stop (parse_result (Accepted x.state.count x.state.labels) x.table))
+    if_lt (fault_in w t n u x) none (stop (parse_result (refused (fault_in w t n u x)) x.table))
+    (if_eq (line_kind t u.word) kind.edge (stop (parse_result (accepted x.state.count x.state.labels) x.table))
     (go (advance t n u (line_kind t u.word) x)))
 
 unfoldable pub unit_step : Width → List ℕ → ℕ → World → Step World Result
@@ -126,7 +125,7 @@ abbrev pub begin : State
 begin = record { at = 0; count = 1; top = 0; section = ground.before_sections; locals = 0; depth = 0; labels = 0 }
 
 unfoldable pub parse_from : Width → List ℕ → ℕ → World → Result
-parse_from w t n x = walk (unit_step w t n) (parse_result (Refused none) []) (suc (length t)) x
+parse_from w t n x = walk (unit_step w t n) (parse_result (refused none) []) (suc (length t)) x
 
 -- the tokens t of a source of n bytes
 unfoldable pub parse_of : Width → List ℕ → ℕ → Result

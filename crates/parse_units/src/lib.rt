@@ -3,15 +3,15 @@
 
 ghost use Rattle.std.specs.Prelude.{◌≡◌, ◌+◌, ◌*◌, ◌-◌, ◌≤◌, ◌<◌, length, true, false};
 ghost use Rattle.base_limits.specs.Limits as limits;
-ghost use Rattle.base_prelude.specs.Choice.{if_eq, if_true};
+ghost use Rattle.base_prelude.specs.Choice.{if_eq, if_lt, if_true};
 ghost use Rattle.lang_kinds.specs.Nesting.{is_frame, leaves};
 ghost use Rattle.base_prelude.specs.Fault.{none};
 ghost use Rattle.parse_units.specs.OutlineRow.{outline_row_of};
 ghost use Rattle.parse_units.specs.Outline.{outline_row, outline_words, row_at, put_row, row_in, behind};
-ghost use Rattle.parse_units.specs.Places.{ground_in, line_on, data_words, function_words, statement_words, may_label, label_rule, place_rule, import_labels, import_rule, room_rule, locals_rule, depth_rule, line_faults, limit_faults, unit_fault};
+ghost use Rattle.parse_units.specs.Places.{ground_in, line_on, data_words, function_words, statement_words, may_label, label_rule, place_rule, import_labels, import_rule, room_rule, line_faults, limit_faults, unit_fault};
 ghost use Rattle.base_prelude.specs.Fault.{least_of};
 ghost use Rattle.lang_kinds.specs.Nesting.{rows_of};
-ghost use Rattle.parse_lines.specs.Tokens.{token_word};
+ghost use Rattle.parse_lines.specs.Tokens.{token_word, key_at};
 ghost use Rattle.parse_lines.specs.Lines.{line_kind};
 ghost use Rattle.parse_shapes.specs.Shapes.{operand_count};
 ghost use Rattle.base_prelude.specs.Lists.{zeros, is_among};
@@ -23,6 +23,7 @@ use base_limits::{Machine, Width};
 use lang_kinds::{Ground, Kind, Token};
 use lang_words::Word;
 use parse_lines::Span;
+use std::ops::ControlFlow;
 
 // The edge, and a row for each statement.
 const FREE_ROWS: u32 = Machine::STATEMENTS as u32 + 1;
@@ -117,18 +118,11 @@ pub struct State {
     pub labels: u32,
 }
 
-// The first free row and the number of labels, or the key of the least fault.
-#[derive(Drop)]
-pub enum Verdict {
-    Accepted { count: u32, labels: u32 },
-    Refused(u64),
-}
-
-// What one unit comes to: the next state, or the verdict.
-#[derive(Drop)]
-pub enum UnitStep {
-    More(State),
-    Done(Verdict),
+// The first free row and the number of labels of an outline.
+#[derive(Clone, Copy)]
+pub struct Totals {
+    pub count: u32,
+    pub labels: u32,
 }
 
 fn row_at(rows: &[u32], n: u32) -> Row
@@ -205,10 +199,10 @@ fn row_in(
         func: own_or(k, n, o.func),
         scope: own_or(k, n, frame_of(top, o)),
         up: up_of(k, top, o),
-        token: token,
-        next: next,
-        before: before,
-        operands: operands,
+        token,
+        next,
+        before,
+        operands,
     }
 }
 
@@ -359,44 +353,22 @@ fn import_rule(t: &[u32], n: u32, u: Span, k: u32, c: u32) -> u64
     parse_rules::label_limit(t, n, u.word + 1, c)
 }
 
-fn rows_left(count: u32) -> u32
-    ensures { result ≡ limits.statements + 1 - count }
-{
-    if count < FREE_ROWS {
-        return FREE_ROWS - count;
-    }
-    0
-}
-
 // 14: statements.
 fn room_rule(t: &[u32], n: u32, u: Span, k: u32, count: u32) -> u64
     ensures { result ≡ room_rule t.now n u k count }
 {
-    if rows_left(count) < lang_kinds::rows_of(k) {
+    if FREE_ROWS.saturating_sub(count) < lang_kinds::rows_of(k) {
         return parse_lines::key_at(t, n, u.word, 14);
     }
     1099511627776
 }
 
-// 14: locals in scope.
-fn locals_rule(t: &[u32], n: u32, u: Span, k: u32, locals: u32) -> u64
-    ensures { result ≡ locals_rule t.now n u k locals }
+// 14: a line of the kind that adds one to a count, where the count has reached its limit.
+fn most_rule(t: &[u32], n: u32, u: Span, k: u32, adds: u32, count: u32, limit: u32) -> u64
+    ensures { result ≡ if_eq k adds (if_lt count limit none (key_at t.now n u.word 14)) none }
 {
-    if k == Kind::LET {
-        if locals < Machine::LOCALS {
-            return 1099511627776;
-        }
-        return parse_lines::key_at(t, n, u.word, 14);
-    }
-    1099511627776
-}
-
-// 14: nested blocks.
-fn depth_rule(t: &[u32], n: u32, u: Span, k: u32, depth: u32) -> u64
-    ensures { result ≡ depth_rule t.now n u k depth }
-{
-    if k == Kind::BLOCK {
-        if depth < Machine::BLOCK_DEPTH {
+    if k == adds {
+        if count < limit {
             return 1099511627776;
         }
         return parse_lines::key_at(t, n, u.word, 14);
@@ -423,8 +395,10 @@ fn limit_faults(t: &[u32], n: u32, u: Span, k: u32, s: State) -> u64
 {
     let a = base_prelude::least(parse_rules::list_rule(t, n, u, k), 1099511627776);
     let b = base_prelude::least(parse_rules::tokens_rule(t, n, u, k), a);
-    let c = base_prelude::least(depth_rule(t, n, u, k, s.depth), b);
-    let d = base_prelude::least(locals_rule(t, n, u, k, s.locals), c);
+    let depth = most_rule(t, n, u, k, Kind::BLOCK, s.depth, Machine::BLOCK_DEPTH);
+    let locals = most_rule(t, n, u, k, Kind::LET, s.locals, Machine::LOCALS);
+    let c = base_prelude::least(depth, b);
+    let d = base_prelude::least(locals, c);
     base_prelude::least(room_rule(t, n, u, k, s.count), d)
 }
 
@@ -444,13 +418,9 @@ fn put_state(s: State, n: u32, r: Row) -> State
     ensures { result ≡ put_state s n r }
 {
     State {
-        at: s.at,
         count: n + 1,
         top: open_behind(n, r),
-        section: s.section,
-        locals: s.locals,
-        depth: s.depth,
-        labels: s.labels,
+        ..s
     }
 }
 
@@ -504,15 +474,6 @@ fn locals_behind(k: u32, operands: u32, before: u32, locals: u32) -> u32
     locals
 }
 
-fn less_one(depth: u32) -> u32
-    ensures { result ≡ depth - 1 }
-{
-    if depth < 1 {
-        return 0;
-    }
-    depth - 1
-}
-
 fn depth_behind(k: u32, depth: u32) -> u32
     requires { k ≡ kind.block → depth < limits.block_depth }
     ensures { result ≡ depth_behind k depth }
@@ -524,7 +485,7 @@ fn depth_behind(k: u32, depth: u32) -> u32
         return depth + 1;
     }
     if k == Kind::END_BLOCK {
-        return less_one(depth);
+        return depth.saturating_sub(1);
     }
     depth
 }
@@ -555,12 +516,11 @@ fn state_behind(t: &[u32], n: u32, u: Span, k: u32, o: Row, s: State) -> State
     let x = parse_rules::labels_rule(t, n, u, s.labels);
     State {
         at: u.next,
-        count: s.count,
-        top: s.top,
         section: section_behind(k, s.section),
         locals: locals_behind(k, parse_shapes::operand_count(u), o.before, s.locals),
         depth: depth_behind(k, s.depth),
         labels: x.count + import_labels(t, u, k),
+        ..s
     }
 }
 
@@ -568,13 +528,9 @@ fn join_state(s: State, r: State) -> State
     ensures { result ≡ join_state s r }
 {
     State {
-        at: s.at,
         count: r.count,
         top: r.top,
-        section: s.section,
-        locals: s.locals,
-        depth: s.depth,
-        labels: s.labels,
+        ..s
     }
 }
 
@@ -589,7 +545,13 @@ fn step_on(t: &[u32], n: u32, rows: &mut [u32], u: Span, k: u32, s: State) -> St
     join_state(b, g)
 }
 
-fn step_unit(w: Width, t: &[u32], n: u32, rows: &mut [u32], s: State) -> UnitStep
+fn step_unit(
+    w: Width,
+    t: &[u32],
+    n: u32,
+    rows: &mut [u32],
+    s: State,
+) -> ControlFlow<Result<Totals, u64>, State>
     requires { UnitStepFits t.now rows.old s }
     ensures { stepped result rows.new ≡ unit_step w t.now n (world s rows.old) }
 {
@@ -599,28 +561,28 @@ fn step_unit(w: Width, t: &[u32], n: u32, rows: &mut [u32], s: State) -> UnitSte
     let g = ground_in(s, o);
     let f = unit_fault(w, t, n, u, line_on(g, k), g, s);
     if f < 1099511627776 {
-        return UnitStep::Done(Verdict::Refused(f));
+        return ControlFlow::Break(Err(f));
     }
     if k == Kind::EDGE {
-        return UnitStep::Done(Verdict::Accepted {
+        return ControlFlow::Break(Ok(Totals {
             count: s.count,
             labels: s.labels,
-        });
+        }));
     }
-    UnitStep::More(step_on(t, n, rows, u, k, s))
+    ControlFlow::Continue(step_on(t, n, rows, u, k, s))
 }
 
-fn parse_from(w: Width, t: &[u32], n: u32, rows: &mut [u32], start: State) -> Verdict
+fn parse_from(w: Width, t: &[u32], n: u32, rows: &mut [u32], start: State) -> Result<Totals, u64>
     requires { UnitStepFits t.now rows.old start × (start.labels ≤ start.at) }
     ensures { parse_result result rows.new ≡ parse_from w t.now n (world start rows.old) }
 {
     let mut s = start;
     loop {
         match step_unit(w, t, n, rows, s) {
-            UnitStep::More(x) => {
+            ControlFlow::Continue(x) => {
                 s = x;
             }
-            UnitStep::Done(v) => {
+            ControlFlow::Break(v) => {
                 return v;
             }
         }
@@ -641,11 +603,11 @@ fn start_state() -> State
     }
 }
 
-// The outline of the tokens t of a source of n bytes; the rows' words are cleared first.
-pub fn parse_rows(w: Width, t: &[u32], n: u32, rows: &mut [u32]) -> Verdict
+// The outline of the tokens t of a source of n bytes, or the key of the least fault; the rows' words are cleared first.
+pub fn parse_rows(w: Width, t: &[u32], n: u32, rows: &mut [u32]) -> Result<Totals, u64>
     requires { (length t.now ≡ limits.token_words) × (length rows.old ≡ outline_words) }
     ensures { parse_result result rows.new ≡ parse_of w t.now n }
 {
-    base_prelude::clear_from(rows, 0);
+    rows.fill(0);
     parse_from(w, t, n, rows, start_state())
 }

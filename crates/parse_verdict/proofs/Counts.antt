@@ -23,13 +23,13 @@ use Rattle.parse_units.specs.Places.{ground_in, import_labels, import_rule, line
 use Rattle.parse_units.specs.Parse.{World, world, Result, parse_result, begin, state_behind, join_state, advance, open_row, fault_in, unit_step_on, unit_step, parse_from, parse_of}
 use Rattle.parse_units.specs.Fits.{UnitStepFits}
 use Rattle.parse_units.specs.declared.State.{State}
-use Rattle.parse_units.specs.declared.Verdict.{Verdict}
-use Rattle.parse_units.specs.declared.Verdict.TheVariants.{Accepted, Refused}
+use Rattle.std.proofs.Common.{Ok, Err}
+use Rattle.parse_units.specs.Verdict.{Verdict, refused}
 use Rattle.parse_units.proofs.Bounds.{import-few, import-clean, unit-clean}
 use Rattle.parse_units.proofs.UnitSteps.{UnitStepGood, unit-step-good}
 use Rattle.parse_outline.specs.Outline.{answer_of, outline_of}
-use Rattle.parse_outline.specs.declared.Parsed.{Parsed}
-use Rattle.parse_outline.specs.declared.Parsed.TheVariants as answer
+use Rattle.parse_outline.specs.Parsed.{Parsed}
+use Rattle.parse_outline.specs.Parsed as answer
 
 -- labels of a unit without a fault
 limit-clean : (t : List ℕ) (n i c : ℕ) → none ≤ label_limit t n i c → c < 256
@@ -88,8 +88,8 @@ Counted t x = UnitStepFits t x.table x.state × (x.state.labels ≤ x.state.at) 
 
 -- an answer
 abbrev Few : Verdict → Type 0
-Few (Accepted count labels) = (count ≤ 1025) × (labels ≤ 256)
-Few (Refused k) = Unit {0}
+Few (Ok x) = (x.count ≤ 1025) × (x.labels ≤ 256)
+Few (Err k) = Unit {0}
 
 abbrev FewLabels : Step World Result → Type 0
 FewLabels (go x) = x.state.labels ≤ 256
@@ -130,22 +130,22 @@ begin-counted t e = (
 parse-few : (w : Width) (t : List ℕ) (n : ℕ) → length t ≡ 32768 → Few (parse_of w t n).verdict
 unfolding parse_of parse_from
 parse-few w t n e =
-    walk_kept (Counted t) (λ (r : Result). Few r.verdict) (unit_step w t n) (parse_result (Refused none) []) tt (unit-step-counted w t n)
+    walk_kept (Counted t) (λ (r : Result). Few r.verdict) (unit_step w t n) (parse_result (refused none) []) tt (unit-step-counted w t n)
     (suc (length t)) (world begin (zeros 8200)) (begin-counted t e)
 
 abbrev FewAnswer : Parsed → Type 0
-FewAnswer (answer.Accepted c l) = (c ≤ 1024) × (l ≤ 256)
-FewAnswer (answer.Refused number place) = Unit {0}
+FewAnswer (Ok x) = (x.statements ≤ 1024) × (x.labels ≤ 256)
+FewAnswer (Err r) = Unit {0}
 
 answer-few : (v : Verdict) → Few v → FewAnswer (answer_of v)
 unfolding answer_of
-answer-few (Accepted count labels) h = (omega (arith, h.0), h.1)
-answer-few (Refused k) h = tt
+answer-few (Ok x) h = (omega (arith, h.0), h.1)
+answer-few (Err k) h = tt
 
 outline-few : (w : Width) (t : List ℕ) (n : ℕ) → length t ≡ 32768 → FewAnswer (outline_of w t n).answer
 unfolding outline_of
 outline-few w t n e = answer-few (parse_of w t n).verdict (parse-few w t n e)
 
 -- statements and labels of an accepted source are within the limits
-pub accepted-counts : (w : Width) (t : List ℕ) (n c l : ℕ) → length t ≡ 32768 → (outline_of w t n).answer ≡ answer.Accepted c l → (c ≤ 1024) × (l ≤ 256)
+pub accepted-counts : (w : Width) (t : List ℕ) (n c l : ℕ) → length t ≡ 32768 → (outline_of w t n).answer ≡ answer.accepted c l → (c ≤ 1024) × (l ≤ 256)
 accepted-counts w t n c l e h = subst FewAnswer h (outline-few w t n e)

@@ -26,8 +26,8 @@ use Rattle.parse_lines.proofs.Edge.{edge-is}
 use Rattle.parse_units.specs.Places.{ground_in, line_on, unit_fault}
 use Rattle.parse_units.specs.Parse.{World, world, Result, parse_result, begin, state_behind, join_state, advance, open_row, fault_in, unit_step_on, unit_step, parse_from, parse_of}
 use Rattle.parse_units.specs.Fits.{UnitStepFits}
-use Rattle.parse_units.specs.declared.Verdict.{Verdict}
-use Rattle.parse_units.specs.declared.Verdict.TheVariants.{Accepted, Refused}
+use Rattle.std.proofs.Common.{Ok, Err}
+use Rattle.parse_units.specs.Verdict.{Verdict, accepted, refused}
 use Rattle.parse_units.proofs.Bounds.{unit-order, line-some}
 use Rattle.parse_units.proofs.UnitSteps.{UnitStepGood, unit-step-good}
 use Rattle.parse_verdict.specs.Verdict.{kind_in, fault_at, next_world, faults_from, all_faults, verdict_of, All, Clean, key_of, Rising}
@@ -188,11 +188,11 @@ module _ (t : List ℕ) (n : ℕ) (r : Rising t n) where
               ⊎_elim (λ g. omega arith) (λ z. absurd (e z)) (rest-low k x (later-low k (next_world t n x)))
         ])
 
-    unit-step-fault : (x : World) → fault_at w t n x < none → unit_step w t n x ≡ stop (parse_result (Refused (fault_at w t n x)) x.table)
+    unit-step-fault : (x : World) → fault_at w t n x < none → unit_step w t n x ≡ stop (parse_result (refused (fault_at w t n x)) x.table)
     unfolding unit_step unit_step_on fault_at
     unit-step-fault x h = if_lt-yes _ _ h
 
-    unit-step-edge : (x : World) → none ≤ fault_at w t n x → kind_in t x ≡ 0 → unit_step w t n x ≡ stop (parse_result (Accepted x.state.count x.state.labels) x.table)
+    unit-step-edge : (x : World) → none ≤ fault_at w t n x → kind_in t x ≡ 0 → unit_step w t n x ≡ stop (parse_result (accepted x.state.count x.state.labels) x.table)
     unfolding unit_step unit_step_on fault_at kind_in
     unit-step-edge x h e = if_lt-no _ _ h ∙ if_eq-yes _ _ e
 
@@ -207,15 +207,15 @@ module _ (t : List ℕ) (n : ℕ) (r : Rising t n) where
         ∙ min-eq_right (omega (arith, least-none (if_eq (kind_in t x) 0 [] (faults_from k w t n (next_world t n x)))))
 
     -- the walk over units finds the least over all of them
-    decides : (k : ℕ) (x : World) → key_of (walk (unit_step w t n) (parse_result (Refused none) []) k x).verdict ≡ least_of (faults_from k w t n x)
+    decides : (k : ℕ) (x : World) → key_of (walk (unit_step w t n) (parse_result (refused none) []) k x).verdict ≡ least_of (faults_from k w t n x)
     unfolding walk faults_from least_of
     decides zero x = refl
     decides (suc k) x =
         elim (dec_lt (fault_at w t n x) none) [
-          | yes h ↦ ap (λ (y : Result). key_of y.verdict) (walk-stop (unit_step w t n) (parse_result (Refused none) []) k x _ (unit-step-fault x h)) ∙ sym (first-least k x h)
+          | yes h ↦ ap (λ (y : Result). key_of y.verdict) (walk-stop (unit_step w t n) (parse_result (refused none) []) k x _ (unit-step-fault x h)) ∙ sym (first-least k x h)
           | no h ↦ elim (ℕ_discrete (kind_in t x) 0) [
-            | yes e ↦ ap (λ (y : Result). key_of y.verdict) (walk-stop (unit_step w t n) (parse_result (Refused none) []) k x _ (unit-step-edge x (omega arith) e)) ∙ sym (skip_first k x (omega arith) ∙ rest-edge k x e)
-            | no e ↦ ap (λ (y : Result). key_of y.verdict) (walk-go (unit_step w t n) (parse_result (Refused none) []) k x _ (unit-step-on x (omega arith) e)) ∙ decides k (next_world t n x)
+            | yes e ↦ ap (λ (y : Result). key_of y.verdict) (walk-stop (unit_step w t n) (parse_result (refused none) []) k x _ (unit-step-edge x (omega arith) e)) ∙ sym (skip_first k x (omega arith) ∙ rest-edge k x e)
+            | no e ↦ ap (λ (y : Result). key_of y.verdict) (walk-go (unit_step w t n) (parse_result (refused none) []) k x _ (unit-step-on x (omega arith) e)) ∙ decides k (next_world t n x)
                 ∙ sym (skip_first k x (omega arith) ∙ ap least_of (if_eq-no [] (faults_from k w t n (next_world t n x)) e))
           ]
         ]
@@ -232,12 +232,12 @@ module _ (t : List ℕ) (n : ℕ) (r : Rising t n) where
 
 -- a refusal is that of a fault
 abbrev pub is_accepted : Verdict → Bool
-is_accepted (Accepted count labels) = true
-is_accepted (Refused k) = false
+is_accepted (Ok x) = true
+is_accepted (Err k) = false
 
 abbrev pub RealV : Verdict → Type 0
-RealV (Accepted count labels) = Unit {0}
-RealV (Refused k) = k < none
+RealV (Ok x) = Unit {0}
+RealV (Err k) = k < none
 
 abbrev StopReal : Step World Result → Type 0
 StopReal (go z) = Unit {0}
@@ -269,16 +269,16 @@ begin-fits t e = (record { tokens = e; long = length-replicate {A = ℕ} 8200 0;
 pub parse-real : (w : Width) (t : List ℕ) (n : ℕ) → length t ≡ 32768 → RealV (parse_of w t n).verdict
 unfolding parse_of parse_from
 parse-real w t n e =
-    walk_ends (FitWorld t) (λ (y : Result). RealV y.verdict) (λ (y : World). 4097 - y.state.at) (unit_step w t n) (parse_result (Refused none) []) (unit-step-real w t n)
+    walk_ends (FitWorld t) (λ (y : Result). RealV y.verdict) (λ (y : World). 4097 - y.state.at) (unit_step w t n) (parse_result (refused none) []) (unit-step-real w t n)
     (suc (length t)) (world begin (zeros 8200)) (omega arith) (begin-fits t e)
 
 real-none : (v : Verdict) → RealV v → key_of v ≡ none → is_accepted v ≡ true
-real-none (Accepted count labels) h e = refl
-real-none (Refused k) h e = let z : ⊥ = omega arith in absurd z
+real-none (Ok x) h e = refl
+real-none (Err k) h e = let z : ⊥ = omega arith in absurd z
 
 none-real : (v : Verdict) → is_accepted v ≡ true → key_of v ≡ none
-none-real (Accepted count labels) e = refl
-none-real (Refused k) e = true-false (sym e)
+none-real (Ok x) e = refl
+none-real (Err k) e = true-false (sym e)
 
 -- "You accept a source exactly when it breaks none of the listed rules": the rules of this stage
 module _ (w : Width) (t : List ℕ) (n : ℕ) (e : length t ≡ 32768) (r : Rising t n) where

@@ -28,6 +28,7 @@ use Rattle.lex_source.proofs.Least.{fault-end, fault-lone, fault-broken, fault-o
 use Rattle.parse_verdict.specs.Lexing.{lex_key}
 use Rattle.parse_verdict.proofs.Lexing.{fault_in, step-fault, step-fine, min-keeps, StopsClean, token-stops, long-refused}
 use Rattle.std.proofs.Common.{Option, Some, None, Result, Ok, Err}
+use Rattle.std.specs.Prelude.{is_some}
 
 -- a fault of another number
 abbrev Other : ℕ → Type 0
@@ -46,7 +47,7 @@ limit-other n p = either Other n tokens _ _ (λ _. other_none) (λ _. other_key 
 module _ (s : List ℕ) (n : ℕ) (x : Lexeme) where
   range_other : Other (range_fault x)
   unfolding range_fault
-  range_other = either_true Other x.fits _ _ (λ _. other_none) (λ _. other_key x.first 5 (omega arith) (λ e. let z : ⊥ = omega arith in z))
+  range_other = either_true Other (is_some x.value) _ _ (λ _. other_none) (λ _. other_key x.first 5 (omega arith) (λ e. let z : ⊥ = omega arith in z))
 
   length-other : Other (length_fault x)
   unfolding length_fault

@@ -33,6 +33,7 @@ use Rattle.parse_verdict.specs.Verdict.{All, Clean}
 use Rattle.parse_verdict.specs.Lexing.{faults_behind, token_faults, lex_faults, lex_key}
 use Rattle.parse_verdict.proofs.Decided.{least-none, none-all}
 use Rattle.std.proofs.Common.{Option, Some, None, Result, Ok, Err}
+use Rattle.std.specs.Prelude.{is_some}
 
 not-refused : (k : ℕ) (ts : List Token) → refused k ≡ accepted ts → ⊥
 not-refused k ts e = let z : ◌≡◌ {A = ℕ} 0 1 = cc in omega arith
@@ -143,7 +144,7 @@ module _ (s : List ℕ) (n : ℕ) (x : Lexeme) (o : x.first < x.next) (l : x.nex
   range-spans : Spans x.first x.next (range_fault x)
   unfolding range_fault
   range-spans =
-      either_true (Spans x.first x.next) x.fits _ _ (λ _. spans-none _ _ (omega arith)) (λ _. spans-key _ _ x.first 5 (omega arith) (omega arith) (omega arith) (omega arith))
+      either_true (Spans x.first x.next) (is_some x.value) _ _ (λ _. spans-none _ _ (omega arith)) (λ _. spans-key _ _ x.first 5 (omega arith) (omega arith) (omega arith) (omega arith))
 
   length-spans : Spans x.first x.next (length_fault x)
   unfolding length_fault

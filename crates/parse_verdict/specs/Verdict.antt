@@ -1,6 +1,6 @@
 -- The verdict over the WHOLE source: the least fault that any rule finds in any unit, each judged in the state in which it stands.
 -- Assumes nothing.
-use Rattle.std.specs.Prelude.{ℕ, zero, suc, ◌+◌, ◌<◌, ◌≤◌, ◌≡◌, List, [], ◌∷◌, length}
+use Rattle.std.specs.Prelude.{ℕ, zero, suc, ◌+◌, ◌<◌, ◌≤◌, ◌≡◌, List, [], ◌∷◌, length, Ok, Err}
 use Rattle.base_limits.specs.Limits.{word_values}
 use Rattle.base_prelude.specs.Choice.{if_eq}
 use Rattle.base_prelude.specs.Fault.{none, least_of}
@@ -13,8 +13,7 @@ use Rattle.parse_lines.specs.Units.{unit_at}
 use Rattle.parse_lines.specs.Lines.{line_kind}
 use Rattle.parse_units.specs.Outline.{outline_words}
 use Rattle.parse_units.specs.Parse.{World, world, Result, begin, advance, fault_in, parse_of}
-use Rattle.parse_units.specs.declared.Verdict.{Verdict}
-use Rattle.parse_units.specs.declared.Verdict.TheVariants.{Accepted, Refused}
+use Rattle.parse_units.specs.Verdict.{Verdict}
 
 -- the kind of the unit at which a state stands
 unfoldable pub kind_in : List ℕ → World → ℕ
@@ -52,8 +51,8 @@ Clean ks = All (λ (k : ℕ). none ≤ k) ks
 
 -- the key of an answer, none where the source is accepted
 abbrev pub key_of : Verdict → ℕ
-key_of (Accepted count labels) = none
-key_of (Refused k) = k
+key_of (Ok x) = none
+key_of (Err k) = k
 
 -- what the lexer's tables have: places rise from token to token and end at the source's length, and behind the end no token stands
 pub record Rising (t : List ℕ) (n : ℕ) : Type 0 where

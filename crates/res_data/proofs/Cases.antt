@@ -1,15 +1,14 @@
 -- One law for each way through a function of this crate.
 -- Assumes nothing.
-use mathlib.Core.Path.{◌≡◌, refl, sym, ◌∙◌, ap, ap₂, subst}
+use mathlib.Core.Path.{◌≡◌, refl, sym, ◌∙◌, ap, ap₂}
 use mathlib.Core.Bool.{true}
 use mathlib.Core.List.{List, [], ◌∷◌, ◌++◌, append-nil}
-use Prim.Native.Nat.{ℕ, zero, suc, ◌+◌, ◌*◌, ◌-◌, ◌/◌, ◌%◌, ◌≤◌, ◌<◌}
+use Prim.Native.Nat.{ℕ, suc, ◌+◌, ◌-◌, ◌/◌, ◌%◌, ◌≤◌, ◌<◌, min}
 use native.Mathlib.Nat.{mod-lt}
-use native.Mathlib.Numerals.{add-one}
+use native.Mathlib.Decide.{dec_lt}
 use native.Mathlib.Omega.{arith}
 use lib.ListN.{length, take, drop, set, length-set, length-take, length-append, length-drop, drop_of_length-le}
 use lib.Seq.{take_all}
-use Rattle.base_prelude.specs.Choice.{if_lt, if_eq}
 use Rattle.base_prelude.specs.Lists.{overlay}
 use Rattle.base_prelude.proofs.Choice.{tests, if_eq-yes, if_eq-no}
 use Rattle.base_limits.specs.Width.{bytes_of, data_limit}
@@ -21,13 +20,11 @@ use Rattle.lex_spelling.proofs.Loops.{overlay_from, overlay-none, overlay-start,
 use Rattle.parse_shapes.specs.Shapes.{operand_count}
 use Rattle.parse_lines.specs.Tokens.{token_word}
 use Rattle.parse_lines.specs.declared.Span.{Span}
-use Rattle.res_data.specs.Sizes.{align_of, fill_of, align_size, size_of, cursor_behind, add_line, next_of, length_in}
+use Rattle.res_data.specs.Sizes.{align_of, fill_of, align_size, size_of, cursor_behind, add_line, next_of, length_in, measure_of, address_of}
 use Rattle.res_data.specs.Image.{line_bytes, put_bytes}
 use Rattle.res_data.specs.declared.Cursor.{Cursor}
-use Rattle.res_data.specs.declared.Next.{Next}
-use Rattle.res_data.specs.declared.Next.TheVariants.{On, Full, Over}
-use Rattle.res_data.specs.declared.Measured.{Measured}
-use Rattle.res_data.specs.declared.Measured.TheVariants.{Length, Big}
+use Rattle.std.specs.Result.{result_unwrap_or}
+use Rattle.std.specs.Prelude.{Result, Ok, Err, Option, Some, None}
 
 module _ (w : Width) (t : List ℕ) (u : Span) (c : ℕ) (p : c ≡ operand_count u) where
   pub align-bare : (r : ℕ) → c ≡ 0 → r ≡ bytes_of w → r ≡ align_of w t u
@@ -52,11 +49,11 @@ data-small Bits32 = omega arith
 data-small Bits16 = omega arith
 
 module _ (w : Width) (u : Span) (k more : ℕ) (s : Cursor) (room : ℕ) (p : room ≡ data_limit w - s.size) where
-  pub line-full : room < more → Full u.word ≡ add_line w u k more s
+  pub line-full : room < more → Err u.word ≡ add_line w u k more s
   unfolding add_line
   line-full h = rw (← p) (search tests)
 
-  pub line_on_lem : (y : Cursor) → more ≤ room → y ≡ cursor_behind u k more s → On y ≡ add_line w u k more s
+  pub line_on_lem : (y : Cursor) → more ≤ room → y ≡ cursor_behind u k more s → Ok (Some y) ≡ add_line w u k more s
   unfolding add_line
   line_on_lem y h q = rw (← p, ← q) (search tests)
 
@@ -66,31 +63,29 @@ module _ (w : Width) (u : Span) (k more : ℕ) (s : Cursor) (room : ℕ) (p : ro
 pub ruleset adding = (line-full, line_on_lem)
 
 module _ (w : Width) (t : List ℕ) (end : ℕ) (u : Span) (k : ℕ) (s : Cursor) where
-  pub next_edge : k ≡ 0 → Over ≡ next_of w t end u k s
+  pub next_edge : k ≡ 0 → Ok None ≡ next_of w t end u k s
   unfolding next_of
   next_edge e = search tests
 
-  pub next-line : (more : ℕ) (r : Next) → (k ≡ 0 → ⊥) → u.word < end → more ≡ size_of w t u k s.section s.size → r ≡ add_line w u k more s
+  pub next-line : (more : ℕ) (r : Result (Option Cursor) ℕ) → (k ≡ 0 → ⊥) → u.word < end → more ≡ size_of w t u k s.section s.size → r ≡ add_line w u k more s
       → r ≡ next_of w t end u k s
   unfolding next_of
   next-line more r e h p q = rw (← p) (search tests)
 
-  pub next-end : (k ≡ 0 → ⊥) → end ≤ u.word → Over ≡ next_of w t end u k s
+  pub next-end : (k ≡ 0 → ⊥) → end ≤ u.word → Ok None ≡ next_of w t end u k s
   unfolding next_of
   next-end e h = search tests
 
 pub ruleset nexting = (next_edge, next-line, next-end)
 
-module _ (m : Measured) where
-  pub in-length : (n : ℕ) → m ≡ Length n → n ≡ length_in m
-  unfolding length_in
-  in-length n e = rw e
+length-of : (m : Result ℕ ℕ) → result_unwrap_or m 0 ≡ length_in m
+unfolding length_in
+length-of (Ok n) = refl
+length-of (Err i) = refl
 
-  pub in-big : (i : ℕ) → m ≡ Big i → 0 ≡ length_in m
-  unfolding length_in
-  in-big i e = rw e
-
-pub ruleset telling = (in-length, in-big)
+pub address-is : (w : Width) (t : List ℕ) (word r : ℕ) (m : Result ℕ ℕ) → m ≡ measure_of w t word → r ≡ result_unwrap_or m 0 → r ≡ address_of w t word
+unfolding address_of
+address-is w t word r m e q = q ∙ length-of m ∙ ap length_in e
 
 -- the loop of `write_number`
 pub record Writing (count value : ℕ) (out₀ out : List ℕ) (v k : ℕ) : Type 0 where
@@ -112,23 +107,31 @@ module _ (count value : ℕ) (out₀ : List ℕ) where
   none_is v = refl
 
   module _ (out : List ℕ) (v k : ℕ) (h : Writing count value out₀ out v k) where
-    pub writing_more : k < length out → k < count → Writing count value out₀ (set out k (v % 256)) (v / 256) (k + 1)
-    writing_more l g =
+    pub writing_more : (n : ℕ) → k < n → n ≡ min count (length out₀) → Writing count value out₀ (set out k (v % 256)) (v / 256) (k + 1)
+    writing_more n m d =
+        let l : k < length out = omega (arith, h.long) in
         let q : count - k ≡ suc (count - (k + 1)) = omega arith in
         record {
           long = length-set out k (v % 256) ∙ h.long;
           rest = overlay-more k (v % 256) (word_bytes (count - (k + 1)) (v / 256)) out l ∙ ap (λ (x : List ℕ). overlay_from k x out) (sym (ap (λ (n : ℕ). word_bytes n v) q ∙ byte-is (count - (k + 1)) v)) ∙ h.rest;
         }
 
-    pub writing-done : count ≤ k → out ≡ overlay (word_bytes count value) out₀
+    writing-done : count ≤ k → out ≡ overlay (word_bytes count value) out₀
     writing-done g =
         let q : count - k ≡ 0 = omega arith in
         sym (overlay-end k out) ∙ ap (λ (x : List ℕ). overlay_from k x out) (sym (ap (λ (n : ℕ). word_bytes n v) q ∙ none_is v)) ∙ h.rest
 
-    pub writing-full : length out ≤ k → out ≡ overlay (word_bytes count value) out₀
+    writing-full : length out ≤ k → out ≡ overlay (word_bytes count value) out₀
     writing-full l = sym (overlay-past k (word_bytes (count - k) v) out l) ∙ h.rest
 
-pub ruleset writing = (writing_start, writing_more, writing-done, writing-full)
+    pub writing-end : (n : ℕ) → n ≤ k → n ≡ min count (length out₀) → out ≡ overlay (word_bytes count value) out₀
+    writing-end n m d =
+        elim (dec_lt k count) [
+          | yes g ↦ writing-full (omega (arith, h.long))
+          | no g ↦ writing-done (omega arith)
+        ]
+
+pub ruleset writing = (writing_start, writing_more, writing-end)
 
 module _ (w : Width) (s t : List ℕ) (u : Span) (k : ℕ) (out : List ℕ) where
   pub line-byte : (v : ℕ) (x : List ℕ) → k ≡ 29 → v ≡ token_word t (u.word + 1) 3 → x ≡ overlay (word_bytes 1 v) out → x ≡ overlay (line_bytes w s t u k) out

@@ -1,13 +1,12 @@
 -- The loops over units.
 -- Assumes nothing.
-use mathlib.Core.Path.{◌≡◌, refl, sym, ◌∙◌, ap, ap₂, subst}
-use mathlib.Core.List.{List, [], ◌∷◌}
-use Prim.Native.Nat.{ℕ, zero, suc, ◌+◌, ◌*◌, ◌-◌, ◌≤◌, ◌<◌}
+use mathlib.Core.Path.{◌≡◌, refl, sym, ◌∙◌, ap, subst}
+use mathlib.Core.List.{List}
+use Prim.Native.Nat.{ℕ, suc, ◌-◌, ◌≤◌, ◌<◌}
 use native.Mathlib.Omega.{arith}
 use lib.ListN.{length}
-use Rattle.base_prelude.specs.Choice.{if_lt, if_eq}
-use Rattle.base_prelude.specs.Walk.{Step, go, stop, walk}
-use Rattle.base_prelude.proofs.Choice.{either, either-eq, if_eq-yes, if_eq-no}
+use Rattle.base_prelude.specs.Walk.{Step, go, stop}
+use Rattle.base_prelude.proofs.Choice.{either, either-eq, true-false}
 use Rattle.base_prelude.proofs.Walk.{Runs, runs-start, runs-go, runs-stop}
 use Rattle.base_limits.specs.Width.{data_limit}
 use Rattle.base_limits.specs.declared.Width.{Width}
@@ -19,10 +18,7 @@ use Rattle.res_data.specs.Sizes.{cursor_behind, add_line, next_of, next_at, meas
 use Rattle.res_data.specs.Image.{line_bytes, put_bytes, Laying, laying, laid, put_unit, lay_step, lay_from}
 use Rattle.res_data.specs.Fits.{CursorFits}
 use Rattle.res_data.specs.declared.Cursor.{Cursor}
-use Rattle.res_data.specs.declared.Next.{Next}
-use Rattle.res_data.specs.declared.Next.TheVariants.{On, Full, Over}
-use Rattle.res_data.specs.declared.Measured.{Measured}
-use Rattle.res_data.specs.declared.Measured.TheVariants.{Length, Big}
+use Rattle.std.specs.Prelude.{Result, Ok, Err, Option, Some, None, is_some, true, false}
 use Rattle.res_data.proofs.Cases.{put-long}
 
 module _ (t : List ℕ) (s : Cursor) (u : Span) (p : u ≡ unit_at t s.at) where
@@ -30,16 +26,16 @@ module _ (t : List ℕ) (s : Cursor) (u : Span) (p : u ≡ unit_at t s.at) where
   unit-small h =
       subst (λ (v : Span). v.word < 4294967295) (sym p) (omega (arith, unit-near t s.at h.tokens h.near))
 
-  pub next-is : (w : Width) (end k : ℕ) (r : Next) → k ≡ line_kind t u.word → r ≡ next_of w t end u k s → r ≡ next_at w t end s
+  pub next-is : (w : Width) (end k : ℕ) (r : Result (Option Cursor) ℕ) → k ≡ line_kind t u.word → r ≡ next_of w t end u k s → r ≡ next_at w t end s
   unfolding next_at
   next-is w end k r q e =
       e ∙ ap (λ (i : ℕ). next_of w t end u i s) q ∙ ap (λ (v : Span). next_of w t end v (line_kind t v.word) s) p
 
 -- a unit leads forward, within the table
-abbrev NextGood : List ℕ → Cursor → Next → Type 0
-NextGood t s (On y) = CursorFits t y × (s.at < y.at)
-NextGood t s (Full i) = Unit {0}
-NextGood t s Over = Unit {0}
+abbrev NextGood : List ℕ → Cursor → Result (Option Cursor) ℕ → Type 0
+NextGood t s (Ok (Some y)) = CursorFits t y × (s.at < y.at)
+NextGood t s (Err i) = Unit {0}
+NextGood t s (Ok None) = Unit {0}
 
 next-good : (w : Width) (t : List ℕ) (end : ℕ) (s : Cursor) → CursorFits t s → NextGood t s (next_at w t end s)
 unfolding next_at next_of add_line cursor_behind
@@ -52,13 +48,13 @@ next-good w t end s h =
     let n : (unit_at t s.at).next ≤ 4097 = unit-next t s.at h.tokens (omega arith) in
     (record { tokens = h.tokens; near = n }, omega (arith, o.0, o.1, o.2)))) (λ _. tt))
 
-pub next-on : (w : Width) (t : List ℕ) (end : ℕ) (s y : Cursor) (r : Next) → CursorFits t s → r ≡ next_at w t end s → r ≡ On y → CursorFits t y × (s.at < y.at)
+pub next-on : (w : Width) (t : List ℕ) (end : ℕ) (s y : Cursor) (r : Result (Option Cursor) ℕ) → CursorFits t s → r ≡ next_at w t end s → r ≡ Ok (Some y) → CursorFits t y × (s.at < y.at)
 next-on w t end s y r h p e = subst (NextGood t s) (sym p ∙ e) (next-good w t end s h)
 
 -- the loop of `measure_from`
 pub record Measuring (w : Width) (t : List ℕ) (end : ℕ) (start s : Cursor) : Type 0 where
   pub fits : CursorFits t s
-  pub runs : Runs (measure_step w t end) (Length 0) (measure_from w t end start) s (suc (4097 - s.at))
+  pub runs : Runs (measure_step w t end) (Ok 0) (measure_from w t end start) s (suc (4097 - s.at))
 
 module _ (w : Width) (t : List ℕ) (end : ℕ) (start : Cursor) where
   pub measuring-start : CursorFits t start → Measuring w t end start start
@@ -68,26 +64,29 @@ module _ (w : Width) (t : List ℕ) (end : ℕ) (start : Cursor) where
   pub measuring-fits : (s : Cursor) → Measuring w t end start s → CursorFits t s
   measuring-fits s h = h.fits
 
-  module _ (s : Cursor) (r : Next) (h : Measuring w t end start s) (p : r ≡ next_at w t end s) where
-    step_is : (x : Next) → r ≡ x → measure_step w t end s ≡ measured s x
+  module _ (s : Cursor) (r : Result (Option Cursor) ℕ) (h : Measuring w t end start s) (p : r ≡ next_at w t end s) where
+    step_is : (x : Result (Option Cursor) ℕ) → r ≡ x → measure_step w t end s ≡ measured s x
     unfolding measure_step
     step_is x e = ap (measured s) (sym p ∙ e)
 
-    pub measuring-less : (y : Cursor) → r ≡ On y → 4097 - y.at < 4097 - s.at
-    measuring-less y e = let m = next-on w t end s y r h.fits p e in omega (arith, m.1, m.0.near)
+    pub measuring-less : (y : Cursor) (o : Option Cursor) → r ≡ Ok o → o ≡ Some y → 4097 - y.at < 4097 - s.at
+    measuring-less y o q d =
+        let e : r ≡ Ok (Some y) = q ∙ ap Ok d in let m = next-on w t end s y r h.fits p e in omega (arith, m.1, m.0.near)
 
-    pub measuring-more : (y : Cursor) → r ≡ On y → Measuring w t end start y
-    measuring-more y e =
+    pub measuring-more : (y : Cursor) (o : Option Cursor) → r ≡ Ok o → o ≡ Some y → Measuring w t end start y
+    measuring-more y o q d =
+        let e : r ≡ Ok (Some y) = q ∙ ap Ok d in
         record {
           fits = (next-on w t end s y r h.fits p e).0;
-          runs = runs-go _ _ _ _ _ (4097 - s.at) _ h.runs (step_is (On y) e) (omega (arith, measuring-less y e));
+          runs = runs-go _ _ _ _ _ (4097 - s.at) _ h.runs (step_is (Ok (Some y)) e) (omega (arith, measuring-less y o q d));
         }
 
-    pub measuring-full : (i : ℕ) → r ≡ Full i → Big i ≡ measure_from w t end start
-    measuring-full i e = runs-stop _ _ _ _ _ _ h.runs (step_is (Full i) e)
+    pub measuring-full : (i : ℕ) → r ≡ Err i → Err i ≡ measure_from w t end start
+    measuring-full i e = runs-stop _ _ _ _ _ _ h.runs (step_is (Err i) e)
 
-    pub measuring-over : r ≡ Over → Length s.size ≡ measure_from w t end start
-    measuring-over e = runs-stop _ _ _ _ _ _ h.runs (step_is Over e)
+    pub measuring-over : (o : Option Cursor) → r ≡ Ok o → o ≡ None → Ok s.size ≡ measure_from w t end start
+    measuring-over o q d =
+        let e : r ≡ Ok None = q ∙ ap Ok d in runs-stop _ _ _ _ _ _ h.runs (step_is (Ok None) e)
 
 pub ruleset measuring = (measuring-start, measuring-more, measuring-full, measuring-over)
 
@@ -95,26 +94,32 @@ pub first_fits : (t : List ℕ) (s : Cursor) → length t ≡ 32768 → s ≡ fi
 first_fits t s a e = subst (CursorFits t) (sym e) (record { tokens = a; near = omega arith })
 
 -- a step of `lay_from`
-module _ (w : Width) (s t : List ℕ) (c : Cursor) (out : List ℕ) (u : Span) (k : ℕ) (r : Next) (p : u ≡ unit_at t c.at) (q : k ≡ line_kind t u.word) (g : r ≡ next_of w t 4098 u k c) where
+module _ (w : Width) (s t : List ℕ) (c : Cursor) (out : List ℕ) (u : Span) (k : ℕ) (r : Result (Option Cursor) ℕ) (p : u ≡ unit_at t c.at) (q : k ≡ line_kind t u.word) (g : r ≡ next_of w t 4098 u k c) where
   put_is : (x : List ℕ) → x ≡ put_bytes out c.size (line_bytes w s t u k) → x ≡ put_unit w s t (laying c out)
   unfolding put_unit
   put_is x e =
       e ∙ ap (λ (i : ℕ). put_bytes out c.size (line_bytes w s t u i)) q ∙ ap (λ (v : Span). put_bytes out c.size (line_bytes w s t v (line_kind t v.word))) p
 
-  lay-is : (y : Next) → r ≡ y → lay_step w s t (laying c out) ≡ laid y (put_unit w s t (laying c out)) out
+  lay-is : (y : Result (Option Cursor) ℕ) → r ≡ y → lay_step w s t (laying c out) ≡ laid y (put_unit w s t (laying c out)) out
   unfolding lay_step
-  lay-is y e = ap (λ (z : Next). laid z (put_unit w s t (laying c out)) out) (sym (next-is t c u p w 4098 k r q g) ∙ e)
+  lay-is y e = ap (λ (z : Result (Option Cursor) ℕ). laid z (put_unit w s t (laying c out)) out) (sym (next-is t c u p w 4098 k r q g) ∙ e)
 
-  pub step-on : (y : Cursor) (x : List ℕ) → r ≡ On y → x ≡ put_bytes out c.size (line_bytes w s t u k) → laid (On y) x x ≡ lay_step w s t (laying c out)
-  step-on y x e f = ap (λ (z : List ℕ). go (laying y z)) (put_is x f) ∙ sym (lay-is (On y) e)
+  pub step-on : (y : Cursor) (x : List ℕ) → r ≡ Ok (Some y) → x ≡ put_bytes out c.size (line_bytes w s t u k) → laid (Ok (Some y)) x x ≡ lay_step w s t (laying c out)
+  step-on y x e f = ap (λ (z : List ℕ). go (laying y z)) (put_is x f) ∙ sym (lay-is (Ok (Some y)) e)
 
-  pub step-full : (i : ℕ) → r ≡ Full i → laid (Full i) out out ≡ lay_step w s t (laying c out)
-  step-full i e = sym (lay-is (Full i) e)
+  pub step-full : (i : ℕ) → r ≡ Err i → laid (Err i) out out ≡ lay_step w s t (laying c out)
+  step-full i e = sym (lay-is (Err i) e)
 
-  pub step-over : r ≡ Over → laid Over out out ≡ lay_step w s t (laying c out)
-  step-over e = sym (lay-is Over e)
+  pub step-over : r ≡ Ok None → laid (Ok None) out out ≡ lay_step w s t (laying c out)
+  step-over e = sym (lay-is (Ok None) e)
 
-pub ruleset stepping = (step-on, step-full, step-over)
+  pub step-some : (o : Option Cursor) (x : List ℕ) → r ≡ Ok o → is_some o ≡ true → x ≡ put_bytes out c.size (line_bytes w s t u k) → laid (Ok o) x x ≡ lay_step w s t (laying c out)
+  step-some (Some y) x e h f = step-on y x e f
+  step-some None x e h f = true-false (sym h)
+
+  pub step-none : (o : Option Cursor) → r ≡ Ok o → is_some o ≡ false → laid (Ok o) out out ≡ lay_step w s t (laying c out)
+  step-none (Some y) e h = true-false h
+  step-none None e h = step-over e
 
 -- the loop of `lay_from`
 pub record Imaging (w : Width) (s t : List ℕ) (start : Cursor) (out₀ : List ℕ) (c : Cursor) (out : List ℕ) : Type 0 where
@@ -126,10 +131,10 @@ abbrev StepGood : List ℕ → Cursor → ℕ → Step Laying (List ℕ) → Typ
 StepGood t c n (go m) = CursorFits t m.cursor × (c.at < m.cursor.at) × (length m.image ≡ n)
 StepGood t c n (stop x) = Unit {0}
 
-laid-good : (t : List ℕ) (c : Cursor) (r : Next) (x out : List ℕ) → NextGood t c r → length x ≡ length out → StepGood t c (length out) (laid r x out)
-laid-good t c (On y) x out h l = (h.0, h.1, l)
-laid-good t c (Full i) x out h l = tt
-laid-good t c Over x out h l = tt
+laid-good : (t : List ℕ) (c : Cursor) (r : Result (Option Cursor) ℕ) (x out : List ℕ) → NextGood t c r → length x ≡ length out → StepGood t c (length out) (laid r x out)
+laid-good t c (Ok (Some y)) x out h l = (h.0, h.1, l)
+laid-good t c (Err i) x out h l = tt
+laid-good t c (Ok None) x out h l = tt
 
 pub unit-long : (w : Width) (s t : List ℕ) (m : Laying) → length (put_unit w s t m) ≡ length m.image
 unfolding put_unit
@@ -148,28 +153,31 @@ module _ (w : Width) (s t : List ℕ) (start : Cursor) (out₀ : List ℕ) where
   pub imaging-fits : (c : Cursor) (out : List ℕ) → Imaging w s t start out₀ c out → CursorFits t c
   imaging-fits c out h = h.fits
 
-  module _ (c : Cursor) (out : List ℕ) (r : Next) (x : List ℕ) (h : Imaging w s t start out₀ c out) (p : laid r x x ≡ lay_step w s t (laying c out)) where
-    leads : (z : Next) → r ≡ z → lay_step w s t (laying c out) ≡ laid z x x
-    leads z e = sym p ∙ ap (λ (y : Next). laid y x x) e
+  module _ (c : Cursor) (out : List ℕ) (r : Result (Option Cursor) ℕ) (x : List ℕ) (h : Imaging w s t start out₀ c out) (p : laid r x x ≡ lay_step w s t (laying c out)) where
+    leads : (z : Result (Option Cursor) ℕ) → r ≡ z → lay_step w s t (laying c out) ≡ laid z x x
+    leads z e = sym p ∙ ap (λ (y : Result (Option Cursor) ℕ). laid y x x) e
 
-    on-good : (y : Cursor) → r ≡ On y → CursorFits t y × (c.at < y.at) × (length x ≡ length out)
-    on-good y e = subst (StepGood t c (length out)) (leads (On y) e) (lay-good w s t c out h.fits)
+    on-good : (y : Cursor) → r ≡ Ok (Some y) → CursorFits t y × (c.at < y.at) × (length x ≡ length out)
+    on-good y e = subst (StepGood t c (length out)) (leads (Ok (Some y)) e) (lay-good w s t c out h.fits)
 
-    pub imaging-less : (y : Cursor) → r ≡ On y → 4097 - y.at < 4097 - c.at
-    imaging-less y e = let m = on-good y e in omega (arith, m.1, m.0.near)
+    pub imaging-less : (y : Cursor) (o : Option Cursor) → r ≡ Ok o → o ≡ Some y → 4097 - y.at < 4097 - c.at
+    imaging-less y o q d =
+        let e : r ≡ Ok (Some y) = q ∙ ap Ok d in let m = on-good y e in omega (arith, m.1, m.0.near)
 
-    pub imaging-more : (y : Cursor) → r ≡ On y → Imaging w s t start out₀ y x
-    imaging-more y e =
+    pub imaging-more : (y : Cursor) (o : Option Cursor) → r ≡ Ok o → o ≡ Some y → Imaging w s t start out₀ y x
+    imaging-more y o q d =
+        let e : r ≡ Ok (Some y) = q ∙ ap Ok d in
         record {
           fits = (on-good y e).0;
           long = (on-good y e).2 ∙ h.long;
-          runs = runs-go _ _ _ _ _ (4097 - c.at) _ h.runs (leads (On y) e) (omega (arith, imaging-less y e));
+          runs = runs-go _ _ _ _ _ (4097 - c.at) _ h.runs (leads (Ok (Some y)) e) (omega (arith, imaging-less y o q d));
         }
 
-    pub imaging-full : (i : ℕ) → r ≡ Full i → x ≡ lay_from w s t (laying start out₀)
-    imaging-full i e = runs-stop _ _ _ _ _ _ h.runs (leads (Full i) e)
+    pub imaging-full : (i : ℕ) → r ≡ Err i → x ≡ lay_from w s t (laying start out₀)
+    imaging-full i e = runs-stop _ _ _ _ _ _ h.runs (leads (Err i) e)
 
-    pub imaging-over : r ≡ Over → x ≡ lay_from w s t (laying start out₀)
-    imaging-over e = runs-stop _ _ _ _ _ _ h.runs (leads Over e)
+    pub imaging-over : (o : Option Cursor) → r ≡ Ok o → o ≡ None → x ≡ lay_from w s t (laying start out₀)
+    imaging-over o q d =
+        let e : r ≡ Ok None = q ∙ ap Ok d in runs-stop _ _ _ _ _ _ h.runs (leads (Ok None) e)
 
 pub ruleset imaging = (imaging-start, imaging-more, imaging-full, imaging-over)

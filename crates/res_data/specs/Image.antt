@@ -16,8 +16,7 @@ use Rattle.parse_lines.specs.Lines.{line_kind}
 use Rattle.parse_lines.specs.declared.Span.{Span}
 use Rattle.res_data.specs.Sizes.{next_at, first_cursor, past_tokens}
 use Rattle.res_data.specs.declared.Cursor.{Cursor}
-use Rattle.res_data.specs.declared.Next.{Next}
-use Rattle.res_data.specs.declared.Next.TheVariants.{On, Full, Over}
+use Rattle.std.specs.Prelude.{Result, Ok, Err, Option, Some, None}
 
 -- `byte` "stored modulo 256", `word` "little-endian", `string` its decoded bytes; the zeros of an `align` are the buffer's own
 unfoldable pub line_bytes : Width → List ℕ → List ℕ → Span → ℕ → List ℕ
@@ -40,10 +39,10 @@ abbrev pub laying : Cursor → List ℕ → Laying
 laying c out = record { cursor = c; image = out }
 
 -- what a unit means for the image, which is `written` with the unit's line in it
-abbrev pub laid : Next → List ℕ → List ℕ → Step Laying (List ℕ)
-laid (On y) written out = go (laying y written)
-laid (Full i) written out = stop out
-laid Over written out = stop out
+abbrev pub laid : Result (Option Cursor) ℕ → List ℕ → List ℕ → Step Laying (List ℕ)
+laid (Ok (Some y)) written out = go (laying y written)
+laid (Err i) written out = stop out
+laid (Ok None) written out = stop out
 
 -- the bytes of the line of the unit at a cursor, behind those that are there
 unfoldable pub put_unit : Width → List ℕ → List ℕ → Laying → List ℕ

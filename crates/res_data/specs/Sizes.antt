@@ -16,10 +16,7 @@ use Rattle.parse_lines.specs.declared.Span.{Span}
 use Rattle.parse_shapes.specs.Shapes.{operand_count}
 use Rattle.parse_units.specs.Parse.{section_behind}
 use Rattle.res_data.specs.declared.Cursor.{Cursor}
-use Rattle.res_data.specs.declared.Next.{Next}
-use Rattle.res_data.specs.declared.Next.TheVariants.{On, Full, Over}
-use Rattle.res_data.specs.declared.Measured.{Measured}
-use Rattle.res_data.specs.declared.Measured.TheVariants.{Length, Big}
+use Rattle.std.specs.Prelude.{Result, Ok, Err, Option, Some, None}
 
 -- the multiple that an `align` line asks for: "bare 4", the bytes of a word
 unfoldable pub align_of : Width → List ℕ → Span → ℕ
@@ -47,37 +44,37 @@ unfoldable pub cursor_behind : Span → ℕ → ℕ → Cursor → Cursor
 cursor_behind u k more s = record { at = u.next; section = section_behind k s.section; size = s.size + more }
 
 -- where a line that adds some bytes leads: on, or past "data 32,768 bytes"
-unfoldable pub add_line : Width → Span → ℕ → ℕ → Cursor → Next
-add_line w u k more s = if_lt (data_limit w - s.size) more (Full u.word) (On (cursor_behind u k more s))
+unfoldable pub add_line : Width → Span → ℕ → ℕ → Cursor → Result (Option Cursor) ℕ
+add_line w u k more s = if_lt (data_limit w - s.size) more (Err u.word) (Ok (Some (cursor_behind u k more s)))
 
 -- the unit u, whose line is of kind k: over at the source's end and at the token `end`
-unfoldable pub next_of : Width → List ℕ → ℕ → Span → ℕ → Cursor → Next
+unfoldable pub next_of : Width → List ℕ → ℕ → Span → ℕ → Cursor → Result (Option Cursor) ℕ
 next_of w t end u k s =
-    if_eq k kind.edge Over (if_lt u.word end (add_line w u k (size_of w t u k s.section s.size) s) Over)
+    if_eq k kind.edge (Ok None) (if_lt u.word end (add_line w u k (size_of w t u k s.section s.size) s) (Ok None))
 
 -- "Sections of one name are joined in source order; data starts at address 0"
 abbrev pub first_cursor : Cursor
 first_cursor = record { at = 0; section = ground.before_sections; size = 0 }
 
 -- what a unit means for the count of bytes
-abbrev pub measured : Cursor → Next → Step Cursor Measured
-measured s (On y) = go y
-measured s (Full i) = stop (Big i)
-measured s Over = stop (Length s.size)
+abbrev pub measured : Cursor → Result (Option Cursor) ℕ → Step Cursor (Result ℕ ℕ)
+measured s (Ok (Some y)) = go y
+measured s (Err i) = stop (Err i)
+measured s (Ok None) = stop (Ok s.size)
 
 -- the unit at the cursor's token
-unfoldable pub next_at : Width → List ℕ → ℕ → Cursor → Next
+unfoldable pub next_at : Width → List ℕ → ℕ → Cursor → Result (Option Cursor) ℕ
 next_at w t end s = next_of w t end (unit_at t s.at) (line_kind t (unit_at t s.at).word) s
 
-unfoldable pub measure_step : Width → List ℕ → ℕ → Cursor → Step Cursor Measured
+unfoldable pub measure_step : Width → List ℕ → ℕ → Cursor → Step Cursor (Result ℕ ℕ)
 measure_step w t end s = measured s (next_at w t end s)
 
 -- unit after unit
-unfoldable pub measure_from : Width → List ℕ → ℕ → Cursor → Measured
-measure_from w t end s = walk (measure_step w t end) (Length 0) (suc (length t)) s
+unfoldable pub measure_from : Width → List ℕ → ℕ → Cursor → Result ℕ ℕ
+measure_from w t end s = walk (measure_step w t end) (Ok 0) (suc (length t)) s
 
 -- the bytes of all lines whose magic word stands before the token `end`, or the magic word of the first that is too big
-unfoldable pub measure_of : Width → List ℕ → ℕ → Measured
+unfoldable pub measure_of : Width → List ℕ → ℕ → Result ℕ ℕ
 measure_of w t end = measure_from w t end first_cursor
 
 -- no token has this number
@@ -85,21 +82,21 @@ abbrev pub past_tokens : ℕ
 past_tokens = limits.tokens + 2
 
 -- all lines
-abbrev pub length_of : Width → List ℕ → Measured
+abbrev pub length_of : Width → List ℕ → Result ℕ ℕ
 length_of w t = measure_of w t past_tokens
 
 -- 0 where data is too big
-unfoldable pub length_in : Measured → ℕ
-length_in (Length n) = n
-length_in (Big i) = 0
+unfoldable pub length_in : Result ℕ ℕ → ℕ
+length_in (Ok n) = n
+length_in (Err i) = 0
 
 -- the address of what a label names: the bytes before its magic word's line, so before an `align` fills
 unfoldable pub address_of : Width → List ℕ → ℕ → ℕ
 address_of w t word = length_in (measure_of w t word)
 
-unfoldable pub big_in : List ℕ → ℕ → Measured → ℕ
-big_in t n (Length m) = none
-big_in t n (Big i) = key_at t n i 15
+unfoldable pub big_in : List ℕ → ℕ → Result ℕ ℕ → ℕ
+big_in t n (Ok m) = none
+big_in t n (Err i) = key_at t n i 15
 
 -- 15: "data too big: the definition or `align`"
 unfoldable pub big_rule : Width → List ℕ → ℕ → ℕ

@@ -6,7 +6,7 @@ ghost use Rattle.base_limits.specs.Limits as limits;
 ghost use Rattle.base_prelude.specs.Lists.{overlay};
 ghost use Rattle.base_limits.specs.Width.{data_limit};
 ghost use Rattle.base_word.specs.Bytes.{word_bytes};
-ghost use Rattle.res_data.specs.Sizes.{align_of, fill_of, align_size, size_of, cursor_behind, add_line, next_of, next_at, measure_from, measure_of, length_in, address_of, first_cursor};
+ghost use Rattle.res_data.specs.Sizes.{align_of, fill_of, align_size, size_of, cursor_behind, add_line, next_of, next_at, measure_from, measure_of, address_of, first_cursor};
 ghost use Rattle.res_data.specs.Image.{line_bytes, put_bytes, laying, lay_step, lay_from, laid, image_of};
 ghost use Rattle.res_data.specs.Fits.{CursorFits};
 
@@ -20,21 +20,6 @@ pub struct Cursor {
     pub at: u32,
     pub section: u32,
     pub size: u32,
-}
-
-// Where a unit leads: on, past the limit at its magic word, or to the end.
-#[derive(Drop)]
-pub enum Next {
-    On(Cursor),
-    Full(u32),
-    Over,
-}
-
-// The bytes of data, or the magic word of the line that is too big.
-#[derive(Drop)]
-pub enum Measured {
-    Length(u32),
-    Big(u32),
 }
 
 fn align_of(w: Width, t: &[u32], u: Span) -> u32
@@ -106,29 +91,31 @@ fn cursor_behind(u: Span, k: u32, more: u32, s: Cursor) -> Cursor
     }
 }
 
-fn add_line(w: Width, u: Span, k: u32, more: u32, s: Cursor) -> Next
+// Where a line leads: on, or past the limit at its magic word.
+fn add_line(w: Width, u: Span, k: u32, more: u32, s: Cursor) -> Result<Option<Cursor>, u32>
     ensures { result ≡ add_line w u k more s }
 {
     if room_behind(w, s.size) < more as usize {
-        return Next::Full(u.word);
+        return Err(u.word);
     }
-    Next::On(cursor_behind(u, k, more, s))
+    Ok(Some(cursor_behind(u, k, more, s)))
 }
 
-fn next_of(w: Width, t: &[u32], end: u32, u: Span, k: u32, s: Cursor) -> Next
+// Where a unit leads: on, to the end, or past the limit at its magic word.
+fn next_of(w: Width, t: &[u32], end: u32, u: Span, k: u32, s: Cursor) -> Result<Option<Cursor>, u32>
     requires { u.word < limits.greatest_word }
     ensures { result ≡ next_of w t.now end u k s }
 {
     if k == Kind::EDGE {
-        return Next::Over;
+        return Ok(None);
     }
     if u.word < end {
         return add_line(w, u, k, size_of(w, t, u, k, s.section, s.size), s);
     }
-    Next::Over
+    Ok(None)
 }
 
-fn next_at(w: Width, t: &[u32], end: u32, s: Cursor) -> Next
+fn next_at(w: Width, t: &[u32], end: u32, s: Cursor) -> Result<Option<Cursor>, u32>
     requires { CursorFits t.now s }
     ensures { result ≡ next_at w t.now end s }
 {
@@ -137,24 +124,15 @@ fn next_at(w: Width, t: &[u32], end: u32, s: Cursor) -> Next
     next_of(w, t, end, u, k, s)
 }
 
-fn measure_from(w: Width, t: &[u32], end: u32, start: Cursor) -> Measured
+fn measure_from(w: Width, t: &[u32], end: u32, start: Cursor) -> Result<u32, u32>
     requires { CursorFits t.now start }
     ensures { result ≡ measure_from w t.now end start }
 {
     let mut s = start;
-    loop {
-        match next_at(w, t, end, s) {
-            Next::On(y) => {
-                s = y;
-            }
-            Next::Full(i) => {
-                return Measured::Big(i);
-            }
-            Next::Over => {
-                return Measured::Length(s.size);
-            }
-        }
+    while let Some(y) = next_at(w, t, end, s)? {
+        s = y;
     }
+    Ok(s.size)
 }
 
 fn first_cursor() -> Cursor
@@ -168,7 +146,7 @@ fn first_cursor() -> Cursor
 }
 
 // The bytes of all lines before the token `end`, or the magic word of the first that is too big.
-pub fn measure(w: Width, t: &[u32], end: u32) -> Measured
+pub fn measure(w: Width, t: &[u32], end: u32) -> Result<u32, u32>
     requires { length t.now ≡ limits.token_words }
     ensures { result ≡ measure_of w t.now end }
 {
@@ -180,14 +158,9 @@ fn write_number(count: usize, value: u32, out: &mut [u8])
     ensures { out.new ≡ overlay (word_bytes count value) out.old }
 {
     let mut v = value;
-    let mut k: usize = 0;
-    while k < out.len() {
-        if count <= k {
-            return;
-        }
+    for k in 0..count.min(out.len()) {
         out[k] = (v % 256) as u8;
-        v = v / 256;
-        k += 1;
+        v /= 256;
     }
 }
 
@@ -223,24 +196,17 @@ fn put_line(w: Width, s: &[u8], t: &[u32], u: Span, k: u32, size: u32, out: &mut
     }
 }
 
-fn lay_step(w: Width, s: &[u8], t: &[u32], c: Cursor, out: &mut [u8]) -> Next
+fn lay_step(w: Width, s: &[u8], t: &[u32], c: Cursor, out: &mut [u8]) -> Result<Option<Cursor>, u32>
     requires { CursorFits t.now c }
     ensures { laid result out.new out.new ≡ lay_step w s.now t.now (laying c out.old) }
 {
     let u = parse_lines::unit_at(t, c.at);
     let k = parse_lines::line_kind(t, u.word);
-    match next_of(w, t, 4098, u, k, c) {
-        Next::On(y) => {
-            put_line(w, s, t, u, k, c.size, out);
-            return Next::On(y);
-        }
-        Next::Full(i) => {
-            return Next::Full(i);
-        }
-        Next::Over => {
-            return Next::Over;
-        }
+    let next = next_of(w, t, 4098, u, k, c)?;
+    if next.is_some() {
+        put_line(w, s, t, u, k, c.size, out);
     }
+    Ok(next)
 }
 
 fn lay_from(w: Width, s: &[u8], t: &[u32], start: Cursor, out: &mut [u8])
@@ -250,25 +216,10 @@ fn lay_from(w: Width, s: &[u8], t: &[u32], start: Cursor, out: &mut [u8])
     let mut c = start;
     loop {
         match lay_step(w, s, t, c, out) {
-            Next::On(y) => {
-                c = y;
-            }
-            Next::Full(_) => {
-                return;
-            }
-            Next::Over => {
-                return;
-            }
+            Ok(Some(y)) => c = y,
+            Ok(None) => return,
+            Err(_) => return,
         }
-    }
-}
-
-fn length_in(m: Measured) -> u32
-    ensures { result ≡ length_in m }
-{
-    match m {
-        Measured::Length(n) => n,
-        Measured::Big(_) => 0,
     }
 }
 
@@ -277,7 +228,7 @@ pub fn address_of(w: Width, t: &[u32], word: u32) -> u32
     requires { length t.now ≡ limits.token_words }
     ensures { result ≡ address_of w t.now word }
 {
-    length_in(measure(w, t, word))
+    measure(w, t, word).unwrap_or(0)
 }
 
 // The data of the source s, over a buffer that is zeros where an `align` fills.

@@ -12,8 +12,8 @@ use Rattle.prog_tables.specs.Hosts.{Hosts}
 use Rattle.res_hosts.specs.Marks.{host_list}
 use Rattle.res_hosts.specs.Lister.{lister_hosts}
 use Rattle.check_source.specs.Check.{Filled, filled, lent, check_of}
-use Rattle.check_source.specs.declared.Checked.{Checked}
-use Rattle.check_source.specs.declared.Checked.TheVariants.{Accepted, Refused}
+use Rattle.std.proofs.Common.{Ok, Err}
+use Rattle.check_source.specs.Checked.{Checked, Counts, Refusal}
 use Rattle.test_lines.specs.Lines.{starts_with}
 use Rattle.test_lines.specs.Sources.{source, is_source}
 use Rattle.test_text.specs.Answers.{add_all, rejected_bytes}
@@ -29,14 +29,14 @@ use Rattle.test_cases.specs.Lines.{begun-word, refused-word, broken-word, going-
 
 -- `with_checked`
 module _ (x : Checked) (q z : Progress) (got : List ℕ) where
-  pub checked-accepted : (tokens statements labels size : ℕ) → x ≡ Accepted tokens statements labels size → z ≡ counted_of q statements labels size → on z got ≡ with_checked x q got
+  pub checked-accepted : (p : Counts) → x ≡ Ok p → z ≡ counted_of q p.statements p.labels p.size → on z got ≡ with_checked x q got
   unfolding with_checked
-  checked-accepted tokens statements labels size e f = rw (e, f)
+  checked-accepted p e f = rw (e, f)
 
-  pub checked_refused : (number place n : ℕ) (u : List ℕ) → x ≡ Refused number place → source n u ≡ add_all (rejected_bytes number place) (source 0 got) → z ≡ answered_of q n
+  pub checked_refused : (r : Refusal) (n : ℕ) (u : List ℕ) → x ≡ Err r → source n u ≡ add_all (rejected_bytes r.number r.place) (source 0 got) → z ≡ answered_of q n
       → on z u ≡ with_checked x q got
   unfolding with_checked
-  checked_refused number place n u e f g = rw (e, ← f, g)
+  checked_refused r n u e f g = rw (e, ← f, g)
 
 pub ruleset with-checked-ways = (checked-accepted, checked_refused)
 

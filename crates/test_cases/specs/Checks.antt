@@ -1,13 +1,12 @@
 -- The check of a case, and the tables it leaves.
 -- Assumes nothing.
-use Rattle.std.specs.Prelude.{ℕ, List, take}
+use Rattle.std.specs.Prelude.{ℕ, List, take, Ok, Err}
 use Rattle.base_prelude.specs.Choice.{if_true}
 use Rattle.base_limits.specs.declared.Width.TheVariants.{Bits32}
 use Rattle.vm_definitions.specs.Access.{store_from}
 use Rattle.res_hosts.specs.Lister.{lister_hosts}
 use Rattle.check_source.specs.Check.{Filled, Lent, lent, check_of}
-use Rattle.check_source.specs.declared.Checked.{Checked}
-use Rattle.check_source.specs.declared.Checked.TheVariants.{Accepted, Refused}
+use Rattle.check_source.specs.Checked.{Checked}
 use Rattle.test_lines.specs.Sources.{source}
 use Rattle.test_text.specs.Answers.{add_all, rejected_bytes}
 use Rattle.test_state.specs.declared.Progress.{Progress}
@@ -16,9 +15,9 @@ use Rattle.test_state.specs.Source.{close_body}
 
 -- the answer of a check, in the progress; a refusal waits for its line
 unfoldable pub with_checked : Checked → Progress → List ℕ → On
-with_checked (Accepted tokens statements labels size) q got = on (counted_of q statements labels size) got
-with_checked (Refused number place) q got =
-    answered_by q (add_all (rejected_bytes number place) (source 0 got))
+with_checked (Ok p) q got = on (counted_of q p.statements p.labels p.size) got
+with_checked (Err r) q got =
+    answered_by q (add_all (rejected_bytes r.number r.place) (source 0 got))
 
 -- all tables lent whole
 unfoldable pub full_tables : Lent

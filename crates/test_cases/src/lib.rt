@@ -6,8 +6,8 @@ ghost use Rattle.test_state.specs.Progress.{on};
 ghost use Rattle.test_cases.specs.Checks.{with_checked, kept, check_source, once, check_once};
 ghost use Rattle.test_cases.specs.Lines.{is_call, is_answer, is_view, is_text, done, read_checked, lined, read_behind, read_line};
 
-use base_limits::{Machine, Width};
-use check_source::Checked;
+use base_limits::{Machine, Refusal, Width};
+use check_source::Counts;
 use prog_tables::Table;
 use test_calls::{is_start, read_call};
 use test_lines::{Case, front, is_source, starts_with};
@@ -32,24 +32,17 @@ type Stack = [u32; Room::TWO_STACKS];
 // The memory lent, behind it the memory before the last call.
 type Memory = [u8; Room::TWO_MEMORIES];
 
-fn with_checked(x: Checked, q: Progress, got: &mut Text) -> Progress
+fn with_checked(x: Result<Counts, Refusal>, q: Progress, got: &mut Text) -> Progress
     ensures { on result got.new ≡ with_checked x q got.old }
 {
     match x {
-        Checked::Accepted {
-            tokens: _,
-            statements,
-            labels,
-            size,
-        } => with_counts(q, statements, labels, size),
-        Checked::Refused { number, place } => {
-            with_answer(q, test_text::add_rejected(number, place, got))
-        }
+        Ok(p) => with_counts(q, p.statements, p.labels, p.size),
+        Err(r) => with_answer(q, test_text::add_rejected(r.number, r.place, got)),
     }
 }
 
 // Checks a source against the list that the case runner lends, and keeps its tables.
-fn check_source(s: &[u8], t: &mut Rows, b: &mut Bytes) -> Checked
+fn check_source(s: &[u8], t: &mut Rows, b: &mut Bytes) -> Result<Counts, Refusal>
     ensures { kept result t.new b.new ≡ check_source s.now t.old b.old }
 {
     let mut tokens = [0u32; Machine::TOKEN_WORDS];

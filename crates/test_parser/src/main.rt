@@ -3,9 +3,9 @@
 
 ghost use Rattle.std.specs.Prelude.{◌≤◌, ◌<◌, length};
 
-use base_limits::Machine;
+use base_limits::{Machine, Refusal};
 use base_prelude::byte_at;
-use parse_outline::{Outline, Parsed};
+use parse_outline::{Outline, RowCounts};
 use test_lines::{
     Case, add_line, add_source, add_text, field, field_start, front, has_numbers, is_comment,
     is_source, line_end, narrow, one_more, place_of, starts_with, width_of,
@@ -99,10 +99,10 @@ fn refused(number: u32, place: u64) -> Answer {
     }
 }
 
-fn answer_of(x: Parsed) -> Answer {
+fn answer_of(x: Result<RowCounts, Refusal>) -> Answer {
     match x {
-        Parsed::Accepted { statements, labels } => accepted(statements as u64, labels as u64),
-        Parsed::Refused { number, place } => refused(number, place as u64),
+        Ok(c) => accepted(c.statements as u64, c.labels as u64),
+        Err(r) => refused(r.number, r.place as u64),
     }
 }
 

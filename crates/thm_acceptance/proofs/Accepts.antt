@@ -21,19 +21,17 @@ use Rattle.lex_source.specs.Lex.{Outcome, accepted, refused, lex_of}
 use Rattle.lex_source.specs.Rows.{token_table}
 use Rattle.lex_source.specs.Rows as rows
 use Rattle.parse_units.specs.Parse.{Result, parse_of}
-use Rattle.parse_units.specs.declared.Verdict.{Verdict}
-use Rattle.parse_units.specs.declared.Verdict.TheVariants as verdict
+use Rattle.parse_units.specs.Verdict.{Verdict}
 use Rattle.parse_outline.specs.Labels.{label_rows}
 use Rattle.parse_outline.specs.Outline.{Outlined, outline_of}
 use Rattle.parse_outline.specs.Outline as outline
-use Rattle.parse_outline.specs.declared.Parsed.{Parsed}
-use Rattle.parse_outline.specs.declared.Parsed.TheVariants as parsed
+use Rattle.parse_outline.specs.Parsed.{Parsed}
 use Rattle.res_skeleton.specs.Skeleton.{skeleton_of}
 use Rattle.res_names.specs.Naming.{Naming, names_of}
 use Rattle.res_exports.specs.Exports.{Exported, exports_of}
 use Rattle.res_data.specs.Sizes.{length_of, length_in, big_in, big_rule}
-use Rattle.res_data.specs.declared.Measured.{Measured}
-use Rattle.res_data.specs.declared.Measured.TheVariants.{Length, Big}
+use Rattle.std.specs.Prelude as prelude
+use Rattle.std.specs.Prelude.{Ok, Err}
 use Rattle.res_text.specs.Same.{same_text}
 use Rattle.parse_verdict.specs.Verdict.{Clean, all_faults, verdict_of, key_of, Rising}
 use Rattle.parse_verdict.specs.Lexing.{lex_faults, lex_key}
@@ -45,8 +43,8 @@ use Rattle.check_judge.specs.Judge.{Known, known, Judged, refusal, fine, size_gr
 use Rattle.check_judge.proofs.Hosted.{table-long, hosted-rising}
 use Rattle.res_hosts.proofs.Laws.{hosted-long}
 use Rattle.check_source.specs.Check.{Lent, Filled, refuse, has_room, accept, answer_to, check_of}
-use Rattle.check_source.specs.declared.Checked.{Checked}
-use Rattle.check_source.specs.declared.Checked.TheVariants.{Accepted, Refused}
+use Rattle.check_source.specs.Checked.{Checked}
+use Rattle.check_source.specs.Checked as checked
 use Rattle.thm_acceptance.specs.Faults.{all_name_faults, export_faults}
 use Rattle.thm_acceptance.specs.Accepts.{tokens_in, tokens_of, table_of, outlined, statements_in, labels_in, long_rule, names_in, name_faults, room_rule, later_groups, groups_of, judge, counts_in, counts_of, Holds, AllClean, is_accepted}
 use Rattle.thm_acceptance.specs.Unbroken.{NamesUnbroken, Listed, Unbroken}
@@ -60,10 +58,10 @@ use Rattle.thm_acceptance.proofs.PageNames.{clean-names, names-clean}
 
 -- ---- one group after the other
 
-judge-fault : (ks : List ℕ) (gs : List (List ℕ)) (a : Checked) (k : ℕ) → least_of ks ≡ k → k < none → judge (ks ∷ gs) a ≡ Refused (key_number k) (key_place k)
+judge-fault : (ks : List ℕ) (gs : List (List ℕ)) (a : Checked) (k : ℕ) → least_of ks ≡ k → k < none → judge (ks ∷ gs) a ≡ checked.refused (key_number k) (key_place k)
 unfolding judge
 judge-fault ks gs a k e h =
-    if_lt-yes _ _ (let z : least_of ks < none = omega arith in z) ∙ ap (λ (v : ℕ). Refused (key_number v) (key_place v)) e
+    if_lt-yes _ _ (let z : least_of ks < none = omega arith in z) ∙ ap (λ (v : ℕ). checked.refused (key_number v) (key_place v)) e
 
 judge-clean : (ks : List ℕ) (gs : List (List ℕ)) (a : Checked) → none ≤ least_of ks → judge (ks ∷ gs) a ≡ judge gs a
 unfolding judge
@@ -78,11 +76,11 @@ unfolding least_of
 one-least k h = min-eq_left h
 
 -- a group of one rule
-one-fault : (k p m : ℕ) (gs : List (List ℕ)) (a : Checked) → k ≡ key p m → p < 4294967296 → m < 64 → judge ((k ∷ []) ∷ gs) a ≡ Refused m p
+one-fault : (k p m : ℕ) (gs : List (List ℕ)) (a : Checked) → k ≡ key p m → p < 4294967296 → m < 64 → judge ((k ∷ []) ∷ gs) a ≡ checked.refused m p
 one-fault k p m gs a e hp hm =
     let f : key p m < none = key-fault p m hm in
     judge-fault (k ∷ []) gs a (key p m) (one-least k (omega arith) ∙ e) f
-    ∙ ap (λ (v : ℕ). Refused v (key_place (key p m))) (key-number p m hm) ∙ ap (λ (v : ℕ). Refused m v) (key-place p m hp hm)
+    ∙ ap (λ (v : ℕ). checked.refused v (key_place (key p m))) (key-number p m hm) ∙ ap (λ (v : ℕ). checked.refused m v) (key-place p m hp hm)
 
 one-clean : (k : ℕ) (gs : List (List ℕ)) (a : Checked) → k ≡ none → judge ((k ∷ []) ∷ gs) a ≡ judge gs a
 one-clean k gs a e = judge-clean (k ∷ []) gs a (omega (arith, one-least k (omega arith)))
@@ -93,31 +91,31 @@ said w s b j = (answer_to w s j b).answer
 
 module _ (w : Width) (s : List ℕ) (b : Lent) where
   -- 16
-  room-is : (p : Known) (size : ℕ) → said w s b (fine p size) ≡ judge ((room_rule b p.n p.c p.l size ∷ []) ∷ []) (Accepted p.n p.c p.l size)
+  room-is : (p : Known) (size : ℕ) → said w s b (fine p size) ≡ judge ((room_rule b p.n p.c p.l size ∷ []) ∷ []) (checked.accepted p.n p.c p.l size)
   unfolding answer_to accept refuse room_rule
   room-is p size = by (has_room b p.n p.c p.l size) refl
     where
       by : (h : Bool) → has_room b p.n p.c p.l size ≡ h
           → (if_true (has_room b p.n p.c p.l size) (accept w s p size b) (refuse 16 0 b)).answer
-          ≡ judge ((if_true (has_room b p.n p.c p.l size) none (key 0 16) ∷ []) ∷ []) (Accepted p.n p.c p.l size)
+          ≡ judge ((if_true (has_room b p.n p.c p.l size) none (key 0 16) ∷ []) ∷ []) (checked.accepted p.n p.c p.l size)
       by true e =
           ap (λ (x : Filled). x.answer) (if_true-yes (accept w s p size b) (refuse 16 0 b) e)
-          ∙ sym (one-clean _ [] (Accepted p.n p.c p.l size) (if_true-yes none (key 0 16) e) ∙ judge-end (Accepted p.n p.c p.l size))
+          ∙ sym (one-clean _ [] (checked.accepted p.n p.c p.l size) (if_true-yes none (key 0 16) e) ∙ judge-end (checked.accepted p.n p.c p.l size))
       by false e =
           ap (λ (x : Filled). x.answer) (if_true-no (accept w s p size b) (refuse 16 0 b) e)
-          ∙ sym (one-fault _ 0 16 [] (Accepted p.n p.c p.l size) (if_true-no none (key 0 16) e) (omega arith) (omega arith))
+          ∙ sym (one-fault _ 0 16 [] (checked.accepted p.n p.c p.l size) (if_true-no none (key 0 16) e) (omega arith) (omega arith))
 
-  refusal_is : (number place : ℕ) → said w s b (refusal number place) ≡ Refused number place
+  refusal_is : (number place : ℕ) → said w s b (refusal number place) ≡ checked.refused number place
   unfolding answer_to refuse
   refusal_is number place = refl
 
   -- 15
-  size_is : (p : Known) (m : Measured) → ((i : ℕ) → place_at p.t (length s) i < 4294967296)
+  size_is : (p : Known) (m : prelude.Result ℕ ℕ) → ((i : ℕ) → place_at p.t (length s) i < 4294967296)
       → said w s b (size_group (length s) p m)
-      ≡ judge ((big_in p.t (length s) m ∷ []) ∷ (room_rule b p.n p.c p.l (length_in m) ∷ []) ∷ []) (Accepted p.n p.c p.l (length_in m))
+      ≡ judge ((big_in p.t (length s) m ∷ []) ∷ (room_rule b p.n p.c p.l (length_in m) ∷ []) ∷ []) (checked.accepted p.n p.c p.l (length_in m))
   unfolding size_group big_in length_in key_at
-  size_is p (Length size) low = room-is p size ∙ sym (one-clean none _ (Accepted p.n p.c p.l size) refl)
-  size_is p (Big i) low =
+  size_is p (Ok size) low = room-is p size ∙ sym (one-clean none _ (checked.accepted p.n p.c p.l size) refl)
+  size_is p (Err i) low =
       refusal_is 15 (place_at p.t (length s) i)
       ∙ sym (one-fault (key (place_at p.t (length s) i) 15) (place_at p.t (length s) i) 15 _ _ refl (low i) (omega arith))
 
@@ -126,14 +124,14 @@ module _ (w : Width) (s : List ℕ) (b : Lent) where
     last_groups c l = (big_rule w t (length s) ∷ []) ∷ (room_rule b n c l (length_in (length_of w t)) ∷ []) ∷ []
 
     data_is : (c : ℕ) (k : List ℕ) (l : ℕ) (y flags : List ℕ)
-        → said w s b (size_group (length s) (known n t c k l y flags) (length_of w t)) ≡ judge (last_groups c l) (Accepted n c l (length_in (length_of w t)))
+        → said w s b (size_group (length s) (known n t c k l y flags) (length_of w t)) ≡ judge (last_groups c l) (checked.accepted n c l (length_in (length_of w t)))
     unfolding big_rule
     data_is c k l y flags = size_is (known n t c k l y flags) (length_of w t) r.low
 
     -- 10 to 13 and 17
     row_is : (c : ℕ) (k : List ℕ) (l : ℕ) (y : List ℕ)
         → said w s b (name_group w same (length s) n t c k l y)
-        ≡ judge (names_in same t (length s) k y l c ∷ last_groups c l) (Accepted n c l (length_in (length_of w t)))
+        ≡ judge (names_in same t (length s) k y l c ∷ last_groups c l) (checked.accepted n c l (length_in (length_of w t)))
     unfolding name_group fault_group names_judged names_with names_in
     row_is c k l y =
         let a = names_of same t (length s) k y l c in
@@ -154,9 +152,9 @@ module _ (w : Width) (s : List ℕ) (b : Lent) (n : ℕ) (t : List ℕ) (long : 
       → said w s b (outline_group w (same_text s t) (length s) n t (outline.answer_of v) x y)
       ≡ judge (later_groups w s b n t (outline.parsed (outline.answer_of v) x y)) (counts_in w n t (outline.answer_of v))
   unfolding outline_group outline.answer_of later_groups name_faults counts_in statements_in labels_in
-  outline-is (verdict.Accepted count labels) x y e h =
-      row_is w s b (same_text s t) n t r (count - 1) (skeleton_of x (count - 1)) labels y ∙ sym (judge-clean (all_faults w t (length s)) _ _ (omega arith))
-  outline-is (verdict.Refused k) x y e h = refusal_is w s b _ _ ∙ sym (judge-fault (all_faults w t (length s)) _ _ k (sym e) h)
+  outline-is (Ok v) x y e h =
+      row_is w s b (same_text s t) n t r (v.count - 1) (skeleton_of x (v.count - 1)) v.labels y ∙ sym (judge-clean (all_faults w t (length s)) _ _ (omega arith))
+  outline-is (Err k) x y e h = refusal_is w s b _ _ ∙ sym (judge-fault (all_faults w t (length s)) _ _ k (sym e) h)
 
   line-is : said w s b (line_group w (same_text s t) (length s) n t)
       ≡ judge (later_groups w s b n t (outline_of w t (length s))) (counts_in w n t (outline_of w t (length s)).answer)
@@ -181,8 +179,8 @@ module _ (w : Width) (h : Hosts) (s : List ℕ) (b : Lent) where
   long-is l =
       ap (λ (o : Outcome). said w s b (token_group w h s o)) (long-refused w s l)
       ∙ refusal_is w s b _ _
-      ∙ ap (λ (v : ℕ). Refused v (key_place (key 16384 1))) (key-number 16384 1 (omega arith))
-      ∙ ap (λ (v : ℕ). Refused 1 v) (key-place 16384 1 (omega arith) (omega arith))
+      ∙ ap (λ (v : ℕ). checked.refused v (key_place (key 16384 1))) (key-number 16384 1 (omega arith))
+      ∙ ap (λ (v : ℕ). checked.refused 1 v) (key-place 16384 1 (omega arith) (omega arith))
       ∙ sym (one-fault _ 16384 1 _ (counts_for (tokens_in (lex_of w s))) (if_lt-yes (key 16384 1) none l) (omega arith) (omega arith))
 
   lex-is : length s ≤ 16384 → (o : Outcome) → lex_of w s ≡ o → said w s b (token_group w h s o) ≡ judge (lex_faults w s ∷ later_of (tokens_in o)) (counts_for (tokens_in o))
@@ -219,7 +217,7 @@ passed-judge [] a h = judge-end a
 passed-judge (ks ∷ gs) a h = judge-clean ks gs a (all_none ks h.0) ∙ passed-judge gs a h.1
 
 judge-first : (before : List (List ℕ)) (ks : List ℕ) (behind : List (List ℕ)) (a : Checked) → AllClean before → least_of ks < none
-    → judge (before ++ (ks ∷ behind)) a ≡ Refused (key_number (least_of ks)) (key_place (least_of ks))
+    → judge (before ++ (ks ∷ behind)) a ≡ checked.refused (key_number (least_of ks)) (key_place (least_of ks))
 judge-first [] ks behind a h l = judge-fault ks behind a (least_of ks) refl l
 judge-first (js ∷ before) ks behind a h l =
     judge-clean js (before ++ (ks ∷ behind)) a (all_none js h.0) ∙ judge-first before ks behind a h.1 l
@@ -265,8 +263,8 @@ unfolding labels_in
 few-labels w t n e = by (outline_of w t n).answer refl
   where
     by : (a : Parsed) → (outline_of w t n).answer ≡ a → labels_in a ≤ 256
-    by (parsed.Accepted c l) q = (counts.accepted-counts w t n c l e q).1
-    by (parsed.Refused number place) q = omega arith
+    by (Ok x) q = (counts.accepted-counts w t n x.statements x.labels e q).1
+    by (Err r) q = omega arith
 
 rows-in-order : (w : Width) (t : List ℕ) (n : ℕ) → length t ≡ 32768
     → InOrder t (skeleton_of (outline_of w t n).rows (statements_in (outline_of w t n).answer)) (statements_in (outline_of w t n).answer)
@@ -274,9 +272,9 @@ unfolding statements_in
 rows-in-order w t n e = by (outline_of w t n).answer refl
   where
     by : (a : Parsed) → (outline_of w t n).answer ≡ a → InOrder t (skeleton_of (outline_of w t n).rows (statements_in a)) (statements_in a)
-    by (parsed.Accepted c l) q =
-        outline-order w t n c l (outline_of w t n).rows (outline_of w t n).labels e (ap (λ (v : Parsed). outline.parsed v (outline_of w t n).rows (outline_of w t n).labels) q)
-    by (parsed.Refused number place) q =
+    by (Ok x) q =
+        outline-order w t n x.statements x.labels (outline_of w t n).rows (outline_of w t n).labels e (ap (λ (v : Parsed). outline.parsed v (outline_of w t n).rows (outline_of w t n).labels) q)
+    by (Err r) q =
         record {
           runs = λ r g. let z : ⊥ = omega arith in absurd z;
           rows = λ r g. let z : ⊥ = omega arith in absurd z;
@@ -426,6 +424,6 @@ module _ (w : Width) (h : Hosts) (s : List ℕ) (b : Lent) where
 
   -- a refusal is the least fault of the first group that has one
   pub refuses-first : (before : List (List ℕ)) (ks : List ℕ) (behind : List (List ℕ)) → groups_of w h s b ≡ before ++ (ks ∷ behind) → AllClean before → least_of ks < none
-      → (check_of w h s b).answer ≡ Refused (key_number (least_of ks)) (key_place (least_of ks))
+      → (check_of w h s b).answer ≡ checked.refused (key_number (least_of ks)) (key_place (least_of ks))
   refuses-first before ks behind e c l =
       check-is w h s b ∙ ap (λ (gs : List (List ℕ)). judge gs (counts_of w h s)) e ∙ judge-first before ks behind (counts_of w h s) c l

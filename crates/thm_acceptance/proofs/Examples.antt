@@ -8,8 +8,7 @@ use Rattle.base_limits.specs.declared.Width.TheVariants.{Bits32}
 use Rattle.lex_source.specs.Rows.{rows_of}
 use Rattle.prog_tables.specs.Hosts.{Hosts}
 use Rattle.check_source.specs.Check.{Lent, lent}
-use Rattle.check_source.specs.declared.Checked.{Checked}
-use Rattle.check_source.specs.declared.Checked.TheVariants.{Accepted, Refused}
+use Rattle.check_source.specs.Checked.{Checked, accepted, refused}
 use Rattle.lang_kinds.specs.Grounds as ground
 use Rattle.thm_acceptance.specs.Lines.{Line, lines_of, statements_before, labels_before, open_before, locals_in, blocks_in, ground_before}
 use Rattle.thm_acceptance.specs.Accepts.{tokens_of, groups_of, judge, counts_of}
@@ -52,7 +51,7 @@ no-fault : leasts (groups_of Bits32 hosts plain (lent 64 54 4 64 0)) ≡ none �
 unfolding opened
 no-fault = refl
 
-counts : counts_of Bits32 hosts plain ≡ Accepted 8 2 1 0
+counts : counts_of Bits32 hosts plain ≡ accepted 8 2 1 0
 unfolding opened
 counts = refl
 
@@ -74,12 +73,12 @@ abbrev import-line : ℕ → List ℕ
 import-line c = 105 ∷ 109 ∷ 112 ∷ 111 ∷ 114 ∷ 116 ∷ 32 ∷ c ∷ 10 ∷ []
 
 listed-import : (leasts (groups_of Bits32 hosts (section-line ++ import-line 120) (lent 48 0 4 64 0)) ≡ none ∷ none ∷ none ∷ none ∷ none ∷ none ∷ [])
-    × (counts_of Bits32 hosts (section-line ++ import-line 120) ≡ Accepted 6 0 1 0)
+    × (counts_of Bits32 hosts (section-line ++ import-line 120) ≡ accepted 6 0 1 0)
 unfolding opened
 listed-import = (refl, refl)
 
 unlisted-import : (leasts (groups_of Bits32 hosts (section-line ++ import-line 121) (lent 48 0 4 64 0)) ≡ none ∷ none ∷ none ∷ key 25 10 ∷ none ∷ none ∷ [])
-    × (counts_of Bits32 hosts (section-line ++ import-line 121) ≡ Accepted 6 0 0 0)
+    × (counts_of Bits32 hosts (section-line ++ import-line 121) ≡ accepted 6 0 0 0)
 unfolding opened
 unlisted-import = (refl, refl)
 
@@ -106,7 +105,7 @@ unfolding opened
 import-used = refl
 
 -- the first group with a fault decides, with its least
-first_group : judge ((none ∷ []) ∷ (key 9 7 ∷ key 3 8 ∷ []) ∷ (key 1 10 ∷ []) ∷ []) (Accepted 8 2 1 0) ≡ Refused 8 3
+first_group : judge ((none ∷ []) ∷ (key 9 7 ∷ key 3 8 ∷ []) ∷ (key 1 10 ∷ []) ∷ []) (accepted 8 2 1 0) ≡ refused 8 3
 unfolding opened
 first_group = refl
 

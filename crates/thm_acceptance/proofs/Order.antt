@@ -24,14 +24,15 @@ use Rattle.parse_units.specs.Places.{ground_in}
 use Rattle.parse_units.specs.Parse.{World, world, put_state, put_kind, grow_two, grow_by, join_state, state_behind, advance, Result, parse_result, open_row, fault_in, unit_step_on, unit_step, begin, parse_from, parse_of}
 use Rattle.parse_units.specs.Fits.{UnitStepFits}
 use Rattle.parse_units.specs.declared.Row.{Row}
-use Rattle.parse_units.specs.declared.Verdict.{Verdict}
-use Rattle.parse_units.specs.declared.Verdict.TheVariants as verdict
+use Rattle.std.proofs.Common.{Ok, Err}
+use Rattle.parse_units.specs.Verdict.{Verdict}
+use Rattle.parse_units.specs.Verdict as verdict
 use Rattle.parse_units.proofs.Bounds.{unit-order, line-some, clean-room, unit-clean}
 use Rattle.parse_units.proofs.UnitSteps.{UnitStepGood, unit-step-good}
 use Rattle.parse_outline.specs.Outline.{answer_of, outline_of, Outlined}
 use Rattle.parse_outline.specs.Outline as outline
-use Rattle.parse_outline.specs.declared.Parsed.{Parsed}
-use Rattle.parse_outline.specs.declared.Parsed.TheVariants as answer
+use Rattle.parse_outline.specs.Parsed.{Parsed}
+use Rattle.parse_outline.specs.Parsed as answer
 use Rattle.res_skeleton.specs.Skeleton.{skeleton_of}
 use Rattle.res_scope.specs.Lines.{first_token, end_token}
 use Rattle.thm_outline.proofs.Puts.{put-before, put_same, length-put}
@@ -95,8 +96,8 @@ abbrev Good : List ℕ → World → Type 0
 Good t y = UnitStepFits t y.table y.state × (y.state.labels ≤ y.state.at) × InOrder y.state.at y
 
 abbrev Answer : List ℕ → Verdict → Type 0
-Answer rows (verdict.Accepted count labels) = (m : ℕ) → 1 ≤ m → m + 1 < count → (row_at rows m).next ≤ (row_at rows (m + 1)).token
-Answer rows (verdict.Refused k) = Unit {0}
+Answer rows (Ok x) = (m : ℕ) → 1 ≤ m → m + 1 < x.count → (row_at rows m).next ≤ (row_at rows (m + 1)).token
+Answer rows (Err k) = Unit {0}
 
 abbrev Led : Step World Result → Type 0
 Led (go y) = InOrder y.state.at y
@@ -139,25 +140,25 @@ begin-good t e = (
 parse-order : (w : Width) (t : List ℕ) (n : ℕ) → length t ≡ 32768 → Answer (parse_of w t n).outline (parse_of w t n).verdict
 unfolding parse_of parse_from
 parse-order w t n e =
-    walk_kept (Good t) (λ (r : Result). Answer r.outline r.verdict) (unit_step w t n) (parse_result (verdict.Refused none) []) tt (unit-step-kept w t n) (suc (length t)) (world begin (zeros 8200)) (begin-good t e)
+    walk_kept (Good t) (λ (r : Result). Answer r.outline r.verdict) (unit_step w t n) (parse_result (verdict.refused none) []) tt (unit-step-kept w t n) (suc (length t)) (world begin (zeros 8200)) (begin-good t e)
 
 abbrev Told : List ℕ → Parsed → Type 0
-Told rows (answer.Accepted c l) = (m : ℕ) → m + 1 < c → (row_at rows (m + 1)).next ≤ (row_at rows (m + 2)).token
-Told rows (answer.Refused number place) = Unit {0}
+Told rows (Ok x) = (m : ℕ) → m + 1 < x.statements → (row_at rows (m + 1)).next ≤ (row_at rows (m + 2)).token
+Told rows (Err r) = Unit {0}
 
 answer-told : (rows : List ℕ) (v : Verdict) → Answer rows v → Told rows (answer_of v)
 unfolding answer_of
-answer-told rows (verdict.Accepted count labels) h =
+answer-told rows (Ok x) h =
     λ m g. let e : m + 1 + 1 ≡ m + 2 = omega arith in subst (λ (i : ℕ). (row_at rows (m + 1)).next ≤ (row_at rows i).token) e (h (m + 1) (omega arith) (omega arith))
-answer-told rows (verdict.Refused k) h = tt
+answer-told rows (Err k) h = tt
 
 outline-told : (w : Width) (t : List ℕ) (n : ℕ) → length t ≡ 32768 → Told (outline_of w t n).rows (outline_of w t n).answer
 unfolding outline_of
 outline-told w t n e = answer-told (parse_of w t n).outline (parse_of w t n).verdict (parse-order w t n e)
 
 -- of the skeleton's rows
-module _ (w : Width) (t : List ℕ) (n c l : ℕ) (x y : List ℕ) (e : length t ≡ 32768) (h : outline_of w t n ≡ outline.parsed (answer.Accepted c l) x y) where
-  told : Told x (answer.Accepted c l)
+module _ (w : Width) (t : List ℕ) (n c l : ℕ) (x y : List ℕ) (e : length t ≡ 32768) (h : outline_of w t n ≡ outline.parsed (answer.accepted c l) x y) where
+  told : Told x (answer.accepted c l)
   told = subst (λ (o : Outlined). Told o.rows o.answer) h (outline-told w t n e)
 
   pub rows-ordered : (m : ℕ) → m + 1 < c → end_token (skeleton_of x c) m ≤ first_token (skeleton_of x c) (m + 1)

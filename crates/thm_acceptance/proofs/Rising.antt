@@ -17,7 +17,7 @@ use Rattle.parse_lines.proofs.Scans.{skip-from}
 use Rattle.parse_shapes.specs.Shapes.{is_name, is_operator, operands_from, call_from, operator_from, operand_at, symbol_from, expression_from}
 use Rattle.parse_outline.specs.Outline.{outline_of}
 use Rattle.parse_outline.specs.Outline as outline
-use Rattle.parse_outline.specs.declared.Parsed.TheVariants as answer
+use Rattle.parse_outline.specs.Parsed as answer
 use Rattle.parse_verdict.specs.Verdict.{All}
 use Rattle.prog_tables.specs.Layout.{call_expression}
 use Rattle.prog_tables.specs.Statement.{row_at}
@@ -367,7 +367,7 @@ module _ (same : ℕ → ℕ → Bool) (t k y : List ℕ) (l c j e : ℕ) where
   least_first f d = none-uses c 0 (λ q a b. f q (omega arith)) d
 
 -- the rows of an accepted source are in order
-pub outline-order : (w : Width) (t : List ℕ) (n c l : ℕ) (x y : List ℕ) → length t ≡ 32768 → outline_of w t n ≡ outline.parsed (answer.Accepted c l) x y → InOrder t (skeleton_of x c) c
+pub outline-order : (w : Width) (t : List ℕ) (n c l : ℕ) (x y : List ℕ) → length t ≡ 32768 → outline_of w t n ≡ outline.parsed (answer.accepted c l) x y → InOrder t (skeleton_of x c) c
 outline-order w t n c l x y e h =
     record {
       runs = λ r g.

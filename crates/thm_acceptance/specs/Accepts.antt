@@ -1,7 +1,7 @@
 -- The verdict of the whole check, over the whole source: "Check order: 1; 2 to 6 with 14 for tokens; 7, 8, 9 and other 14; 10 to 13 and 17; 15;
 -- 16. In each group the lowest place, then the lowest number."
 -- Assumes nothing.
-use Rattle.std.specs.Prelude.{ℕ, ◌≤◌, ◌≡◌, Bool, true, false, List, [], ◌∷◌, ◌++◌, length}
+use Rattle.std.specs.Prelude.{ℕ, ◌≤◌, ◌≡◌, Bool, true, false, List, [], ◌∷◌, ◌++◌, length, Ok, Err}
 use Rattle.base_prelude.specs.Choice.{if_lt, if_true}
 use Rattle.base_prelude.specs.Fault.{none, key, key_number, key_place, least_of}
 use Rattle.base_limits.specs.Limits.{source_bytes}
@@ -10,8 +10,7 @@ use Rattle.lex_source.specs.Token.{Token}
 use Rattle.lex_source.specs.Lex.{Outcome, accepted, refused, lex_of}
 use Rattle.prog_tables.specs.Hosts.{Hosts}
 use Rattle.parse_outline.specs.Outline.{Outlined, outline_of}
-use Rattle.parse_outline.specs.declared.Parsed.{Parsed}
-use Rattle.parse_outline.specs.declared.Parsed.TheVariants as parsed
+use Rattle.parse_outline.specs.Parsed.{Parsed}
 use Rattle.res_skeleton.specs.Skeleton.{skeleton_of}
 use Rattle.res_names.specs.Naming.{Naming, names_of}
 use Rattle.res_data.specs.Sizes.{length_of, length_in, big_rule}
@@ -20,8 +19,8 @@ use Rattle.parse_verdict.specs.Verdict.{Clean, all_faults}
 use Rattle.parse_verdict.specs.Lexing.{lex_faults}
 use Rattle.check_judge.specs.Judge.{hosted_table}
 use Rattle.check_source.specs.Check.{Lent, has_room}
-use Rattle.check_source.specs.declared.Checked.{Checked}
-use Rattle.check_source.specs.declared.Checked.TheVariants.{Accepted, Refused}
+use Rattle.check_source.specs.Checked.{Checked}
+use Rattle.check_source.specs.Checked as checked
 use Rattle.thm_acceptance.specs.Faults.{all_name_faults, export_faults}
 
 -- ---- what a source has: its tokens ts, statements and labels; none where it is refused
@@ -41,12 +40,12 @@ abbrev pub outlined : Width → Hosts → List ℕ → Outlined
 outlined w h s = outline_of w (table_of w h s) (length s)
 
 unfoldable pub statements_in : Parsed → ℕ
-statements_in (parsed.Accepted c l) = c
-statements_in (parsed.Refused number place) = 0
+statements_in (Ok x) = x.statements
+statements_in (Err r) = 0
 
 unfoldable pub labels_in : Parsed → ℕ
-labels_in (parsed.Accepted c l) = l
-labels_in (parsed.Refused number place) = 0
+labels_in (Ok x) = x.labels
+labels_in (Err r) = 0
 
 -- ---- the groups
 
@@ -85,11 +84,11 @@ groups_of w h s b =
 -- the least fault of the first group that has one, else the answer a
 unfoldable pub judge : List (List ℕ) → Checked → Checked
 judge [] a = a
-judge (ks ∷ gs) a = if_lt (least_of ks) none (Refused (key_number (least_of ks)) (key_place (least_of ks))) (judge gs a)
+judge (ks ∷ gs) a = if_lt (least_of ks) none (checked.refused (key_number (least_of ks)) (key_place (least_of ks))) (judge gs a)
 
 -- the counts of a source
 unfoldable pub counts_in : Width → ℕ → List ℕ → Parsed → Checked
-counts_in w n t a = Accepted n (statements_in a) (labels_in a) (length_in (length_of w t))
+counts_in w n t a = checked.accepted n (statements_in a) (labels_in a) (length_in (length_of w t))
 
 unfoldable pub counts_of : Width → Hosts → List ℕ → Checked
 counts_of w h s = counts_in w (length (tokens_of w s)) (table_of w h s) (outlined w h s).answer
@@ -107,5 +106,5 @@ Holds w h s b =
     ≡ true
 
 abbrev pub is_accepted : Checked → Bool
-is_accepted (Accepted n c l size) = true
-is_accepted (Refused number place) = false
+is_accepted (Ok x) = true
+is_accepted (Err r) = false

@@ -12,7 +12,7 @@ use Rattle.prog_tables.proofs.Samples.{program}
 use Rattle.res_hosts.specs.Lister.{lister_hosts}
 use Rattle.thm_acceptance.specs.Accepts.{is_accepted}
 use Rattle.check_source.specs.Check.{lent}
-use Rattle.check_source.specs.declared.Checked.TheVariants.{Refused}
+use Rattle.check_source.specs.Checked.{refused}
 use Rattle.thm_soundness.specs.Program.{program_by, program_of}
 use Rattle.vm_definitions.specs.Claim.{Demand}
 use Rattle.thm_demand.specs.CaseImport.{source, import-check, no_hosts, CaseImport}
@@ -35,7 +35,7 @@ unfolding checking.opened program_by
 import-checked = (refl, refl)
 
 -- 10 at the import's name
-pub import-refused : (import-check no_hosts).answer ≡ Refused 10 25
+pub import-refused : (import-check no_hosts).answer ≡ refused 10 25
 unfolding checking.opened
 import-refused = refl
 

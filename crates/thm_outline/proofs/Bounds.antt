@@ -15,8 +15,8 @@ use Rattle.base_prelude.specs.Lists.{zeros}
 use Rattle.base_prelude.specs.Walk.{Step, go, stop}
 use Rattle.base_prelude.proofs.Walk.{Kept, walk_kept}
 use Rattle.base_limits.specs.declared.Width.{Width}
-use Rattle.parse_units.specs.declared.Verdict.{Verdict}
-use Rattle.parse_units.specs.declared.Verdict.TheVariants.{Accepted, Refused}
+use Rattle.std.proofs.Common.{Ok, Err}
+use Rattle.parse_units.specs.Verdict.{Verdict, refused}
 use Rattle.parse_units.proofs.Bounds.{clean-room, clean-lets, clean-deep, unit-clean}
 use Rattle.parse_units.specs.Outline as outline
 use Rattle.parse_units.specs.Outline.{put_row}
@@ -278,8 +278,8 @@ pub record Bounded (x : List ℕ) (n : ℕ) : Type 0 where
   pub rows_few : (m : ℕ) → m < c → few_locals (view_of x) m ≡ true
 
 abbrev pub Bounds : Verdict → List ℕ → Type 0
-Bounds (Accepted count labels) x = Bounded x count
-Bounds (Refused k) x = Unit {0}
+Bounds (Ok v) x = Bounded x v.count
+Bounds (Err k) x = Unit {0}
 
 abbrev Onward : Step World Result → Type 0
 Onward (go x) = BehindOf x
@@ -337,5 +337,5 @@ begin-behind =
 pub parse-answers : (w : Width) (t : List ℕ) (n : ℕ) → length t ≡ 32768 → Answers (parse_of w t n)
 unfolding parse_of parse_from
 parse-answers w t n e =
-    walk_kept (Ready t) Answers (unit_step w t n) (parse_result (Refused none) []) (tt, tt) (λ x g. unit-step-ready w t n x g.0 g.1)
+    walk_kept (Ready t) Answers (unit_step w t n) (parse_result (refused none) []) (tt, tt) (λ x g. unit-step-ready w t n x g.0 g.1)
     (suc (length t)) (world begin (zeros 8200)) (begin-between t e, begin-behind)

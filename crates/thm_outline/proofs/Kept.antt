@@ -27,8 +27,8 @@ use Rattle.parse_units.specs.Outline as outline
 use Rattle.parse_units.specs.Places as places
 use Rattle.parse_units.specs.Parse.{World, world, Result, begin, put_state, put_kind, grow_two, grow_by, section_behind, state_behind, join_state, advance, open_row, fault_in, unit_step_on, unit_step}
 use Rattle.parse_units.specs.Fits.{UnitStepFits}
-use Rattle.parse_units.specs.declared.Verdict.{Verdict}
-use Rattle.parse_units.specs.declared.Verdict.TheVariants.{Accepted, Refused}
+use Rattle.std.proofs.Common.{Ok, Err}
+use Rattle.parse_units.specs.Verdict.{Verdict, accepted}
 use Rattle.parse_units.proofs.Cases.{row_put}
 use Rattle.parse_units.proofs.Bounds.{clean-room, unit-clean}
 use Rattle.parse_units.proofs.UnitSteps.{UnitStepGood, unit-step-good}
@@ -273,8 +273,8 @@ closed t x h l =
 
 -- an answer: of an accepted source all rows stand, and nothing is open behind them
 abbrev pub Nests : Verdict → List ℕ → Type 0
-Nests (Accepted count labels) x = Whole x count 0 × (count ≤ 1025)
-Nests (Refused k) x = Unit {0}
+Nests (Ok v) x = Whole x v.count 0 × (v.count ≤ 1025)
+Nests (Err k) x = Unit {0}
 
 abbrev Onward : Step World Result → Type 0
 Onward (go x) = WholeOf x × (x.state.section < 4)
@@ -294,7 +294,7 @@ module _ (w : Width) (t : List ℕ) (n : ℕ) (x : World) (h : Between t x) wher
     section-low (line_kind t (unit_at t x.state.at).word) x.state.section h.section,
   )
 
-  end-nests : none ≤ fault_in w t n (unit_at t x.state.at) x → line_kind t (unit_at t x.state.at).word ≡ 0 → Nests (Accepted x.state.count x.state.labels) x.table
+  end-nests : none ≤ fault_in w t n (unit_at t x.state.at) x → line_kind t (unit_at t x.state.at).word ≡ 0 → Nests (accepted x.state.count x.state.labels) x.table
   end-nests c e =
       let p = clean-place w t n (unit_at t x.state.at) (line_kind t (unit_at t x.state.at).word) (places.ground_in x.state (open_row x)) x.state (unit-clean w t n (unit_at t x.state.at) x c) in
       let z : x.state.top ≡ 0 = closed t x h (omega (arith, p.1, end-range _ e)) in

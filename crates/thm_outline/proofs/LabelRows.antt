@@ -30,8 +30,8 @@ use Rattle.parse_units.specs.Parse.{World, world, Result, parse_result, begin, g
 use Rattle.parse_units.specs.Fits.{UnitStepFits}
 use Rattle.parse_units.specs.declared.Row as outlined
 use Rattle.parse_units.specs.declared.State.{State}
-use Rattle.parse_units.specs.declared.Verdict.{Verdict}
-use Rattle.parse_units.specs.declared.Verdict.TheVariants.{Accepted, Refused}
+use Rattle.std.proofs.Common.{Ok, Err}
+use Rattle.parse_units.specs.Verdict.{Verdict, refused}
 use Rattle.parse_units.proofs.Bounds.{unit-order, clean-room, unit-clean}
 use Rattle.parse_units.proofs.UnitSteps.{UnitStepGood, unit-step-good}
 use Rattle.parse_outline.specs.Labels as marks
@@ -39,8 +39,8 @@ use Rattle.parse_outline.specs.Labels.{label_number, Marked, marked, mark_before
 use Rattle.parse_outline.specs.declared.Marks.{Marks}
 use Rattle.parse_outline.proofs.Cases.{unit_kept}
 use Rattle.parse_outline.specs.Outline.{answer_of, Outlined, parsed, outline_of}
-use Rattle.parse_outline.specs.declared.Parsed.{Parsed}
-use Rattle.parse_outline.specs.declared.Parsed.TheVariants as answer
+use Rattle.parse_outline.specs.Parsed.{Parsed}
+use Rattle.parse_outline.specs.Parsed as answer
 use Rattle.parse_verdict.proofs.Counts.{accepted-counts}
 use Rattle.res_skeleton.specs.Skeleton.{skeleton_of}
 use Rattle.res_skeleton.proofs.Laws.{kind-is}
@@ -324,29 +324,29 @@ module _ (w : Width) (t : List ℕ) (n : ℕ) (x : World) (m : Marking) (h : Lin
 
 -- an answer, its outline, and label rows
 abbrev Answered : List ℕ → Verdict → List ℕ → List ℕ → Type 0
-Answered t (Accepted count labels) x y = Each (Labels t x count) y labels
-Answered t (Refused key) x y = Unit {0}
+Answered t (Ok v) x y = Each (Labels t x v.count) y v.labels
+Answered t (Err key) x y = Unit {0}
 
 abbrev Rowed : List ℕ → Result → List ℕ → Type 0
 Rowed t r y = Answered t r.verdict r.outline y
 
 walks-linked : (w : Width) (t : List ℕ) (n fuel : ℕ) (x : World) (m : Marking) → Linked t x m
-    → Rowed t (walk (unit_step w t n) (parse_result (Refused none) []) fuel x) (walk (mark_step t) [] fuel m)
+    → Rowed t (walk (unit_step w t n) (parse_result (refused none) []) fuel x) (walk (mark_step t) [] fuel m)
 unfolding walk
 walks-linked w t n zero x m h = tt
 walks-linked w t n (suc fuel) x m h =
     elim (dec_lt (fault_in w t n (unit_at t x.state.at) x) none) [
-      | yes l ↦ subst (λ (r : Result). Rowed t r (walk (mark_step t) [] (suc fuel) m)) (sym (walk-stop (unit_step w t n) (parse_result (Refused none) []) fuel x _ (refused-step w t n x l))) tt
+      | yes l ↦ subst (λ (r : Result). Rowed t r (walk (mark_step t) [] (suc fuel) m)) (sym (walk-stop (unit_step w t n) (parse_result (refused none) []) fuel x _ (refused-step w t n x l))) tt
       | no l ↦
           let c : none ≤ fault_in w t n (unit_at t x.state.at) x = omega arith in
           elim (ℕ_discrete (line_kind t (unit_at t x.state.at).word) 0) [
             | yes e ↦
-                subst (λ (r : Result). Rowed t r (walk (mark_step t) [] (suc fuel) m)) (sym (walk-stop (unit_step w t n) (parse_result (Refused none) []) fuel x _ (end_step w t n x c e)))
+                subst (λ (r : Result). Rowed t r (walk (mark_step t) [] (suc fuel) m)) (sym (walk-stop (unit_step w t n) (parse_result (refused none) []) fuel x _ (end_step w t n x c e)))
                 (subst (λ (y : List ℕ). Each (Labels t x.table x.state.count) y x.state.labels)
                 (sym (walk-stop (mark_step t) [] fuel m _ (mark-end w t n x m h e) ∙ ap (λ (y : Marked). y.table) (end-plain w t n x m h c e))) h.each)
             | no d ↦
-                subst (λ (r : Result). Rowed t r (walk (mark_step t) [] (suc fuel) m)) (sym (walk-go (unit_step w t n) (parse_result (Refused none) []) fuel x _ (go_step w t n x c d)))
-                (subst (λ (y : List ℕ). Rowed t (walk (unit_step w t n) (parse_result (Refused none) []) fuel (advance t n (unit_at t x.state.at) (line_kind t (unit_at t x.state.at).word) x)) y)
+                subst (λ (r : Result). Rowed t r (walk (mark_step t) [] (suc fuel) m)) (sym (walk-go (unit_step w t n) (parse_result (refused none) []) fuel x _ (go_step w t n x c d)))
+                (subst (λ (y : List ℕ). Rowed t (walk (unit_step w t n) (parse_result (refused none) []) fuel (advance t n (unit_at t x.state.at) (line_kind t (unit_at t x.state.at).word) x)) y)
                 (sym (walk-go (mark_step t) [] fuel m _ (mark-go w t n x m h d)))
                 (walks-linked w t n fuel _ _ (linked_on w t n x m h c d)))
           ]
@@ -379,14 +379,14 @@ parse-rowed w t n e = walks-linked w t n (suc (length t)) (world begin (zeros 82
 -- ---- the outline
 
 abbrev RowedBy : List ℕ → Parsed → List ℕ → List ℕ → Type 0
-RowedBy t (answer.Accepted c l) x y = Each (Labels t x (suc c)) y l
-RowedBy t (answer.Refused number place) x y = Unit {0}
+RowedBy t (Ok o) x y = Each (Labels t x (suc o.statements)) y o.labels
+RowedBy t (Err r) x y = Unit {0}
 
 answer-rowed : (t x y : List ℕ) (v : Verdict) → Answered t v x y → RowedBy t (answer_of v) x y
 unfolding answer_of
-answer-rowed t x y (Accepted count labels) h =
-    λ j a b. let q = h j a b in (q.0, q.1, named-grown x x count (suc (count - 1)) _ _ (omega arith) (λ i g. refl) q.2, q.3)
-answer-rowed t x y (Refused key) h = tt
+answer-rowed t x y (Ok v) h =
+    λ j a b. let q = h j a b in (q.0, q.1, named-grown x x v.count (suc (v.count - 1)) _ _ (omega arith) (λ i g. refl) q.2, q.3)
+answer-rowed t x y (Err key) h = tt
 
 outline-rowed : (w : Width) (t : List ℕ) (n : ℕ) → length t ≡ 32768 → RowedBy t (outline_of w t n).answer (outline_of w t n).rows (outline_of w t n).labels
 unfolding outline_of
@@ -444,7 +444,7 @@ module _ (t x y : List ℕ) (c j : ℕ) (few : c ≤ 1024) where
         imported = h.0.import;
       }
 
-module _ (w : Width) (t : List ℕ) (n c l : ℕ) (x y : List ℕ) (long : length t ≡ 32768) (h : outline_of w t n ≡ parsed (answer.Accepted c l) x y) (j : ℕ) (g : j < l) where
+module _ (w : Width) (t : List ℕ) (n c l : ℕ) (x y : List ℕ) (long : length t ≡ 32768) (h : outline_of w t n ≡ parsed (answer.accepted c l) x y) (j : ℕ) (g : j < l) where
   counts : (c ≤ 1024) × (l ≤ 256)
   counts = accepted-counts w t n c l long (ap (λ (o : Outlined). o.answer) h)
 

@@ -27,14 +27,15 @@ use Rattle.parse_units.specs.Parse.{World, world, put_state, put_kind, grow_two,
 use Rattle.parse_units.specs.Fits.{UnitStepFits}
 use Rattle.parse_units.specs.declared.Row.{Row}
 use Rattle.parse_units.specs.declared.State.{State}
-use Rattle.parse_units.specs.declared.Verdict.{Verdict}
-use Rattle.parse_units.specs.declared.Verdict.TheVariants as verdict
+use Rattle.std.proofs.Common.{Ok, Err}
+use Rattle.parse_units.specs.Verdict.{Verdict}
+use Rattle.parse_units.specs.Verdict as verdict
 use Rattle.parse_units.proofs.Bounds.{unit-order, unit-next, line-some, clean-room, unit-clean}
 use Rattle.parse_units.proofs.UnitSteps.{UnitStepGood, unit-step-good}
 use Rattle.parse_outline.specs.Outline.{answer_of, outline_of, Outlined}
 use Rattle.parse_outline.specs.Outline as outline
-use Rattle.parse_outline.specs.declared.Parsed.{Parsed}
-use Rattle.parse_outline.specs.declared.Parsed.TheVariants as answer
+use Rattle.parse_outline.specs.Parsed.{Parsed}
+use Rattle.parse_outline.specs.Parsed as answer
 use Rattle.prog_tables.specs.Statement as statement
 use Rattle.res_skeleton.specs.Skeleton.{skeleton_of, token_of, next_of}
 use Rattle.res_skeleton.proofs.Laws.{kind-is, token-is, next-is}
@@ -129,8 +130,8 @@ abbrev Good : Width → List ℕ → ℕ → World → Type 0
 Good w t n x = UnitStepFits t x.table x.state × (x.state.labels ≤ x.state.at) × AllLined w t n x
 
 abbrev Answer : Width → List ℕ → ℕ → List ℕ → Verdict → Type 0
-Answer w t n rows (verdict.Accepted count labels) = (count ≤ 1025) × ((m : ℕ) → 1 ≤ m → m < count → RowLined w t n (row_at rows m))
-Answer w t n rows (verdict.Refused k) = Unit {0}
+Answer w t n rows (Ok v) = (v.count ≤ 1025) × ((m : ℕ) → 1 ≤ m → m < v.count → RowLined w t n (row_at rows m))
+Answer w t n rows (Err k) = Unit {0}
 
 abbrev Led : Width → List ℕ → ℕ → Step World Result → Type 0
 Led w t n (go x) = AllLined w t n x
@@ -169,17 +170,17 @@ begin-good w t n e = (
 parse-lined : (w : Width) (t : List ℕ) (n : ℕ) → length t ≡ 32768 → Answer w t n (parse_of w t n).outline (parse_of w t n).verdict
 unfolding parse_of parse_from
 parse-lined w t n e =
-    walk_kept (Good w t n) (λ (r : Result). Answer w t n r.outline r.verdict) (unit_step w t n) (parse_result (verdict.Refused none) []) tt (unit-step-lined w t n)
+    walk_kept (Good w t n) (λ (r : Result). Answer w t n r.outline r.verdict) (unit_step w t n) (parse_result (verdict.refused none) []) tt (unit-step-lined w t n)
     (suc (length t)) (world begin (zeros 8200)) (begin-good w t n e)
 
 abbrev Told : Width → List ℕ → ℕ → List ℕ → Parsed → Type 0
-Told w t n rows (answer.Accepted c l) = (c ≤ 1024) × ((m : ℕ) → m < c → RowLined w t n (row_at rows (m + 1)))
-Told w t n rows (answer.Refused number place) = Unit {0}
+Told w t n rows (Ok o) = (o.statements ≤ 1024) × ((m : ℕ) → m < o.statements → RowLined w t n (row_at rows (m + 1)))
+Told w t n rows (Err r) = Unit {0}
 
 answer-told : (w : Width) (t : List ℕ) (n : ℕ) (rows : List ℕ) (v : Verdict) → Answer w t n rows v → Told w t n rows (answer_of v)
 unfolding answer_of
-answer-told w t n rows (verdict.Accepted count labels) h = (omega (arith, h.0), λ m g. h.1 (m + 1) (omega arith) (omega arith))
-answer-told w t n rows (verdict.Refused k) h = tt
+answer-told w t n rows (Ok v) h = (omega (arith, h.0), λ m g. h.1 (m + 1) (omega arith) (omega arith))
+answer-told w t n rows (Err k) h = tt
 
 outline-told : (w : Width) (t : List ℕ) (n : ℕ) → length t ≡ 32768 → Told w t n (outline_of w t n).rows (outline_of w t n).answer
 unfolding outline_of
@@ -201,8 +202,8 @@ lined-near w t n kind i e operands h = by h.made
 min-low : (a b c : ℕ) → a ≡ b → b ≤ c → min a c ≡ b
 min-low a b c e h = min-eq_left (let z : a ≤ c = omega arith in z) ∙ e
 
-module _ (w : Width) (t : List ℕ) (n c l : ℕ) (x y : List ℕ) (e : length t ≡ 32768) (h : outline_of w t n ≡ outline.parsed (answer.Accepted c l) x y) where
-  told : Told w t n x (answer.Accepted c l)
+module _ (w : Width) (t : List ℕ) (n c l : ℕ) (x y : List ℕ) (e : length t ≡ 32768) (h : outline_of w t n ≡ outline.parsed (answer.accepted c l) x y) where
+  told : Told w t n x (answer.accepted c l)
   told = subst (λ (o : Outlined). Told w t n o.rows o.answer) h (outline-told w t n e)
 
   pub few-rows : c ≤ 1024

@@ -11,11 +11,11 @@ use borrow.Author.Tests.{eq-eqb}
 use lib.ListN.{length}
 use Rattle.base_limits.specs.declared.Width.{Width}
 use Rattle.parse_units.specs.Parse.{parse_of}
-use Rattle.parse_units.specs.declared.Verdict.{Verdict}
-use Rattle.parse_units.specs.declared.Verdict.TheVariants.{Accepted, Refused}
+use Rattle.std.proofs.Common.{Ok, Err}
+use Rattle.parse_units.specs.Verdict.{Verdict}
 use Rattle.parse_outline.specs.Outline.{answer_of, outline_of}
-use Rattle.parse_outline.specs.declared.Parsed.{Parsed}
-use Rattle.parse_outline.specs.declared.Parsed.TheVariants as answer
+use Rattle.parse_outline.specs.Parsed.{Parsed}
+use Rattle.parse_outline.specs.Parsed as answer
 use Rattle.res_skeleton.specs.Skeleton.{skeleton_of}
 use Rattle.res_skeleton.proofs.Laws.{kind-is, func-is, scope-is, up_is, parameters-are}
 use Rattle.prog_tables.specs.Statement.{row_at}
@@ -38,21 +38,21 @@ pub record Accepting (c : ℕ) (x : List ℕ) : Type 0 where
   pub locals : (m : ℕ) → m < c → few_locals (view_of x) m ≡ true
 
 abbrev Answered : Parsed → List ℕ → Type 0
-Answered (answer.Accepted c l) x = Accepting c x
-Answered (answer.Refused number place) x = Unit {0}
+Answered (Ok o) x = Accepting o.statements x
+Answered (Err r) x = Unit {0}
 
 answered : (v : Verdict) (x : List ℕ) → Nests v x → Bounds v x → Answered (answer_of v) x
 unfolding answer_of
-answered (Accepted count labels) x h b =
-    let e : h.0.c ≡ count - 1 = omega (arith, h.0.rows.count) in
-    let d : b.c ≡ count - 1 = omega (arith, b.count) in
+answered (Ok v) x h b =
+    let e : h.0.c ≡ v.count - 1 = omega (arith, h.0.rows.count) in
+    let d : b.c ≡ v.count - 1 = omega (arith, b.count) in
     record {
       formed = subst (λ (i : ℕ). Formed x i 0) e h.0.rows.formed;
       few = omega (arith, h.1);
       shallows = λ m l. b.rows-shallow m (omega arith);
       locals = λ m l. b.rows_few m (omega arith);
     }
-answered (Refused k) x h b = tt
+answered (Err k) x h b = tt
 
 outline-answered : (w : Width) (t : List ℕ) (n : ℕ) → length t ≡ 32768 → Answered (outline_of w t n).answer (outline_of w t n).rows
 unfolding outline_of
@@ -66,7 +66,7 @@ module _ (x : List ℕ) (c : ℕ) (h : c ≤ 1024) where
   strip-is m l =
       rw (kind-is x c h m l, func-is x c h m l, scope-is x c h m l, up_is x c h m l, parameters-are x c h m l, add-one m) refl
 
-module _ (w : Width) (t : List ℕ) (n c l : ℕ) (e : length t ≡ 32768) (a : (outline_of w t n).answer ≡ answer.Accepted c l) where
+module _ (w : Width) (t : List ℕ) (n c l : ℕ) (e : length t ≡ 32768) (a : (outline_of w t n).answer ≡ answer.accepted c l) where
   -- the rows of the outline
   pub accepted : Accepting c (outline_of w t n).rows
   accepted = subst (λ (p : Parsed). Answered p (outline_of w t n).rows) a (outline-answered w t n e)

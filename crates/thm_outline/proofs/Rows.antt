@@ -13,7 +13,7 @@ use Rattle.parse_lines.specs.Tokens.{kind_at, word_at}
 use Rattle.parse_units.specs.Outline.{row_at}
 use Rattle.parse_outline.specs.Outline.{outline_of}
 use Rattle.parse_outline.specs.Outline as outline
-use Rattle.parse_outline.specs.declared.Parsed.TheVariants as answer
+use Rattle.parse_outline.specs.Parsed as answer
 use Rattle.prog_tables.specs.Statement.{has_expression, is_call_row, is_call, used_by}
 use Rattle.prog_tables.specs.Statement as statement
 use Rattle.prog_tables.specs.Tests.{one_of}
@@ -37,7 +37,7 @@ kind_of k m = (statement.row_at k m).kind
 abbrev pub parts_at : List ℕ → List ℕ → ℕ → Parts
 parts_at t k m = parts_of t (kind_of k m) (first_token k m) (end_token k m)
 
-module _ (w : Width) (t : List ℕ) (n c l : ℕ) (x y : List ℕ) (long : length t ≡ 32768) (h : outline_of w t n ≡ outline.parsed (answer.Accepted c l) x y)
+module _ (w : Width) (t : List ℕ) (n c l : ℕ) (x y : List ℕ) (long : length t ≡ 32768) (h : outline_of w t n ≡ outline.parsed (answer.accepted c l) x y)
     (m : ℕ) (g : m < c) where
   abbrev k : List ℕ
   k = skeleton_of x c

@@ -11,7 +11,7 @@ use Rattle.parse_lines.specs.Units.{unit_at}
 use Rattle.parse_lines.specs.Lines.{line_kind}
 use Rattle.parse_lines.specs.declared.Span.{Span}
 use Rattle.parse_units.specs.Parse.{World, Result, parse_result, advance, fault_in, unit_step_on, unit_step}
-use Rattle.parse_units.specs.declared.Verdict.TheVariants.{Accepted, Refused}
+use Rattle.parse_units.specs.Verdict.{accepted, refused}
 
 module _ (w : Width) (t : List ℕ) (n : ℕ) (x : World) where
   abbrev u : Span
@@ -20,11 +20,11 @@ module _ (w : Width) (t : List ℕ) (n : ℕ) (x : World) where
   abbrev k : ℕ
   k = line_kind t (unit_at t x.state.at).word
 
-  pub refused-step : fault_in w t n u x < none → unit_step w t n x ≡ stop (parse_result (Refused (fault_in w t n u x)) x.table)
+  pub refused-step : fault_in w t n u x < none → unit_step w t n x ≡ stop (parse_result (refused (fault_in w t n u x)) x.table)
   unfolding unit_step unit_step_on
   refused-step l = if_lt-yes _ _ l
 
-  pub end_step : none ≤ fault_in w t n u x → k ≡ 0 → unit_step w t n x ≡ stop (parse_result (Accepted x.state.count x.state.labels) x.table)
+  pub end_step : none ≤ fault_in w t n u x → k ≡ 0 → unit_step w t n x ≡ stop (parse_result (accepted x.state.count x.state.labels) x.table)
   unfolding unit_step unit_step_on
   end_step c e = if_lt-no _ _ c ∙ if_eq-yes _ _ e
 

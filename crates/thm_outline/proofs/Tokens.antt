@@ -82,7 +82,7 @@ word_made kind text e = if_true-yes _ _ (plain-named kind e) ∙ if_true-no _ _ 
 
 token-made : (w : Width) (s : List ℕ) (ts : List Token) (x : Lexeme) → Made (token_of w s ts x)
 unfolding token_of
-token-made w s ts x e = (value_made w x.kind x.value _ _ e, word_made x.kind _ e)
+token-made w s ts x e = (value_made w x.kind _ _ _ e, word_made x.kind _ e)
 
 abbrev MadeIn : Outcome → Type 0
 MadeIn (accepted ts) = Every Made ts

@@ -14,9 +14,9 @@ use Rattle.lex_source.specs.Token.{Token}
 use Rattle.prog_tables.specs.Hosts.{Hosts}
 use Rattle.lex_source.specs.Lex.{accepted, lex_of}
 use Rattle.parse_outline.specs.Outline.{outline_of}
-use Rattle.parse_outline.specs.declared.Parsed.TheVariants as parsed
+use Rattle.parse_outline.specs.Parsed as parsed
 use Rattle.res_data.specs.Sizes.{length_of}
-use Rattle.res_data.specs.declared.Measured.TheVariants.{Length}
+use Rattle.std.specs.Prelude.{Ok}
 use Rattle.parse_verdict.specs.Verdict.{Clean}
 use Rattle.parse_verdict.proofs.Decided.{least-none, none-all}
 use Rattle.thm_acceptance.specs.Faults.{all_name_faults}
@@ -37,9 +37,9 @@ pub record Checks (w : Width) (h : Hosts) (s : List ℕ) (b : Lent) : Type 0 whe
   pub l : ℕ
   pub size : ℕ
   pub lexes : lex_of w s ≡ accepted tokens
-  pub outlines : (outline_of w (hosted_table h s tokens) (length s)).answer ≡ parsed.Accepted c l
+  pub outlines : (outline_of w (hosted_table h s tokens) (length s)).answer ≡ parsed.accepted c l
   pub names : none ≤ (names_in w h s tokens c l).fault
-  pub sized : length_of w (hosted_table h s tokens) ≡ Length size
+  pub sized : length_of w (hosted_table h s tokens) ≡ Ok size
   pub held : has_room b (length tokens) c l size ≡ true
   pub leaves : check_of w h s b ≡ accept w s (known_in w h s tokens c l) size b
 

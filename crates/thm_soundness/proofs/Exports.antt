@@ -29,14 +29,14 @@ use Rattle.parse_units.specs.Parse.{World, world, Result, parse_result, begin, g
 use Rattle.parse_units.specs.Fits.{UnitStepFits}
 use Rattle.parse_units.specs.declared.Row as outlined
 use Rattle.parse_units.specs.declared.State.{State}
-use Rattle.parse_units.specs.declared.Verdict.{Verdict}
-use Rattle.parse_units.specs.declared.Verdict.TheVariants.{Accepted, Refused}
+use Rattle.std.proofs.Common.{Ok, Err}
+use Rattle.parse_units.specs.Verdict.{Verdict, accepted, refused}
 use Rattle.parse_units.proofs.Bounds.{unit-order, unit-next, line-some, clean-room, unit-clean}
 use Rattle.parse_units.proofs.UnitSteps.{UnitStepGood, unit-step-good}
 use Rattle.parse_outline.specs.Outline.{answer_of, outline_of, Outlined}
 use Rattle.parse_outline.specs.Outline as outline
-use Rattle.parse_outline.specs.declared.Parsed.{Parsed}
-use Rattle.parse_outline.specs.declared.Parsed.TheVariants as answer
+use Rattle.parse_outline.specs.Parsed.{Parsed}
+use Rattle.parse_outline.specs.Parsed as answer
 use Rattle.res_skeleton.specs.Skeleton.{skeleton_of}
 use Rattle.res_scope.specs.Lines.{first_token, end_token}
 use Rattle.res_exports.specs.Exports.{definitions, is_definition, search_ends, ends_search, nowhere, seek_on, seek_step, definition_from}
@@ -162,46 +162,46 @@ module _ (w : Width) (t : List ℕ) (n : ℕ) (x : World) (h : Fine t x) where
 -- what holds of a world and the answer of the walk from it, from what holds of the world behind its line
 module _ (w : Width) (t : List ℕ) (n : ℕ) (P : World → Result → Type 0) where
   abbrev Refusing : Type 0
-  Refusing = (x : World) (key : ℕ) (z : List ℕ) → P x (parse_result (Refused key) z)
+  Refusing = (x : World) (key : ℕ) (z : List ℕ) → P x (parse_result (refused key) z)
 
   abbrev Ending : Type 0
   Ending = (x : World) (h : Fine t x) → none ≤ fault_in w t n (unit_at t x.state.at) x → line_kind t (unit_at t x.state.at).word ≡ 0
-      → P x (parse_result (Accepted x.state.count x.state.labels) x.table)
+      → P x (parse_result (accepted x.state.count x.state.labels) x.table)
 
   abbrev Going : Type 0
   Going = (x : World) (h : Fine t x) → none ≤ fault_in w t n (unit_at t x.state.at) x → (line_kind t (unit_at t x.state.at).word ≡ 0 → ⊥)
       → (r : Result) → P (advance t n (unit_at t x.state.at) (line_kind t (unit_at t x.state.at).word) x) r → P x r
 
-  by_lines : Refusing → Ending → Going → (fuel : ℕ) (x : World) → Fine t x → P x (walk (unit_step w t n) (parse_result (Refused none) []) fuel x)
+  by_lines : Refusing → Ending → Going → (fuel : ℕ) (x : World) → Fine t x → P x (walk (unit_step w t n) (parse_result (refused none) []) fuel x)
   unfolding walk
   by_lines a b c zero x h = a x none []
   by_lines a b c (suc fuel) x h =
       elim (dec_lt (fault_in w t n (unit_at t x.state.at) x) none) [
-        | yes l ↦ subst (P x) (sym (walk-stop (unit_step w t n) (parse_result (Refused none) []) fuel x _ (refused-step w t n x l))) (a x _ _)
+        | yes l ↦ subst (P x) (sym (walk-stop (unit_step w t n) (parse_result (refused none) []) fuel x _ (refused-step w t n x l))) (a x _ _)
         | no l ↦
             let g : none ≤ fault_in w t n (unit_at t x.state.at) x = omega arith in
             elim (ℕ_discrete (line_kind t (unit_at t x.state.at).word) 0) [
-              | yes e ↦ subst (P x) (sym (walk-stop (unit_step w t n) (parse_result (Refused none) []) fuel x _ (end_step w t n x g e))) (b x h g e)
-              | no d ↦ subst (P x) (sym (walk-go (unit_step w t n) (parse_result (Refused none) []) fuel x _ (go_step w t n x g d)))
+              | yes e ↦ subst (P x) (sym (walk-stop (unit_step w t n) (parse_result (refused none) []) fuel x _ (end_step w t n x g e))) (b x h g e)
+              | no d ↦ subst (P x) (sym (walk-go (unit_step w t n) (parse_result (refused none) []) fuel x _ (go_step w t n x g d)))
                   (c x h g d _ (by_lines a b c fuel _ (fine-on w t n x h g d)))
             ]
       ]
 
 -- what holds of an accepted answer: its first free row, and its outline
 abbrev Told : (ℕ → List ℕ → Type 0) → Verdict → List ℕ → Type 0
-Told P (Accepted c l) z = P c z
-Told P (Refused key) z = Unit {0}
+Told P (Ok v) z = P v.count z
+Told P (Err key) z = Unit {0}
 
 abbrev Final : (ℕ → List ℕ → Type 0) → Result → Type 0
 Final P r = Told P r.verdict r.outline
 
 told-map : (P Q : ℕ → List ℕ → Type 0) → ((c : ℕ) (z : List ℕ) → P c z → Q c z) → (v : Verdict) (z : List ℕ) → Told P v z → Told Q v z
-told-map P Q f (Accepted c l) z h = f c z h
-told-map P Q f (Refused key) z h = tt
+told-map P Q f (Ok v) z h = f v.count z h
+told-map P Q f (Err key) z h = tt
 
 told-map₂ : (P Q R : ℕ → List ℕ → Type 0) → ((c : ℕ) (z : List ℕ) → P c z → Q c z → R c z) → (v : Verdict) (z : List ℕ) → Told P v z → Told Q v z → Told R v z
-told-map₂ P Q R f (Accepted c l) z h g = f c z h g
-told-map₂ P Q R f (Refused key) z h g = tt
+told-map₂ P Q R f (Ok v) z h g = f v.count z h g
+told-map₂ P Q R f (Err key) z h g = tt
 
 -- ---- rows that come later stand later
 
@@ -369,8 +369,8 @@ module _ (w : Width) (t : List ℕ) (n : ℕ) where
         ]
       where
         any : (v : Verdict) (z : List ℕ) → (sort w t n x h f some ≡ 27 → ⊥) → Told (λ c z. ClearLine t c z [] (line (λ b v. Unit {0}) t x.state.at 0 [])) v z
-        any (Accepted c l) z d = λ e. absurd (d e)
-        any (Refused key) z d = tt
+        any (Ok v) z d = λ e. absurd (d e)
+        any (Err key) z d = tt
 
     all_go : (r : Result) → AllClear t (on w t n x h) r → AllClear t x r
     all_go r b = (both_go w t n x h f some r b.0, by)
@@ -404,14 +404,14 @@ ClearOf t c z before v =
     v.kind ≡ 27 → (m : ℕ) → m < c → ((row_at z (m + 1)).next ≤ v.unit.word) ⊎ ((definition_from t v.unit.next).word ≤ (row_at z (m + 1)).token)
 
 abbrev ClearBy : List ℕ → Parsed → List ℕ → Type 0
-ClearBy t (answer.Accepted c l) z = EachLine t (ClearOf t c z)
-ClearBy t (answer.Refused number place) z = Unit {0}
+ClearBy t (Ok o) z = EachLine t (ClearOf t o.statements z)
+ClearBy t (Err r) z = Unit {0}
 
 answer-clear : (t z : List ℕ) (v : Verdict) → Told (λ c z. EachLine t (ClearLine t c z)) v z → ClearBy t (answer_of v) z
 unfolding answer_of
-answer-clear t z (Accepted count labels) h =
-    each_map (ClearLine t count z) (ClearOf t (count - 1) z) (λ before v f e m g. f e (m + 1) (omega arith) (omega arith)) [] (lines_of t) h
-answer-clear t z (Refused key) h = tt
+answer-clear t z (Ok v) h =
+    each_map (ClearLine t v.count z) (ClearOf t (v.count - 1) z) (λ before v f e m g. f e (m + 1) (omega arith) (omega arith)) [] (lines_of t) h
+answer-clear t z (Err key) h = tt
 
 outline-clear : (w : Width) (t : List ℕ) (n : ℕ) → length t ≡ 32768 → ClearBy t (outline_of w t n).answer (outline_of w t n).rows
 unfolding outline_of
@@ -422,7 +422,7 @@ abbrev pub Apart : List ℕ → List ℕ → ℕ → List Line → Line → Type
 Apart t k c before v =
     v.kind ≡ 27 → (m : ℕ) → m < c → (end_token k m ≤ v.unit.word) ⊎ ((definition_from t v.unit.next).word ≤ first_token k m)
 
-pub exports-apart : (w : Width) (t : List ℕ) (n c l : ℕ) (x y : List ℕ) → length t ≡ 32768 → outline_of w t n ≡ outline.parsed (answer.Accepted c l) x y
+pub exports-apart : (w : Width) (t : List ℕ) (n c l : ℕ) (x y : List ℕ) → length t ≡ 32768 → outline_of w t n ≡ outline.parsed (answer.accepted c l) x y
     → EachLine t (Apart t (skeleton_of x c) c)
 exports-apart w t n c l x y long h =
     each_map (ClearOf t c x) (Apart t (skeleton_of x c) c) (λ before v f e m g.

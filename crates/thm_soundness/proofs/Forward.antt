@@ -20,7 +20,7 @@ use Rattle.parse_lines.specs.Lines.{line_kind}
 use Rattle.parse_lines.specs.declared.Span.{Span}
 use Rattle.parse_outline.specs.Outline.{outline_of}
 use Rattle.parse_outline.specs.Outline as outline
-use Rattle.parse_outline.specs.declared.Parsed.TheVariants as answer
+use Rattle.parse_outline.specs.Parsed as answer
 use Rattle.parse_verdict.specs.Verdict.{All}
 use Rattle.prog_tables.specs.Tests.{first_from}
 use Rattle.prog_tables.specs.Statement.{is_call}
@@ -107,7 +107,7 @@ callee-used P t k r d h =
 
 -- ---- forward calls
 
-module _ (w : Width) (t : List ℕ) (n c l : ℕ) (x y : List ℕ) (long : length t ≡ 32768) (oh : outline_of w t n ≡ outline.parsed (answer.Accepted c l) x y)
+module _ (w : Width) (t : List ℕ) (n c l : ℕ) (x y : List ℕ) (long : length t ≡ 32768) (oh : outline_of w t n ≡ outline.parsed (answer.accepted c l) x y)
     (same : ℕ → ℕ → Bool)
     (first : EachLine t (λ before v. v.kind ≡ 27 → (r : ℕ) → r < c → All (λ i. means_label same (skeleton_of x c) y l r (carried_in same t y l v.unit) i ≡ true → v.unit.word + 1 ≤ i) (uses_in t (skeleton_of x c) r))) where
   abbrev k : List ℕ

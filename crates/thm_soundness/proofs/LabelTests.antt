@@ -33,11 +33,11 @@ use Rattle.prog_tables.specs.Program.{Program}
 use Rattle.prog_tables.specs.Hosts.{Hosts, entries_of, host_arguments, host_of, mark_number, mark_arguments, host_mark, label_hosted}
 use Rattle.parse_outline.specs.Outline.{Outlined, outline_of}
 use Rattle.parse_outline.specs.Outline as outline
-use Rattle.parse_outline.specs.declared.Parsed.TheVariants as answer
+use Rattle.parse_outline.specs.Parsed as answer
 use Rattle.res_skeleton.specs.Skeleton.{skeleton_of}
 use Rattle.res_scope.specs.Lines.{label_token, label_kind, label_statement}
 use Rattle.res_data.specs.Sizes.{address_of, length_of}
-use Rattle.res_data.specs.declared.Measured.TheVariants.{Length}
+use Rattle.std.specs.Prelude.{Ok}
 use Rattle.res_labels.specs.Labelling.{outline_word, flag_at, exported_kind, final_kind, final_number, label_words, label_name, label_table, name_table}
 use Rattle.res_labels.proofs.Laws.{name-row}
 use Rattle.res_rows.specs.Rows.{label_number}
@@ -116,8 +116,8 @@ jumps-same f g h zero = refl
 jumps-same f g h (suc n) = ap (λ (v : ℕ). eqb v 21) (h.kinds n)
 
 module _ (w : Width) (hosts : Hosts) (s : List ℕ) (ts : List Token) (lx : lex_of w s ≡ accepted ts) (n c l : ℕ) (x y flags : List ℕ) (long : length (hosted_table hosts s ts) ≡ 32768)
-    (oh : outline_of w (hosted_table hosts s ts) n ≡ outline.parsed (answer.Accepted c l) x y) (i j d : ℕ) (labels-room : l * 4 ≤ i) (names-room : l * 64 ≤ j)
-    (sized : length_of w (hosted_table hosts s ts) ≡ Length d) (f : ℕ → Row) (al : Alike f (row_at (skeleton_of x c))) (prog : Program) where
+    (oh : outline_of w (hosted_table hosts s ts) n ≡ outline.parsed (answer.accepted c l) x y) (i j d : ℕ) (labels-room : l * 4 ≤ i) (names-room : l * 64 ≤ j)
+    (sized : length_of w (hosted_table hosts s ts) ≡ Ok d) (f : ℕ → Row) (al : Alike f (row_at (skeleton_of x c))) (prog : Program) where
   abbrev t : List ℕ
   t = hosted_table hosts s ts
 

@@ -16,7 +16,7 @@ use Rattle.prog_tables.specs.Statement.{Row, row_at}
 use Rattle.prog_tables.specs.Label.{Label, label_at, is_data, is_function_label}
 use Rattle.parse_outline.specs.Outline.{Outlined, outline_of}
 use Rattle.parse_outline.specs.Outline as outline
-use Rattle.parse_outline.specs.declared.Parsed.TheVariants as answer
+use Rattle.parse_outline.specs.Parsed as answer
 use Rattle.res_skeleton.specs.Skeleton.{skeleton_of}
 use Rattle.res_scope.specs.Lines.{label_token, label_kind, label_statement, label_arguments}
 use Rattle.res_labels.specs.Labelling.{outline_word, flag_at, exported_kind, final_kind, final_number, final_arguments, label_words, label_table, name_table}
@@ -79,7 +79,7 @@ module _ (w : Width) (s t : List ℕ) (y flags : List ℕ) (l i j : ℕ) (room :
   unfolding label_arguments
   arguments-same e g q = arguments-of e g q
 
-  module _ (n c : ℕ) (x : List ℕ) (long : length t ≡ 32768) (oh : outline_of w t n ≡ outline.parsed (answer.Accepted c l) x y) where
+  module _ (n c : ℕ) (x : List ℕ) (long : length t ≡ 32768) (oh : outline_of w t n ≡ outline.parsed (answer.accepted c l) x y) where
     row : (e : ℕ) → e < l → LabelRow t y (row_at (skeleton_of x c)) c e
     row e g = label-rows w t n c l x y long oh e g
 

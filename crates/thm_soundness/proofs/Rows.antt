@@ -24,7 +24,7 @@ use Rattle.prog_tables.proofs.Rows.{Fits}
 use Rattle.prog_tables.proofs.Nested.{Held, held}
 use Rattle.parse_outline.specs.Outline.{Outlined, outline_of}
 use Rattle.parse_outline.specs.Outline as outline
-use Rattle.parse_outline.specs.declared.Parsed.TheVariants as answer
+use Rattle.parse_outline.specs.Parsed as answer
 use Rattle.parse_units.specs.Outline as parser
 use Rattle.res_skeleton.specs.Skeleton.{parameters_of, skeleton_of}
 use Rattle.res_skeleton.proofs.Laws.{word-behind, parameters-are, kind-is}
@@ -77,7 +77,7 @@ idle-kinds (suc (suc (suc (suc (suc (suc (suc (suc (suc (suc (suc (suc (suc (suc
 idle-kinds (suc (suc (suc (suc (suc (suc (suc (suc (suc (suc (suc (suc (suc (suc (suc (suc (suc (suc (suc (suc (suc (suc zero)))))))))))))))))))))) l h e n = refl
 idle-kinds (suc (suc (suc (suc (suc (suc (suc (suc (suc (suc (suc (suc (suc (suc (suc (suc (suc (suc (suc (suc (suc (suc (suc v))))))))))))))))))))))) l h e n = let z : ⊥ = omega arith in absurd z
 
-module _ (w : Width) (t : List ℕ) (n c l : ℕ) (x y : List ℕ) (long : length t ≡ 32768) (oh : outline_of w t n ≡ outline.parsed (answer.Accepted c l) x y) where
+module _ (w : Width) (t : List ℕ) (n c l : ℕ) (x y : List ℕ) (long : length t ≡ 32768) (oh : outline_of w t n ≡ outline.parsed (answer.accepted c l) x y) where
   pub few-statements : c ≤ 1024
   few-statements = few-rows w t n c l x y long oh
 

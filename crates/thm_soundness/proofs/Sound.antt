@@ -21,14 +21,13 @@ use Rattle.prog_tables.specs.Program.{program_from}
 use Rattle.prog_tables.specs.Hosts.{Hosts, hosted}
 use Rattle.parse_outline.specs.Outline.{Outlined, outline_of}
 use Rattle.parse_outline.specs.Outline as outline
-use Rattle.parse_outline.specs.declared.Parsed.{Parsed}
-use Rattle.parse_outline.specs.declared.Parsed.TheVariants as answer
+use Rattle.parse_outline.specs.Parsed.{Parsed}
+use Rattle.parse_outline.specs.Parsed as answer
 use Rattle.res_skeleton.specs.Skeleton.{skeleton_of}
 use Rattle.res_frame_words.specs.Framing.{words_of}
 use Rattle.res_rows.specs.Rows.{statement_table}
 use Rattle.res_labels.specs.Labelling.{flag_at, final_kind, label_table, name_table}
 use Rattle.res_data.specs.Sizes.{length_of}
-use Rattle.res_data.specs.declared.Measured.TheVariants.{Length}
 use Rattle.res_data.proofs.Laws.{measure-low}
 use Rattle.res_text.specs.Same.{same_text}
 use Rattle.check_judge.proofs.Hosted.{table-long}
@@ -83,7 +82,7 @@ module _ (w : Width) (h : Hosts) (s : List ℕ) (b : Lent) (q : Checks w h s b) 
   long : length t ≡ 32768
   long = table-long h s q.tokens w q.lexes
 
-  oh : outline_of w t (length s) ≡ outline.parsed (answer.Accepted q.c q.l) x y
+  oh : outline_of w t (length s) ≡ outline.parsed (answer.accepted q.c q.l) x y
   oh = ap (λ (a : Parsed). outline.parsed a x y) q.outlines
 
   rows-room : q.c * 27 ≤ b.statements

@@ -22,7 +22,7 @@ use Rattle.prog_tables.specs.WellFormed.{shallow, few_locals, row_tests}
 use Rattle.prog_tables.specs.Program.{Program}
 use Rattle.parse_outline.specs.Outline.{Outlined, outline_of}
 use Rattle.parse_outline.specs.Outline as outline
-use Rattle.parse_outline.specs.declared.Parsed.TheVariants as answer
+use Rattle.parse_outline.specs.Parsed as answer
 use Rattle.res_skeleton.specs.Skeleton.{skeleton_of}
 use Rattle.res_scope.specs.Lines.{first_token, end_token, label_kind, label_statement, label_arguments}
 use Rattle.res_scope.specs.Names.{meaning_of}
@@ -63,7 +63,7 @@ block-not e =
 call-not : (e v : ℕ) → v ≡ 3 → is_call v e ≡ true → ⊥
 call-not e v q h = true-false (sym h ∙ ap (λ (u : ℕ). is_call u e) q ∙ block-not e)
 
-module _ (w : Width) (t : List ℕ) (n c l : ℕ) (x y : List ℕ) (long : length t ≡ 32768) (oh : outline_of w t n ≡ outline.parsed (answer.Accepted c l) x y)
+module _ (w : Width) (t : List ℕ) (n c l : ℕ) (x y : List ℕ) (long : length t ≡ 32768) (oh : outline_of w t n ≡ outline.parsed (answer.accepted c l) x y)
     (same : ℕ → ℕ → Bool) (z : List ℕ) (m : ℕ) (room : c * 27 ≤ m) (h : ℕ → Label) (lb : Labels (skeleton_of x c) y l z c h)
     (clean : Clean (all_name_faults same t n (skeleton_of x c) y l c))
     (deep : (r : ℕ) → r < c → shallow (row_at (skeleton_of x c)) r ≡ true) (few : (r : ℕ) → r < c → few_locals (row_at (skeleton_of x c)) r ≡ true)

@@ -19,7 +19,7 @@ use Rattle.prog_tables.specs.Program.{program_from}
 use Rattle.prog_tables.specs.WellFormed.{shallow, few_locals, row_tests, label_tests, counts_good, well_formed, WellFormed}
 use Rattle.parse_outline.specs.Outline.{Outlined, outline_of}
 use Rattle.parse_outline.specs.Outline as outline
-use Rattle.parse_outline.specs.declared.Parsed.TheVariants as answer
+use Rattle.parse_outline.specs.Parsed as answer
 use Rattle.res_skeleton.specs.Skeleton.{skeleton_of}
 use Rattle.res_frame_words.specs.Framing.{words_of}
 use Rattle.res_rows.specs.Rows.{statement_table}
@@ -35,7 +35,7 @@ use Rattle.thm_statement_rows.proofs.Zeros.{below_all}
 use Rattle.thm_soundness.proofs.Rows.{few-statements, alike}
 use Rattle.thm_soundness.proofs.Tests.{Labels, Forward, row-passes}
 
-module _ (w : Width) (t : List ℕ) (n c l : ℕ) (x y : List ℕ) (long : length t ≡ 32768) (oh : outline_of w t n ≡ outline.parsed (answer.Accepted c l) x y)
+module _ (w : Width) (t : List ℕ) (n c l : ℕ) (x y : List ℕ) (long : length t ≡ 32768) (oh : outline_of w t n ≡ outline.parsed (answer.accepted c l) x y)
     (same : ℕ → ℕ → Bool) (s flags : List ℕ) (m i j d : ℕ) (rows-room : c * 27 ≤ m) (labels-room : l * 4 ≤ i) (names-room : l * 64 ≤ j)
     (lb : Labels (skeleton_of x c) y l (label_table w t y flags l (zeros i)) c (label_at (label_table w t y flags l (zeros i)) (name_table s t y l (zeros j))))
     (clean : Clean (all_name_faults same t n (skeleton_of x c) y l c)) (small : d ≤ 32768)
@@ -56,7 +56,7 @@ module _ (w : Width) (t : List ℕ) (n c l : ℕ) (x y : List ℕ) (long : lengt
   rows_are : (outline_of w t n).rows ≡ x
   rows_are = ap (λ (o : Outlined). o.rows) oh
 
-  accepted : (outline_of w t n).answer ≡ answer.Accepted c l
+  accepted : (outline_of w t n).answer ≡ answer.accepted c l
   accepted = ap (λ (o : Outlined). o.answer) oh
 
   deep : (r : ℕ) → r < c → shallow (row_at (skeleton_of x c)) r ≡ true

@@ -10,7 +10,7 @@ use Rattle.base_limits.specs.declared.Width.{Width}
 use Rattle.parse_lines.specs.Tokens.{value_at}
 use Rattle.parse_outline.specs.Outline.{outline_of}
 use Rattle.parse_outline.specs.Outline as outline
-use Rattle.parse_outline.specs.declared.Parsed.TheVariants as answer
+use Rattle.parse_outline.specs.Parsed as answer
 use Rattle.res_skeleton.specs.Skeleton.{skeleton_of}
 use Rattle.res_scope.specs.Lines.{end_token}
 use Rattle.res_frame_words.specs.Framing.{words_of}
@@ -27,7 +27,7 @@ use Rattle.thm_statement_rows.proofs.Zeros.{below_all}
 use Rattle.thm_statement_rows.proofs.Rows.{Quiet, row-unused, rows-zero}
 use Rattle.thm_statement_rows.proofs.Labels.{label-unused, labels-zero, names-zero}
 
-module _ (v : Width) (t : List ℕ) (n c l : ℕ) (x y : List ℕ) (long : length t ≡ 32768) (h : outline_of v t n ≡ outline.parsed (answer.Accepted c l) x y) where
+module _ (v : Width) (t : List ℕ) (n c l : ℕ) (x y : List ℕ) (long : length t ≡ 32768) (h : outline_of v t n ≡ outline.parsed (answer.accepted c l) x y) where
   abbrev k : List ℕ
   k = skeleton_of x c
 

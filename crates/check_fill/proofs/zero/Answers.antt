@@ -1,6 +1,8 @@
-use Rattle.check_fill.proofs.Cases.{zero_is}
+use borrow.Author.Rules.{rules}
+use Rattle.check_fill.specs.Fill.{zeroed}
 use Rattle.check_fill.proofs.zero.Goals as goal
 
 pub returns : goal.returns
+unfolding zeroed
 returns c =
-    search zero_is
+    search rules

@@ -1,27 +1,21 @@
-use Rattle.check_judge.proofs.Lexed.{source-ways, token-count, token-long}
+use mathlib.Core.Path.{refl}
+use mathlib.Core.List.{[]}
+use Prim.Native.Nat.{◌<◌}
 use borrow.Author.Rules.{rules}
+use Rattle.std.proofs.lemmas.Result.{err_from_is_err_and}
+use Rattle.check_judge.proofs.Lexed.{judge-tokens, judge-refused, token-count}
 use Rattle.check_judge.proofs.judge.Goals as goal
+
+pub returns-in_err-n : goal.returns-in_err-n
+returns-in_err-n c =
+    let p = err_from_is_err_and c.from_residual.result c.from_residual.ensures.1 in
+    rw (p.1, p.2) (judge-refused _ _ _ _ _ _ c.in_err-n.ensures.value c.in_err-n.ensures.t_after _ refl)
 
 pub overflow_cast-n : goal.overflow_cast-n
 overflow_cast-n c =
-    search (token-count, rules)
+    let small : c.in_ok-n.field-0 < 4294967296 = token-count [] [] _ _ _ _ c.in_ok-n.ensures.value c.in_ok-n.ensures.t_after _ refl in
+    search rules
 
-pub overflow_cast-s : goal.overflow_cast-s
-overflow_cast-s c =
-    search (token-count, rules)
-
-pub overflow_cast-n-in-Ok : goal.overflow_cast-n-in-Ok
-overflow_cast-n-in-Ok c =
-    search (token-count, rules)
-
-pub judge_tokens-requires : goal.judge_tokens-requires
-judge_tokens-requires c =
-    token-long _ _ _ _ _ _ _ c.lex.ensures.t_after c.mark_hosts.ensures
-
-pub returns-in-Ok : goal.returns-in-Ok
-returns-in-Ok c =
-    search source-ways
-
-pub returns-in-Err : goal.returns-in-Err
-returns-in-Err c =
-    search source-ways
+pub returns : goal.returns
+returns c =
+    judge-tokens _ _ _ _ _ _ c.in_ok-n.ensures.value c.in_ok-n.ensures.t_after _ refl _ _ c.mark_hosts.ensures c.judge_tokens.ensures

@@ -16,8 +16,8 @@ count_word-d-requires c =
 
 pub rows_form-requires : goal.rows_form-requires
 rows_form-requires c =
-    record { 0 = search places; 1 = search places; 2 = search places; 3 = search places; 4 = search places }
+    record { 0 = search places; 1 = search places; 2 = search places; 3 = search (places, c.in_ok-end.ensures.0); 4 = search (places, c.in_ok-end.ensures.1) }
 
-pub returns-in-Nowhere : goal.returns-in-Nowhere
-returns-in-Nowhere c =
-    search form-ways
+pub returns-in_err-end : goal.returns-in_err-end
+returns-in_err-end c =
+    rw c.from_residual.ensures (search (form-ways, c.in_err-end.ensures.0))

@@ -5,14 +5,14 @@ pub returns-then-byte_in-tag : goal.returns-then-byte_in-tag
 returns-then-byte_in-tag c =
     search good-ways
 
-pub body_fits-requires : goal.body_fits-requires
-body_fits-requires c =
+pub body-requires : goal.body-requires
+body-requires c =
     search whole-fits-by
 
 pub returns-then-is_whole : goal.returns-then-is_whole
 returns-then-is_whole c =
     search good-ways
 
-pub returns : goal.returns
-returns c =
+pub returns-else-is_whole : goal.returns-else-is_whole
+returns-else-is_whole c =
     search good-ways

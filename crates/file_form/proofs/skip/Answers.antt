@@ -1,20 +1,20 @@
 use Rattle.file_form.proofs.Cases.{skipping, ends_at, ends_nowhere, within-at, within-nowhere, good-fits-by}
 use Rattle.file_form.proofs.skip.Goals as goal
 
-pub loop-i-init : goal.loop-i-init
-loop-i-init c =
+pub loop-init : goal.loop-init
+loop-init c =
     search skipping
 
 pub behind-p-requires : goal.behind-p-requires
 behind-p-requires c =
     search good-fits-by
 
-pub loop-i-preserved : goal.loop-i-preserved
-loop-i-preserved c =
+pub loop-preserved : goal.loop-preserved
+loop-preserved c =
     search skipping
 
-pub returns-else-is_good : goal.returns-else-is_good
-returns-else-is_good c =
+pub returns-then-not-is_good : goal.returns-then-not-is_good
+returns-then-not-is_good c =
     record { 0 = search ends_nowhere; 1 = search within-nowhere }
 
 pub returns : goal.returns

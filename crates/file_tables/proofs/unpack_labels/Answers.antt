@@ -1,14 +1,13 @@
 use Rattle.file_tables.proofs.Cases.{fielding}
-use native.Mathlib.Omega.{arith}
 use Rattle.file_tables.proofs.unpack_labels.Goals as goal
 
 pub loop-i-init : goal.loop-i-init
 loop-i-init c =
     search fielding
 
-pub unpack_label_field-requires : goal.unpack_label_field-requires
-unpack_label_field-requires c =
-    record { 0 = search fielding; 1 = omega arith }
+pub body-requires : goal.body-requires
+body-requires c =
+    search fielding
 
 pub behind-p-requires : goal.behind-p-requires
 behind-p-requires c =

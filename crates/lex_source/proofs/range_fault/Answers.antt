@@ -1,8 +1,8 @@
 use Rattle.lex_source.proofs.Cases.{faulting}
 use Rattle.lex_source.proofs.range_fault.Goals as goal
 
-pub returns-then-x : goal.returns-then-x
-returns-then-x c =
+pub returns-then-is_some : goal.returns-then-is_some
+returns-then-is_some c =
     search faulting
 
 pub returns : goal.returns

@@ -17,6 +17,6 @@ pub loop-y-preserved : goal.loop-y-preserved
 loop-y-preserved c =
     search walking
 
-pub returns-in-Over : goal.returns-in-Over
-returns-in-Over c =
+pub returns : goal.returns
+returns c =
     search walking

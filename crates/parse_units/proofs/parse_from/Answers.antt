@@ -18,6 +18,6 @@ pub loop-x-preserved : goal.loop-x-preserved
 loop-x-preserved c =
     search parsing
 
-pub returns-in-Done : goal.returns-in-Done
-returns-in-Done c =
+pub returns-in-Break : goal.returns-in-Break
+returns-in-Break c =
     search parsing

@@ -1,8 +1,8 @@
 use Rattle.parse_units.proofs.Cases.{limiting}
 use Rattle.parse_units.proofs.room_rule.Goals as goal
 
-pub returns-then-rows_left-rows_of : goal.returns-then-rows_left-rows_of
-returns-then-rows_left-rows_of c =
+pub returns-then-saturating_sub-rows_of : goal.returns-then-saturating_sub-rows_of
+returns-then-saturating_sub-rows_of c =
     search limiting
 
 pub returns : goal.returns

@@ -1,7 +1,6 @@
-use Rattle.res_data.specs.Sizes.{address_of}
+use Rattle.res_data.proofs.Cases.{address-is}
 use Rattle.res_data.proofs.address_of.Goals as goal
 
 pub returns : goal.returns
-unfolding address_of
 returns c =
-    cc
+    search address-is

@@ -5,10 +5,6 @@ pub loop-k-init : goal.loop-k-init
 loop-k-init c =
     search writing
 
-pub returns-then-count-k : goal.returns-then-count-k
-returns-then-count-k c =
-    search writing
-
 pub loop-k-preserved : goal.loop-k-preserved
 loop-k-preserved c =
     search writing
