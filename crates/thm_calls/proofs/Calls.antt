@@ -35,7 +35,7 @@ use Rattle.vm_definitions.specs.Start.{Started}
 use Rattle.vm_definitions.specs.declared.StartError.TheVariants.{Refused, Unsound}
 use Rattle.c_words.specs.Words.{record_size}
 use Rattle.c_words.specs.Record.{is_stop, record_of}
-use Rattle.c_words.specs.Reply.{stop_number, broken_number, outcome_number, refusal_reply, outcome_reply, resumed_reply, start_number, record_begun, opening_reply}
+use Rattle.c_words.specs.Reply.{error_number, error_place, stop_number, broken_number, outcome_number, refusal_reply, outcome_reply, resumed_reply, start_number, record_begun, opening_reply}
 use Rattle.c_words.proofs.Laws.{Listed, record-back, record-long, record-listed}
 use Rattle.c_voodoo.specs.Calls.{Answered, outcome_of, resumed_of, unfit, outcome_answer, resumed_answer, opening_answer, step_by, step_call, run_by, run_call, resume_by, resume_call, start_call}
 use Rattle.thm_calls.specs.Calls.{Held, held_in, world_of, HostCall, invocations, answer_to, answer_of, held_after, numbers_after, started_from, Without35, Holds, HostDemand}
@@ -76,11 +76,11 @@ abbrev P : Started → Type 0
 P a = Not35 (start_number a)
 
 begun : P (Ok tt)
-unfolding start_number
+unfolding start_number error_number
 begun h = absurd (omega (arith, h))
 
 refused : (k : ℕ) → eqb k 35 ≡ false → P (Err (Refused k))
-unfolding start_number
+unfolding start_number error_number
 refused k e h = absurd (true-false (sym (eq-eqb k 35 h) ∙ e))
 
 module _ (t : Tables) (bytes : List ℕ) where
@@ -270,7 +270,7 @@ module _ (t : Tables) (bytes : List ℕ) where
         (begun-holds name args h.words h.stack h.memory (fresh_of 0 0 0) long))
 
     first-number : Not35 (start_call h.words h.stack h.memory out t bytes name args).number
-    unfolding start_number
+    unfolding start_number error_number
     first-number q =
         absurd (omega (arith, sym (ap start_number e) ∙ sym (number-start name args h.words h.stack h.memory out long) ∙ q))
 
