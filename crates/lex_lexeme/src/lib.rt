@@ -6,12 +6,12 @@ ghost use Rattle.base_limits.specs.Limits.{word_values};
 ghost use Rattle.base_limits.specs.Width.{bits_of};
 ghost use Rattle.lex_lexeme.specs.Number.{digit_from, digit_at, digits_at, decimal_of, half_of, whole_of, integer_of};
 ghost use Rattle.lex_lexeme.specs.Gap.{comment_end, gap_skip, gap_end};
-ghost use Rattle.lex_lexeme.specs.Reading.{starts_symbol, starts_integer, texted, valued, symbol_to, symbol_end, symbol_at, string_to, string_end, string_read, digits_read, integer_at, marked_from, marked_at, at_from, at_read, plain_read, token_at, next_read, is_named, name_start};
+ghost use Rattle.lex_lexeme.specs.Reading.{starts_symbol, starts_integer, texted, valued, symbol_to, symbol_by, symbol_at, string_to, string_by, string_read, digits_read, integer_at, marked_from, marked_at, at_from, at_read, plain_read, token_at, next_read, is_named, name_start};
 ghost use Rattle.lex_spelling.specs.Text.{end_of};
 
 use base_limits::{Machine, Width};
 use lang_kinds::Token;
-use lex_spelling::{Decoded, Ending};
+use lex_spelling::{Decoded, Ending, Spelled};
 
 // Digits read: how many, their value, at most 2^32, and the place behind them.
 #[derive(Drop)]
@@ -243,15 +243,13 @@ fn symbol_end(
     kind: u32,
     first: usize,
     start: usize,
-    size: usize,
-    hash: u32,
-    e: Ending,
+    x: Spelled,
 ) -> Result<Lexeme, TokenError>
-    requires { end_of e ≤ length s.now }
-    ensures { result ≡ symbol_end s.now kind first start size hash e }
+    requires { end_of x.ending ≤ length s.now }
+    ensures { result ≡ symbol_by s.now kind first start x }
 {
-    match e {
-        Ending::Stopped(p) => Ok(symbol_to(s, kind, first, start, size, hash, p)),
+    match x.ending {
+        Ending::Stopped(p) => Ok(symbol_to(s, kind, first, start, x.size, x.hash, p)),
         Ending::Broken(p) => Err(TokenError::Broken(p)),
     }
 }
@@ -261,8 +259,7 @@ fn read_symbol(s: &[u8], kind: u32, first: usize, start: usize) -> Result<Lexeme
     requires { start ≤ length s.now }
     ensures { result ≡ symbol_at s.now kind first start }
 {
-    let x = lex_spelling::spell(false, s, start);
-    symbol_end(s, kind, first, start, x.size, x.hash, x.ending)
+    symbol_end(s, kind, first, start, lex_spelling::spell(false, s, start))
 }
 
 fn string_to(s: &[u8], first: usize, size: usize, hash: u32, p: usize) -> Result<Lexeme, TokenError>
@@ -282,18 +279,12 @@ fn string_to(s: &[u8], first: usize, size: usize, hash: u32, p: usize) -> Result
     Err(TokenError::Open(first))
 }
 
-fn string_end(
-    s: &[u8],
-    first: usize,
-    size: usize,
-    hash: u32,
-    e: Ending,
-) -> Result<Lexeme, TokenError>
-    requires { (end_of e ≤ length s.now) × (first < length s.now) }
-    ensures { result ≡ string_end s.now first size hash e }
+fn string_end(s: &[u8], first: usize, x: Spelled) -> Result<Lexeme, TokenError>
+    requires { (end_of x.ending ≤ length s.now) × (first < length s.now) }
+    ensures { result ≡ string_by s.now first x }
 {
-    match e {
-        Ending::Stopped(p) => string_to(s, first, size, hash, p),
+    match x.ending {
+        Ending::Stopped(p) => string_to(s, first, x.size, x.hash, p),
         Ending::Broken(p) => Err(TokenError::Broken(p)),
     }
 }
@@ -303,8 +294,7 @@ fn read_string(s: &[u8], first: usize) -> Result<Lexeme, TokenError>
     requires { first < length s.now }
     ensures { result ≡ string_read s.now first }
 {
-    let x = lex_spelling::spell(true, s, first + 1);
-    string_end(s, first, x.size, x.hash, x.ending)
+    string_end(s, first, lex_spelling::spell(true, s, first + 1))
 }
 
 fn read_unsigned(
