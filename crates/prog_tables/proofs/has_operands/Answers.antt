@@ -1,5 +1,5 @@
-use Rattle.prog_rules.proofs.Rows.{operands}
-use Rattle.prog_rules.proofs.has_operands.Goals as goal
+use Rattle.prog_tables.proofs.KindWays.{operands}
+use Rattle.prog_tables.proofs.has_operands.Goals as goal
 
 pub returns-then-has_expression : goal.returns-then-has_expression
 returns-then-has_expression c =
