@@ -17,6 +17,7 @@ use Rattle.check_source.specs.Checked.{Checked, Counts, Refusal}
 use Rattle.test_lines.specs.Lines.{starts_with}
 use Rattle.test_lines.specs.Sources.{source, is_source}
 use Rattle.test_text.specs.Answers.{add_all, rejected_bytes}
+use Rattle.test_state.specs.declared.Fault.TheVariants.{NoAnswer}
 use Rattle.test_state.specs.declared.Progress.{Progress}
 use Rattle.test_state.specs.Progress.{on, failed_of, checked_of, answered_of, unanswered_of, counted_of}
 use Rattle.test_state.specs.Source.{body-word, close_body, read_source}
@@ -164,7 +165,7 @@ module _ (l : List ℕ) (q : Progress) (got : List ℕ) (t : List ℕ) (b : List
   unfolding read_checked
   read-checked-1 a p0 h0 z g p1 = rw (← p0, ← p1) (search tests)
 
-  pub read-checked-2 : (a : Bool) → a ≡ is_answer l → a ≡ false → 0 < q.given → (n : Progress) → n ≡ unanswered_of q → (z : Progress) → z ≡ failed_of n 2 → done z got t b k m ≡ read_checked l q got t b k m
+  pub read-checked-2 : (a : Bool) → a ≡ is_answer l → a ≡ false → 0 < q.given → (n : Progress) → n ≡ unanswered_of q → (z : Progress) → z ≡ failed_of n NoAnswer → done z got t b k m ≡ read_checked l q got t b k m
   unfolding read_checked
   read-checked-2 a p0 h0 h1 n p1 z p2 = rw (← p0, ← p1, ← p2) (search tests)
 

@@ -5,6 +5,7 @@ use Rattle.base_prelude.specs.Choice.{if_lt, if_true}
 use Rattle.base_prelude.specs.Lists.{same_list}
 use Rattle.test_lines.specs.Lines.{starts_with}
 use Rattle.test_lines.specs.Sources.{is_source}
+use Rattle.test_state.specs.declared.Fault.TheVariants.{NoAnswer}
 use Rattle.test_state.specs.declared.Progress.{Progress}
 use Rattle.test_state.specs.Progress.{failed_of, unanswered_of}
 use Rattle.test_state.specs.Source.{body-word, read_source}
@@ -117,7 +118,7 @@ changed_with x got = done x.progress got x.rows x.bytes x.stack x.memory
 unfoldable pub read_checked : List ℕ → Progress → List ℕ → List ℕ → List ℕ → List ℕ → List ℕ → Done
 read_checked l q got t b k m =
     if_true (is_answer l) (done (read_answer l q got).progress (read_answer l q got).buffer t b k m)
-    (if_lt 0 q.given (done (failed_of (unanswered_of q) 2) got t b k m)
+    (if_lt 0 q.given (done (failed_of (unanswered_of q) NoAnswer) got t b k m)
     (if_true (is_call l) (ran_with (read_call l q got t b k m) t b)
     (if_true (is_view l) (done (read_view l q got k m).progress (read_view l q got k m).buffer t b k m)
     (changed_with (read_change l q t b k m) got))))
