@@ -185,7 +185,7 @@ module _ (l : List ℕ) where
   unfolding is_start
   is-start-2 a p0 h0 r p1 = rw (← p0, ← p1) (search tests)
 
-pub ruleset is-start-ways = (is-start-1, is-start-2)
+pub ruleset is_start_ways = (is-start-1, is-start-2)
 
 -- `do_call`
 module _ (l : List ℕ) (q : Progress) (got : List ℕ) (t : List ℕ) (b : List ℕ) (k : List ℕ) (m : List ℕ) where

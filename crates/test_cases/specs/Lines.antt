@@ -1,10 +1,11 @@
 -- The lines of a case.
 -- Assumes nothing.
-use Rattle.std.specs.Prelude.{ℕ, Bool, true, List, [], ◌∷◌}
+use Rattle.std.specs.Prelude.{ℕ, Bool, true, false, List, [], ◌∷◌, Option, None, Some}
 use Rattle.base_prelude.specs.Choice.{if_lt, if_true}
 use Rattle.base_prelude.specs.Lists.{same_list}
 use Rattle.test_lines.specs.Lines.{starts_with}
 use Rattle.test_lines.specs.Sources.{is_source}
+use Rattle.test_state.specs.declared.Fault.{Fault}
 use Rattle.test_state.specs.declared.Fault.TheVariants.{NoAnswer}
 use Rattle.test_state.specs.declared.Progress.{Progress}
 use Rattle.test_state.specs.Progress.{failed_of, unanswered_of}
@@ -135,9 +136,14 @@ lined progress text got rows bytes stack memory =
 abbrev pub done_with : Done → List ℕ → Lined
 done_with x text = lined x.progress text x.got x.rows x.bytes x.stack x.memory
 
+-- whether a line came to a fault
+abbrev pub is_fault : Option Fault → Bool
+is_fault None = false
+is_fault (Some f) = true
+
 abbrev pub behind_by : List ℕ → Once → List ℕ → List ℕ → Lined
 behind_by l x k m =
-    if_lt 0 x.progress.fault (lined x.progress x.text x.got x.rows x.bytes k m)
+    if_true (is_fault x.progress.fault) (lined x.progress x.text x.got x.rows x.bytes k m)
     (done_with (read_checked l x.progress x.got x.rows x.bytes k m) x.text)
 
 -- a line that needs the tables of the source
