@@ -13,9 +13,7 @@ ghost use Rattle.test_calls.specs.Calls.{ran, with_outcome, with_opening, with_r
 
 use test_lines::{Case, add_text, field_start, front, starts_with};
 use test_state::{Fault, Progress, failed, with_answer, with_machine};
-use test_text::{
-    Bytes, Memory, Room, Rows, Stack, Text, at_most, behind, keep_memory, keep_stack,
-};
+use test_text::{Bytes, Memory, Room, Rows, Stack, Text, at_most, behind, keep_memory, keep_stack};
 use vm_definitions::{Opening, Outcome, Resumed};
 
 fn with_outcome(q: Progress, o: Outcome, got: &mut Text) -> Progress
@@ -27,7 +25,10 @@ fn with_outcome(q: Progress, o: Outcome, got: &mut Text) -> Progress
 fn with_opening(q: Progress, o: Opening, got: &mut Text) -> Progress
     ensures { on result got.new ≡ with_opening q o got.old }
 {
-    with_answer(with_machine(q, o.machine), test_text::add_started(o.answer, got))
+    with_answer(
+        with_machine(q, o.machine),
+        test_text::add_started(o.answer, got),
+    )
 }
 
 fn with_resumed(q: Progress, o: Resumed, got: &mut Text) -> Progress

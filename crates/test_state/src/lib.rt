@@ -213,7 +213,13 @@ fn with_stack(q: Progress, n: usize) -> Progress
 fn with_memory(q: Progress, n: usize) -> Progress
     ensures { result ≡ memory_lent q n }
 {
-    with_lent(q, Lent { memory: n, ..q.lent })
+    with_lent(
+        q,
+        Lent {
+            memory: n,
+            ..q.lent
+        },
+    )
 }
 
 // `memory N`: what was lent before keeps its bytes.
@@ -527,7 +533,15 @@ fn read_lend(l: &[u8], q: Progress) -> Progress
     let size = n as usize;
     let a = q.lent;
     if has_word(l, 1, b"statements ") {
-        return lend_part(q, n, 27648, Lent { statements: size, ..a });
+        return lend_part(
+            q,
+            n,
+            27648,
+            Lent {
+                statements: size,
+                ..a
+            },
+        );
     }
     if has_word(l, 1, b"labels ") {
         return lend_part(q, n, 1024, Lent { labels: size, ..a });
