@@ -247,6 +247,7 @@ fn is_inner(l: &[u32], v: u32, i: u32) -> bool
     false
 }
 
+// One line each: one function for the three would take the kind as a closure, and a ghost of what it computes.
 // Whether one of k labels is that of place v.
 fn has_place(l: &[u32], k: u32, v: u32) -> bool
     ensures { result ≡ labelled (label_at l.now []) k (λ x. eqb x place_label) v }
