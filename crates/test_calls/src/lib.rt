@@ -39,7 +39,7 @@ fn with_resumed(q: Progress, o: Resumed, got: &mut Text) -> Progress
     with_answer(with_machine(q, r), test_text::add_resumed(o, got))
 }
 
-// Beside each other: each passes the lent tables to another function of the machine, whose answer has a type of its own.
+// Four alike: each hands the lent tables to another function of the machine, which answers with another type.
 fn call_step(q: Progress, t: &[u32], b: &[u8], stack: &mut [u32], memory: &mut [u8]) -> Outcome
     ensures { left result stack.new memory.new ≡ step_of (program_from Bits32 (tables_in q t.now b.now)) (world q.machine stack.old memory.old) }
 {

@@ -197,6 +197,7 @@ pub fn has_numbers(l: &[u8], from: u64, end: u64) -> bool
     l.len() <= field_start(l, end)
 }
 
+// As that of lex_spelling, but apart: what reads the lexer's cases does not stand on the lexer.
 #[tactic(auto, using(base_prelude::proofs::Choice::tests), unfolding(crate::specs::Sources::hex_of))]
 fn hex_digit(c: u32) -> u32
     ensures value { result ≡ hex_of c }

@@ -222,7 +222,7 @@ fn with_memory(q: Progress, n: usize) -> Progress
     )
 }
 
-// `memory N`: what was lent before keeps its bytes.
+// `memory N`: what was lent before keeps its bytes. One for both would take the clearing and the bound as well.
 pub fn read_memory(l: &[u8], q: Progress, m: &mut Memory) -> Progress
     ensures { on result m.new ≡ read_memory l.now q m.old }
 {

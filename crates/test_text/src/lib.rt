@@ -417,12 +417,13 @@ pub fn add_record(r: Machine, text: &mut Text) -> usize
     add_next(r.top as u64, text, b)
 }
 
-// Words from a place on, as many as a line has behind its place.
+// Words from a place on, as many as a line has behind its place. Its twin prints bytes: a generic item has no decimal.
 pub fn add_words(l: &[u8], at: usize, stack: &[u32], text: &mut Text) -> usize
     ensures { source result text.new ≡ add_all (words_bytes l.now at stack.now) (source 0 text.old) }
 {
     let count = count_fields(l);
     let mut size = add_counted(b"words", at as u64, text);
+    // By index: the sum of `at` and the field may pass 2^64, and a zip of the two ranges is no plainer.
     let mut i = at;
     for _ in 2..count {
         if stack.len() <= i {
@@ -440,6 +441,7 @@ pub fn add_bytes(l: &[u8], at: usize, memory: &[u8], text: &mut Text) -> usize
 {
     let count = count_fields(l);
     let mut size = add_counted(b"holds", at as u64, text);
+    // By index: the sum of `at` and the field may pass 2^64, and a zip of the two ranges is no plainer.
     let mut i = at;
     for _ in 2..count {
         if memory.len() <= i {
@@ -618,7 +620,7 @@ pub fn copy_bytes(from: &[u8], to: &mut [u8], at: usize)
     }
 }
 
-// Zeros from a place on.
+// Zeros from a place on. Two of a kind: `store_from` is over lists of numbers, so a generic one cannot be stated.
 pub fn clear_stack(k: &mut Stack, from: usize)
     ensures { k.new ≡ store_from k.old from (replicate (16385 - from) 0) }
 {
@@ -635,7 +637,7 @@ pub fn clear_memory(m: &mut Memory, from: usize)
     }
 }
 
-// Keeps the first words as they are before a call.
+// Keeps the first words as they are before a call. Two of a kind, as the two before.
 pub fn keep_stack(k: &mut Stack, n: usize)
     ensures { k.new ≡ store_from k.old 16385 (take (lesser_of n 16385) k.old) }
 {
@@ -648,7 +650,7 @@ pub fn keep_memory(m: &mut Memory, n: usize)
     m.copy_within(..at_most(n, Room::MEMORY), Room::MEMORY);
 }
 
-// The first word that the last call changed, or n.
+// The first word that the last call changed, or n. Two of a kind: `changed_in` reads lists of numbers.
 pub fn changed_word(k: &Stack, n: usize) -> usize
     ensures { result ≡ changed_in 16385 k.now n }
 {
@@ -682,6 +684,7 @@ pub fn put_bytes(l: &[u8], at: usize, n: usize, m: &mut Memory) -> bool
     ensures { stored result m.new ≡ bytes_stored l.now at n m.old }
 {
     let count = count_fields(l);
+    // By index: the sum of `at` and the field may pass 2^64, and a zip of the two ranges is no plainer.
     let mut i = at;
     for f in 2..count {
         if n <= i {
