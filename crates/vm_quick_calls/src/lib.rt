@@ -14,7 +14,7 @@ ghost use Rattle.vm_quick_calls.specs.Transfers.{transferred, good_from, callee_
 use base_limits::Machine;
 use lang_kinds::Kind;
 use prog_tables::{ExpressionKind, OperandKind, Table};
-use vm_definitions::{Value};
+use vm_definitions::Value;
 
 // Where a call or a return that is taken goes on: in another frame, with its words and an auto top. Without one nothing happened.
 #[derive(Clone, Copy, Debug, PartialEq, Eq)]
@@ -262,7 +262,16 @@ fn tail_call(
 // ---- returns
 
 // The value that row n returns.
-fn result(t: &[u32], d: u32, size: u32, st: &[u32], s: u32, m: &[u8], n: u32, top: u32) -> Result<Value, u32>
+fn result(
+    t: &[u32],
+    d: u32,
+    size: u32,
+    st: &[u32],
+    s: u32,
+    m: &[u8],
+    n: u32,
+    top: u32,
+) -> Result<Value, u32>
     requires { (place_of n + statement_row ≤ length t.now) × (s + size ≤ length st.now) × (length m.now ≤ memory_bytes) }
     ensures { result ≡ result_of t.now d size st.now s m.now n top }
 {

@@ -31,7 +31,16 @@ pub struct PlainRun {
 }
 
 // `let` and `set` of a local, without a call; the head of the frame is not written.
-fn assign(t: &[u32], d: u32, size: u32, st: &mut [u32], s: u32, m: &[u8], n: u32, top: u32) -> Option<Move>
+fn assign(
+    t: &[u32],
+    d: u32,
+    size: u32,
+    st: &mut [u32],
+    s: u32,
+    m: &[u8],
+    n: u32,
+    top: u32,
+) -> Option<Move>
     requires { (n < greatest_word) × (place_of n + statement_row ≤ length t.now) × (s + size ≤ length st.old) × (length m.now ≤ memory_bytes) }
     ensures { taken result st.new m.now ≡ quick_assign t.now d size st.old s m.now n top }
 {
@@ -92,10 +101,7 @@ fn branch(n: u32, top: u32, k: u32, a: u32, x: u32, y: u32) -> Option<Move>
     ensures { result ≡ to_row (if_true (test_holds Bits32 k x y) (suc n) a) top }
 {
     if vm_operands::test(k, x, y) {
-        return Some(Move {
-            next: n + 1,
-            top,
-        });
+        return Some(Move { next: n + 1, top });
     }
     Some(Move { next: a, top })
 }
@@ -148,7 +154,15 @@ fn open_block(st: &mut [u32], at: usize, top: u32, lets: u32)
 }
 
 // `block`.
-fn enter_block(t: &[u32], size: u32, st: &mut [u32], s: u32, m: &[u8], n: u32, top: u32) -> Option<Move>
+fn enter_block(
+    t: &[u32],
+    size: u32,
+    st: &mut [u32],
+    s: u32,
+    m: &[u8],
+    n: u32,
+    top: u32,
+) -> Option<Move>
     requires { (n < greatest_word) × (place_of n + statement_row ≤ length t.now) }
     ensures { taken result st.new m.now ≡ quick_block t.now size st.old s m.now n top }
 {
@@ -161,10 +175,7 @@ fn enter_block(t: &[u32], size: u32, st: &mut [u32], s: u32, m: &[u8], n: u32, t
         return None;
     }
     open_block(st, s as usize + a as usize, top, b);
-    Some(Move {
-        next: n + 1,
-        top,
-    })
+    Some(Move { next: n + 1, top })
 }
 
 // `end block`.
@@ -180,10 +191,7 @@ fn leave_block(t: &[u32], size: u32, st: &[u32], s: u32, m: usize, n: u32) -> Op
     if m < top as usize {
         return None;
     }
-    Some(Move {
-        next: n + 1,
-        top,
-    })
+    Some(Move { next: n + 1, top })
 }
 
 // The first three operands of the row at a place, left to right.
@@ -219,10 +227,7 @@ fn set_byte(
     let a = vm_operands::byte_address(x.base, x.offset);
     if vm_operands::has_byte(m.len(), a) {
         vm_memory::put_byte(m, a, x.value);
-        return Some(Move {
-            next: n + 1,
-            top,
-        });
+        return Some(Move { next: n + 1, top });
     }
     None
 }
@@ -245,10 +250,7 @@ fn set_word(
     let a = vm_operands::word_address(x.base, x.offset);
     if vm_operands::has_word(m.len(), a) {
         vm_memory::put_word(m, a, x.value);
-        return Some(Move {
-            next: n + 1,
-            top,
-        });
+        return Some(Move { next: n + 1, top });
     }
     None
 }
@@ -281,7 +283,16 @@ fn store_at(
 }
 
 // `set @` without a call.
-fn set_at(t: &[u32], d: u32, size: u32, st: &[u32], s: u32, m: &mut [u8], n: u32, top: u32) -> Option<Move>
+fn set_at(
+    t: &[u32],
+    d: u32,
+    size: u32,
+    st: &[u32],
+    s: u32,
+    m: &mut [u8],
+    n: u32,
+    top: u32,
+) -> Option<Move>
     requires { (n < greatest_word) × (place_of n + statement_row ≤ length t.now) × (s + size ≤ length st.now) × (length m.old ≤ memory_bytes) }
     ensures { taken result st.now m.new ≡ quick_at t.now d size st.now s m.old n top }
 {
@@ -327,10 +338,7 @@ fn take_form(
         Kind::GOTO => jump(t, c, g, n, top),
         Kind::ELSE => jump(t, c, g, n, top),
         Kind::ELSE_IF => jump(t, c, g, n, top),
-        Kind::END_IF => Some(Move {
-            next: n + 1,
-            top,
-        }),
+        Kind::END_IF => Some(Move { next: n + 1, top }),
         _ => None,
     }
 }
