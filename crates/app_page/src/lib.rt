@@ -110,6 +110,7 @@ fn put_name_byte(out: &mut [u8], at: usize, c: u8) -> usize
     put_escape(out, at, c)
 }
 
+// A loop of its own beside put_bytes: one for both would take the step as a closure and say in its contract what it writes.
 fn put_name(out: &mut [u8], at: usize, name: &[u8]) -> usize
     requires { (at < 281474976710656) × (length name.now ≤ 64) }
     ensures out_after { sheet result out.new ≡ put (name_bytes_of name.now) (sheet at out.old) }
@@ -296,7 +297,9 @@ fn put_accepted(
     put_labels(out, to, table, names, rows, labels)
 }
 
-// The page of an accepted source: the counts, and a line for each label of the tables. Its length, or None where the buffer is shorter.
+// The same five lines as refused_page: a shared function would take the writer as a closure with its contract, no plainer.
+// The page of an accepted source: the counts, and a line for each label of the tables.
+// Its length, or None where the buffer is shorter.
 pub fn accepted_page(
     statements: u32,
     labels: u32,

@@ -38,19 +38,7 @@ pub fn word_in(b: &[u8], at: usize) -> u32
 pub fn has_operands(k: u32) -> bool
     ensures { result ≡ has_operands k }
 {
-    if prog_tables::has_expression(k) {
-        return true;
-    }
-    if prog_tables::is_test(k) {
-        return true;
-    }
-    if k < Kind::SET_BYTE {
-        return false;
-    }
-    if Kind::TAIL_CALL < k {
-        return false;
-    }
-    k != Kind::GOTO
+    prog_tables::has_operands(k)
 }
 
 // Whether it uses the word that is a target, a frame word or a frame size.

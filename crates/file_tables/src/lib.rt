@@ -43,6 +43,7 @@ fn unpack_row(x: &[u8], t: &mut [u32], at: usize)
     unpack_words(x, k, e, n, t, at);
 }
 
+// Three walks of four lines: one for all would be generic in the table's word, which `store_from` fixes to a number.
 // n rows, whose fields stand from a place on, to the front of the table.
 pub fn unpack_rows(b: &[u8], n: u32, at: usize, t: &mut [u32])
     requires { (n * statement_row ≤ length t.old) × (behind_fields row_tag row_fits b.now n at ≤ length b.now) }

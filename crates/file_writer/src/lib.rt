@@ -274,6 +274,7 @@ fn fit(
     ))
 }
 
+// By `if`: with `||` of three the goals at the joined value did not close.
 // Whether tables are larger than the limits allow.
 fn past_limits(c: u32, k: u32, d: u32) -> bool
     ensures { result ≡ past_limits c k d }

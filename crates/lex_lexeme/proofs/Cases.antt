@@ -108,10 +108,18 @@ module _ (s : List ℕ) (kind first start size hash p : ℕ) (e : Ending) where
   unfolding symbol_end
   end-broken q = rw q
 
-module _ (s : List ℕ) (kind first start : ℕ) (r : TokenRead) (x : Spelled) where
-  pub symbol-read : x ≡ measured (spelled_at false s start) → r ≡ symbol_end s kind first start x.size x.hash x.ending → r ≡ symbol_at s kind first start
-  unfolding symbol_at symbol_by
-  symbol-read p q = q ∙ ap (symbol_by s kind first start) p
+module _ (s : List ℕ) (kind first start : ℕ) (x : Spelled) where
+  pub by-stopped : (p : ℕ) (y : Lexeme) → x.ending ≡ ending.Stopped p → y ≡ symbol_to s kind first start x.size x.hash p → Ok y ≡ symbol_by s kind first start x
+  unfolding symbol_by
+  by-stopped p y q f = end-stopped s kind first start x.size x.hash p x.ending y q f
+
+  pub by-broken : (p : ℕ) → x.ending ≡ ending.Broken p → Err (Broken p) ≡ symbol_by s kind first start x
+  unfolding symbol_by
+  by-broken p q = end-broken s kind first start x.size x.hash p x.ending q
+
+  pub symbol-read : (r : TokenRead) → x ≡ measured (spelled_at false s start) → r ≡ symbol_by s kind first start x → r ≡ symbol_at s kind first start
+  unfolding symbol_at
+  symbol-read r p q = q ∙ ap (symbol_by s kind first start) p
 
 pub spelled-end : (q : Bool) (s : List ℕ) (start : ℕ) (x : Spelled) → start ≤ length s → x ≡ measured (spelled_at q s start) → end_of x.ending ≤ length s
 spelled-end q s start x l e = (spelled-in q s start x l e).1
@@ -136,10 +144,18 @@ module _ (s : List ℕ) (first size hash p : ℕ) where
   unfolding string_end
   string-broken e q = rw q
 
-pub string-is : (s : List ℕ) (first : ℕ) (r : TokenRead) (x : Spelled) → x ≡ measured (spelled_at true s (first + 1))
-    → r ≡ string_end s first x.size x.hash x.ending → r ≡ string_read s first
-unfolding string_read string_by
-string-is s first r x p q = q ∙ ap (string_by s first) p
+module _ (s : List ℕ) (first : ℕ) (x : Spelled) where
+  pub string-by-stopped : (p : ℕ) (r : TokenRead) → x.ending ≡ ending.Stopped p → r ≡ string_to s first x.size x.hash p → r ≡ string_by s first x
+  unfolding string_by
+  string-by-stopped p r q f = string-stopped s first x.size x.hash p r x.ending q f
+
+  pub string-by-broken : (p : ℕ) → x.ending ≡ ending.Broken p → Err (Broken p) ≡ string_by s first x
+  unfolding string_by
+  string-by-broken p q = string-broken s first x.size x.hash p x.ending q
+
+  pub string-is : (r : TokenRead) → x ≡ measured (spelled_at true s (first + 1)) → r ≡ string_by s first x → r ≡ string_read s first
+  unfolding string_read
+  string-is r p q = q ∙ ap (string_by s first) p
 
 empty : (w : Width) (kind first : ℕ) (neg : Bool) (ds : List ℕ) (next : ℕ) → length ds ≡ 0 → Err (Lone first) ≡ integer_by w kind first neg ds next
 unfolding integer_by
@@ -271,9 +287,9 @@ module _ (w : Width) (s : List ℕ) (at i : ℕ) (p : i ≡ gap_end s at) where
   unfolding next_read read_at
   next-end h = rw (← p) (search tests)
 
-pub ruleset symbols = (to-label, to-symbol, to-marked, end-stopped, end-broken, symbol-read)
+pub ruleset symbols = (to-label, to-symbol, to-marked, by-stopped, by-broken, symbol-read)
 
-pub ruleset strings = (to-string, to-open, string-stopped, string-broken, string-is)
+pub ruleset strings = (to-string, to-open, string-by-stopped, string-by-broken, string-is)
 
 pub ruleset integers = (unsigned-none, unsigned-some, integer-negative, integer-positive, integer-plain)
 

@@ -6,12 +6,12 @@ ghost use Rattle.base_limits.specs.Limits.{word_values};
 ghost use Rattle.base_limits.specs.Width.{bits_of};
 ghost use Rattle.lex_lexeme.specs.Number.{digit_from, digit_at, digits_at, decimal_of, half_of, whole_of, integer_of};
 ghost use Rattle.lex_lexeme.specs.Gap.{comment_end, gap_skip, gap_end};
-ghost use Rattle.lex_lexeme.specs.Reading.{starts_symbol, starts_integer, texted, valued, symbol_to, symbol_end, symbol_at, string_to, string_end, string_read, digits_read, integer_at, marked_from, marked_at, at_from, at_read, plain_read, token_at, next_read, is_named, name_start};
+ghost use Rattle.lex_lexeme.specs.Reading.{starts_symbol, starts_integer, texted, valued, symbol_to, symbol_by, symbol_at, string_to, string_by, string_read, digits_read, integer_at, marked_from, marked_at, at_from, at_read, plain_read, token_at, next_read, is_named, name_start};
 ghost use Rattle.lex_spelling.specs.Text.{end_of};
 
 use base_limits::{Machine, Width};
 use lang_kinds::Token;
-use lex_spelling::{Decoded, Ending};
+use lex_spelling::{Decoded, Ending, Spelled};
 
 // Digits read: how many, their value, at most 2^32, and the place behind them.
 #[derive(Drop)]
@@ -81,6 +81,7 @@ fn read_digits(s: &[u8], at: usize) -> Decimal
     let mut i = at;
     let mut count: usize = 0;
     let mut value: u64 = 0;
+    // By index: a step leads behind a digit and the continuations before it.
     loop {
         match read_digit(s, i) {
             Ok(x) => {
@@ -93,6 +94,7 @@ fn read_digits(s: &[u8], at: usize) -> Decimal
     }
 }
 
+// A table of constants, as whole_of: one function with both would only move the numbers.
 fn half_of(w: Width) -> u64
     ensures { result ≡ half_of w }
 {
@@ -241,15 +243,13 @@ fn symbol_end(
     kind: u32,
     first: usize,
     start: usize,
-    size: usize,
-    hash: u32,
-    e: Ending,
+    x: Spelled,
 ) -> Result<Lexeme, TokenError>
-    requires { end_of e ≤ length s.now }
-    ensures { result ≡ symbol_end s.now kind first start size hash e }
+    requires { end_of x.ending ≤ length s.now }
+    ensures { result ≡ symbol_by s.now kind first start x }
 {
-    match e {
-        Ending::Stopped(p) => Ok(symbol_to(s, kind, first, start, size, hash, p)),
+    match x.ending {
+        Ending::Stopped(p) => Ok(symbol_to(s, kind, first, start, x.size, x.hash, p)),
         Ending::Broken(p) => Err(TokenError::Broken(p)),
     }
 }
@@ -259,8 +259,7 @@ fn read_symbol(s: &[u8], kind: u32, first: usize, start: usize) -> Result<Lexeme
     requires { start ≤ length s.now }
     ensures { result ≡ symbol_at s.now kind first start }
 {
-    let x = lex_spelling::spell(false, s, start);
-    symbol_end(s, kind, first, start, x.size, x.hash, x.ending)
+    symbol_end(s, kind, first, start, lex_spelling::spell(false, s, start))
 }
 
 fn string_to(s: &[u8], first: usize, size: usize, hash: u32, p: usize) -> Result<Lexeme, TokenError>
@@ -280,18 +279,12 @@ fn string_to(s: &[u8], first: usize, size: usize, hash: u32, p: usize) -> Result
     Err(TokenError::Open(first))
 }
 
-fn string_end(
-    s: &[u8],
-    first: usize,
-    size: usize,
-    hash: u32,
-    e: Ending,
-) -> Result<Lexeme, TokenError>
-    requires { (end_of e ≤ length s.now) × (first < length s.now) }
-    ensures { result ≡ string_end s.now first size hash e }
+fn string_end(s: &[u8], first: usize, x: Spelled) -> Result<Lexeme, TokenError>
+    requires { (end_of x.ending ≤ length s.now) × (first < length s.now) }
+    ensures { result ≡ string_by s.now first x }
 {
-    match e {
-        Ending::Stopped(p) => string_to(s, first, size, hash, p),
+    match x.ending {
+        Ending::Stopped(p) => string_to(s, first, x.size, x.hash, p),
         Ending::Broken(p) => Err(TokenError::Broken(p)),
     }
 }
@@ -301,8 +294,7 @@ fn read_string(s: &[u8], first: usize) -> Result<Lexeme, TokenError>
     requires { first < length s.now }
     ensures { result ≡ string_read s.now first }
 {
-    let x = lex_spelling::spell(true, s, first + 1);
-    string_end(s, first, x.size, x.hash, x.ending)
+    string_end(s, first, lex_spelling::spell(true, s, first + 1))
 }
 
 fn read_unsigned(
@@ -426,7 +418,7 @@ pub fn next_token(w: Width, s: &[u8], at: usize) -> Result<Option<Lexeme>, Token
     Ok(None)
 }
 
-// A symbol, plain, as a label, or under a mark.
+// A symbol, plain, as a label, or under a mark. One line, as parse_shapes.is_operator: two bounds passed are no plainer.
 pub fn is_named(kind: u32) -> bool
     ensures { result ≡ is_named kind }
 {

@@ -248,6 +248,7 @@ pub fn spell(quoted: bool, s: &[u8], at: usize) -> Spelled
     let mut i = at;
     let mut size: usize = 0;
     let mut hash: u32 = 0;
+    // By index: a step leads behind a character, which may be of several bytes.
     loop {
         match read_character(quoted, s, i) {
             Ok(x) => {
@@ -289,6 +290,7 @@ pub fn same_name(s: &[u8], p: usize, q: usize) -> bool
 {
     let mut i = p;
     let mut j = q;
+    // By index: a step leads behind a character of each text, which may be of several bytes.
     loop {
         match pair_at(s, i, j) {
             ControlFlow::Continue((one, two)) => {
@@ -304,6 +306,7 @@ fn narrow(v: u32) -> u8
     requires { v < 256 }
     ensures { result ≡ v }
 {
+    // No `try_from`: it would add a branch that never runs.
     v as u8
 }
 

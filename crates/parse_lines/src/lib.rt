@@ -29,6 +29,7 @@ pub fn token_word(t: &[u32], i: u32, f: usize) -> u32
     if at < t.len() { t[at] } else { 0 }
 }
 
+// This and the three below are accessors of one line, a constant each.
 pub fn kind_at(t: &[u32], i: u32) -> u32
     ensures { result ≡ token_word t.now i field.kind }
 {

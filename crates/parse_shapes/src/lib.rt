@@ -16,7 +16,7 @@ use parse_lines::Span;
 // A test's word and its two operands.
 const TEST_TOKENS: u32 = 3;
 
-// A plain symbol.
+// A plain symbol. One line, as is_string: a function that takes the kind is no plainer.
 pub fn is_name(t: &[u32], i: u32) -> bool
     ensures { result ≡ is_name t.now i }
 {

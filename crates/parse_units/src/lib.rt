@@ -164,6 +164,7 @@ fn own_or(k: u32, n: u32, other: u32) -> u32
     other
 }
 
+// Beside `up_of` and `open_behind`: one test each; a shared function would only move the words.
 fn frame_of(top: u32, o: Row) -> u32
     ensures { result ≡ if_true (is_frame o.kind) top o.scope }
 {
@@ -577,6 +578,7 @@ fn parse_from(w: Width, t: &[u32], n: u32, rows: &mut [u32], start: State) -> Re
     ensures { parse_result result rows.new ≡ parse_from w t.now n (world start rows.old) }
 {
     let mut s = start;
+    // A loop: it ends with the value of a Break, which no `while let` gives.
     loop {
         match step_unit(w, t, n, rows, s) {
             ControlFlow::Continue(x) => {

@@ -327,6 +327,7 @@ fn address_fault(t: &[u32], c: u32, l: &[u32], lc: u32, d: u32, n: u32) -> bool
     false
 }
 
+// The tests of a row by its kind: each names other causes, in the order of its clause, so no two are one function.
 // A broken test: its target, its operands.
 fn test_fault(t: &[u32], c: u32, l: &[u32], lc: u32, d: u32, n: u32) -> bool
     ensures { result ≡ some (target_fault (lent_program t.now c l.now lc d) n ∷ operands_fault (lent_program t.now c l.now lc d) n ∷ []) }

@@ -1,7 +1,7 @@
 -- The ways through the rules of labels.
 -- Assumes nothing.
 use mathlib.Core.Path.{◌≡◌, ◌∙◌, ap}
-use mathlib.Core.Bool.{Bool, true, false}
+use mathlib.Core.Bool.{Bool, true, false, not}
 use mathlib.Core.List.{List, []}
 use Prim.Native.Nat.{ℕ, ◌+◌, ◌-◌, ◌*◌, ◌<◌, ◌≤◌, min}
 use lib.Dec.{eqb, leb}
@@ -22,17 +22,6 @@ use Rattle.prog_labels.specs.Labels.{tabled, place_named, row_named}
 
 -- ---- what a label names
 
-module _ (k : ℕ) where
-  pub data-plain : k ≡ 1 → true ≡ is_data k
-  unfolding is_data if_eq
-  data-plain h = rw (eq-eqb _ _ h)
-
-  pub data-exported : (k ≡ 1 → ⊥) → eqb k 2 ≡ is_data k
-  unfolding is_data if_eq
-  data-exported h = rw (ne_eqb _ _ h)
-
-pub ruleset data-ways = (data-plain, data-exported)
-
 module _ (f : ℕ → Row) (x v : ℕ) where
   pub place-kind : (x ≡ 5 → ⊥) → false ≡ place_named f x v
   unfolding place_named all
@@ -44,13 +33,9 @@ module _ (f : ℕ → Row) (x v : ℕ) where
     place-function q = rw (eq-eqb _ _ h, ← e, eq-eqb _ _ q)
 
     module _ (b : Bool) (q : j ≡ 1 → ⊥) (d : b ≡ follows_jump f v) where
-      pub place-test : b ≡ true → false ≡ place_named f x v
+      pub place-rest : not b ≡ place_named f x v
       unfolding place_named all
-      place-test r = rw (eq-eqb _ _ h, ← e, ne_eqb _ _ q, ← d, r)
-
-      pub place-good : b ≡ false → true ≡ place_named f x v
-      unfolding place_named all
-      place-good r = rw (eq-eqb _ _ h, ← e, ne_eqb _ _ q, ← d, r)
+      place-rest = rw (eq-eqb _ _ h, ← e, ne_eqb _ _ q, ← d) (last-true (not b))
 
   module _ (b : Bool) (d : b ≡ is_function_label x) where
     pub row-function : (j : ℕ) → b ≡ true → j ≡ (f v).kind → eqb j 1 ≡ row_named f x v
@@ -61,7 +46,7 @@ module _ (f : ℕ → Row) (x v : ℕ) where
     unfolding row_named if_true
     row-place w h e = rw (← d, h) e
 
-pub ruleset row-ways = (place-kind, place-function, place-test, place-good, row-function, row-place)
+pub ruleset row-ways = (place-kind, place-function, place-rest, row-function, row-place)
 
 module _ (p : Program) (r : Label) (x v : ℕ) (b : Bool) (e : x ≡ r.kind) (q : v ≡ r.number) (d : b ≡ is_data x) where
   names-within : b ≡ true → leb v p.data_length ≡ names p r
@@ -119,15 +104,9 @@ module _ (l nm : List ℕ) (n from to : ℕ) (b : Bool) (q : from ≡ min (n * 6
   taken_is : b ≡ some_below (λ i. same_list (label_at l nm i).name (label_at l nm n).name) n
   taken_is = d ∙ ap (λ (x : List ℕ). some_below (λ i. same_list (label_at l nm i).name x) n) (part-name l nm n from to q r)
 
-  pub new-not : b ≡ true → false ≡ name_new (label_at l nm) n
+  pub new_is : not b ≡ name_new (label_at l nm) n
   unfolding name_new
-  new-not h = rw (← taken_is, h)
-
-  pub new-yes : b ≡ false → true ≡ name_new (label_at l nm) n
-  unfolding name_new
-  new-yes h = rw (← taken_is, h)
-
-pub ruleset new-ways = (new-not, new-yes)
+  new_is = rw (← taken_is)
 
 -- ---- the rules of a label
 

@@ -5,7 +5,7 @@ ghost use Rattle.std.specs.Prelude.{◌≡◌, []};
 ghost use Rattle.base_prelude.specs.Lists.{same_list};
 ghost use Rattle.prog_tables.specs.Tests.{all_below, some_below};
 ghost use Rattle.prog_tables.specs.Statement.{row_at};
-ghost use Rattle.prog_tables.specs.Label.{label_at, is_data};
+ghost use Rattle.prog_tables.specs.Label.{label_at};
 ghost use Rattle.prog_tables.specs.Program.{lent_program};
 ghost use Rattle.prog_tables.specs.WellFormed.{names, name_good, name_new, label_good};
 ghost use Rattle.prog_labels.specs.Labels.{tabled, place_named, row_named};
@@ -13,16 +13,6 @@ ghost use Rattle.prog_labels.specs.Labels.{tabled, place_named, row_named};
 use base_limits::Machine;
 use lang_kinds::Kind;
 use prog_tables::LabelKind;
-
-// Whether a label kind is that of data.
-fn is_data(k: u32) -> bool
-    ensures { result ≡ is_data k }
-{
-    if k == LabelKind::DATA {
-        return true;
-    }
-    k == LabelKind::EXPORTED_DATA
-}
 
 // Whether a label of kind x may name row v as a place.
 fn is_place(t: &[u32], x: u32, v: u32) -> bool
@@ -34,10 +24,7 @@ fn is_place(t: &[u32], x: u32, v: u32) -> bool
     if prog_tables::kind_at(t, v) == Kind::FUNCTION {
         return false;
     }
-    if prog_rules::follows_jump(t, v) {
-        return false;
-    }
-    true
+    !prog_rules::follows_jump(t, v)
 }
 
 // Whether a label of kind x may name row v.
@@ -56,7 +43,7 @@ fn names_good(t: &[u32], c: u32, l: &[u32], k: u32, d: u32, i: u32) -> bool
 {
     let x = prog_tables::label_kind_at(l, i);
     let v = prog_tables::label_number_at(l, i);
-    if is_data(x) {
+    if prog_tables::is_data(x) {
         return v <= d;
     }
     if x == LabelKind::IMPORT {
@@ -106,23 +93,17 @@ fn is_name_new(l: &[u32], names: &[u8], n: u32) -> bool
 {
     let from = prog_names::name_from(names, n);
     let to = prog_names::name_to(l, names, n);
-    if is_taken(l, names, &names[from..to], n) {
-        return false;
-    }
-    true
+    !is_taken(l, names, &names[from..to], n)
 }
 
 // Whether label n keeps the rules of labels.
 fn is_label_good(t: &[u32], c: u32, l: &[u32], k: u32, names: &[u8], d: u32, n: u32) -> bool
     ensures { result ≡ label_good (tabled t.now c l.now k names.now d) n }
 {
-    if names_good(t, c, l, k, d, n) {
-        if is_name_good(l, names, n) {
-            return is_name_new(l, names, n);
-        }
+    if !names_good(t, c, l, k, d, n) {
         return false;
     }
-    false
+    is_name_good(l, names, n) && is_name_new(l, names, n)
 }
 
 // Whether each of k labels keeps the rules of labels.

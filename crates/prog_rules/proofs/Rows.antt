@@ -1,14 +1,15 @@
 -- The ways through the functions on depth, targets, labels of a number and shapes.
 -- Assumes nothing.
 use mathlib.Core.Path.{◌≡◌}
-use mathlib.Core.Bool.{Bool, true, false, not}
+use mathlib.Core.Bool.{Bool, true, false}
 use Prim.Native.Nat.{ℕ, suc, ◌+◌, ◌-◌, ◌<◌, ◌≤◌}
 use native.Mathlib.Numerals.{add-one}
+use native.Mathlib.Decide.{ℕ_discrete}
 use native.Mathlib.Omega.{arith}
 use lib.Dec.{eqb, leb}
-use borrow.Author.Tests.{eq-eqb, ne_eqb, le-leb, lt-leb}
+use borrow.Author.Tests.{eq-eqb, ne_eqb}
 use Rattle.base_prelude.specs.Choice.{if_eq}
-use Rattle.prog_tables.specs.Statement.{Row, has_expression, is_test, used_by}
+use Rattle.prog_tables.specs.Statement.{Row, used_by}
 use Rattle.prog_tables.specs.Label.{Label, is_function_label}
 use Rattle.prog_tables.specs.Nesting.{depth_of, has_target, target_of}
 use Rattle.prog_tables.specs.Faults.{expression_fault}
@@ -66,15 +67,23 @@ pub ruleset aiming = (aimed-at, aimed-other)
 -- ---- labels of a number
 
 module _ (k : ℕ) where
-  pub label-function : k ≡ 3 → true ≡ is_function_label k
+  pub label-in : 3 ≤ k → k ≤ 4 → true ≡ is_function_label k
   unfolding is_function_label if_eq
-  label-function h = rw (eq-eqb _ _ h)
+  label-in h g =
+      elim (ℕ_discrete k 3) [
+        | yes e ↦ rw (eq-eqb _ _ e)
+        | no e ↦ let z : k ≡ 4 = omega arith in rw (ne_eqb _ _ e, eq-eqb _ _ z)
+      ]
 
-  pub label-exported : (k ≡ 3 → ⊥) → eqb k 4 ≡ is_function_label k
+  pub label-below : k < 3 → false ≡ is_function_label k
   unfolding is_function_label if_eq
-  label-exported h = rw (ne_eqb _ _ h)
+  label-below h = rw (ne_eqb k 3 (omega arith), ne_eqb k 4 (omega arith))
 
-pub ruleset function-label = (label-function, label-exported)
+  pub label-above : 4 < k → false ≡ is_function_label k
+  unfolding is_function_label if_eq
+  label-above h = rw (ne_eqb k 3 (omega arith), ne_eqb k 4 (omega arith))
+
+pub ruleset function-label = (label-in, label-below, label-above)
 
 module _ (g : ℕ → Label) (v i x : ℕ) (e : x ≡ (g i).kind) where
   pub place_is : (m : ℕ) → x ≡ 5 → m ≡ (g i).number → eqb m v ≡ bears g (λ k. eqb k 5) v i
@@ -104,30 +113,6 @@ module _ (g : ℕ → Label) (v i x : ℕ) (e : x ≡ (g i).kind) where
 pub ruleset bearing = (place_is, place-not, inner-is, inner-not, function-is, function-not)
 
 -- ---- shapes
-
-module _ (k : ℕ) (b : Bool) (e : b ≡ has_expression k) where
-  pub operands-expression : b ≡ true → true ≡ has_operands k
-  unfolding has_operands
-  operands-expression h = rw (← e, h)
-
-  module _ (v : Bool) (h : b ≡ false) (d : v ≡ is_test k) where
-    pub operands-test : v ≡ true → true ≡ has_operands k
-    unfolding has_operands
-    operands-test q = rw (← e, h, ← d, q)
-
-    pub operands-low : v ≡ false → k < 8 → false ≡ has_operands k
-    unfolding has_operands
-    operands-low q l = rw (← e, h, ← d, q, lt-leb _ _ l)
-
-    pub operands-high : v ≡ false → 8 ≤ k → 12 < k → false ≡ has_operands k
-    unfolding has_operands
-    operands-high q l m = rw (← e, h, ← d, q, le-leb _ _ l, lt-leb _ _ m)
-
-    pub operands-goto : v ≡ false → 8 ≤ k → k ≤ 12 → not (eqb k 10) ≡ has_operands k
-    unfolding has_operands
-    operands-goto q l m = rw (← e, h, ← d, q, le-leb _ _ l, le-leb _ _ m)
-
-pub ruleset operands = (operands-expression, operands-test, operands-low, operands-high, operands-goto)
 
 module _ (f : ℕ → Row) (n k x : ℕ) (b : Bool) (e : k ≡ (f n).kind) (w : x ≡ (f n).expr) (d : b ≡ expression_fault k x) where
   pub shape-unlisted : b ≡ true → false ≡ shaped f n

@@ -151,11 +151,7 @@ fn is_in_scope(t: &[u32], x: &[u32], n: u32, w: u32) -> bool
 {
     let g = prog_tables::func_at(t, n);
     let p = prog_tables::parameters_at(t, g);
-    if is_parameter(p, w) {
-        return true;
-    }
-    let s = prog_tables::scope_at(t, n);
-    is_on_chain(t, x, w, s)
+    is_parameter(p, w) || is_on_chain(t, x, w, prog_tables::scope_at(t, n))
 }
 
 // The locals in scope at a row.
@@ -171,25 +167,12 @@ fn scope_size(t: &[u32], x: &[u32], n: u32) -> u64
 
 // ---- operands
 
-// Whether a label kind is that of data.
-fn is_data(k: u32) -> bool
-    ensures { result ≡ is_data k }
-{
-    if k == LabelKind::DATA {
-        return true;
-    }
-    k == LabelKind::EXPORTED_DATA
-}
-
 // Whether label i is a data label with number v.
 fn is_data_at(l: &[u32], i: u32, v: u32) -> bool
     ensures { result ≡ is_data_at (label_at l.now []) v i }
 {
     let k = prog_tables::label_kind_at(l, i);
-    if is_data(k) {
-        return prog_tables::label_number_at(l, i) == v;
-    }
-    false
+    prog_tables::is_data(k) && prog_tables::label_number_at(l, i) == v
 }
 
 // Whether a data label has number v.
@@ -348,16 +331,13 @@ fn row_held(t: &[u32], c: u32, l: &[u32], k: u32, x: &[u32], y: &[u32], n: u32) 
     requires { c ≤ statements }
     ensures { result ≡ row_held (row_at t.now) c (label_at l.now []) k x.now y.now n }
 {
-    if word_held(t, c, x, y, n) {
-        if operands_held(t, l, k, x, n) {
-            if set_held(t, x, n) {
-                return address_held(t, l, k, x, n);
-            }
-            return false;
-        }
+    if !word_held(t, c, x, y, n) {
         return false;
     }
-    false
+    if !operands_held(t, l, k, x, n) {
+        return false;
+    }
+    set_held(t, x, n) && address_held(t, l, k, x, n)
 }
 
 // ---- all rows

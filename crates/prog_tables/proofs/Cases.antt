@@ -3,16 +3,14 @@
 use mathlib.Core.Path.{◌≡◌, refl, sym, ◌∙◌}
 use mathlib.Core.Bool.{Bool, true, false}
 use mathlib.Core.List.{List}
-use Prim.Native.Nat.{ℕ, ◌-◌, ◌<◌, ◌≤◌}
-use native.Mathlib.Omega.{arith}
+use Prim.Native.Nat.{ℕ, ◌≤◌}
 use lib.ListN.{length, get_or, get_or-eq_default}
-use borrow.Author.Tests.{eq-eqb, ne_eqb, eqb-true, ltb-true}
-use lib.Dec.{eqb, ltb}
+use borrow.Author.Tests.{eq-eqb, ne_eqb, eqb-true}
+use lib.Dec.{eqb}
 use Rattle.base_prelude.specs.Choice.{pick, if_lt, if_true, if_eq}
-use Rattle.base_prelude.proofs.Choice.{tests, if_eq-no, either}
+use Rattle.base_prelude.proofs.Choice.{tests, if_eq-no}
 use Rattle.lang_words.specs.Words.{words, first_of, is_number, entry_of, least_operands}
 use Rattle.prog_tables.specs.Tests.{given, all_below}
-use Rattle.prog_tables.specs.Tests.{one_of}
 use Rattle.prog_tables.specs.Statement.{has_expression, is_test, is_operator, is_call_row, is_call, is_import, is_call_expression, expression_uses, used_by}
 use Rattle.prog_tables.proofs.Each.{below_at, given-then}
 use Rattle.prog_tables.proofs.Ranges.{operator-most}

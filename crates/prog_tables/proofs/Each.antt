@@ -12,7 +12,7 @@ use Rattle.base_prelude.proofs.Choice.{true-false}
 use Rattle.base_limits.specs.declared.Width.{Width}
 use Rattle.prog_tables.specs.Tests.{both, one_of, given, all, all_below, some_below}
 use Rattle.prog_tables.specs.Label.{Tables, rows, labels_of}
-use Rattle.prog_tables.specs.Program.{Program, program_from}
+use Rattle.prog_tables.specs.Program.{program_from}
 use Rattle.prog_tables.specs.Nesting.{stands, all_closed}
 use Rattle.prog_tables.specs.WellFormed.{shallow, aimed, jumps, calls, shaped, operands_good, address_good, sets_local, framed, few_locals, forward_calls, row_tests, names, name_good, name_new, label_tests, counts_good, row_good, label_good, well_formed, WellFormed}
 

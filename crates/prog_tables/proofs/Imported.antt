@@ -1,12 +1,12 @@
 -- Imports, computed: tables with a call to an imported function, good and spoilt; which entry of the host's list counts.
 -- Assumes nothing.
 use mathlib.Core.Path.{◌≡◌, refl}
-use mathlib.Core.Bool.{Bool, true, false}
+use mathlib.Core.Bool.{true, false}
 use mathlib.Core.List.{List, [], ◌∷◌, ◌++◌}
 use Prim.Native.Nat.{ℕ, ◌+◌, ◌*◌}
 use lib.ListN.{set}
 use Rattle.base_limits.specs.declared.Width.TheVariants.{Bits32}
-use Rattle.prog_tables.specs.Layout.{statement_row, label_row, no_expression, call_expression, import_expression, constant_operand, function_label, exported_function, import_label}
+use Rattle.prog_tables.specs.Layout.{statement_row, label_row, call_expression, import_expression, constant_operand, exported_function, import_label}
 use Rattle.prog_tables.specs.StatementRow as row
 use Rattle.prog_tables.specs.LabelRow as label
 use Rattle.lang_kinds.specs.Kinds as kind
@@ -16,7 +16,7 @@ use Rattle.prog_tables.specs.Faults.{row_fault, tables_fault}
 use Rattle.prog_tables.specs.WellFormed.{well_formed}
 use Rattle.prog_tables.specs.Canonical.{canonical}
 use Rattle.prog_tables.specs.Hosts.{Hosts, host_of, host_mark, mark_number, mark_arguments, hosted}
-use Rattle.prog_tables.proofs.Samples.{padded, table_of, program}
+use Rattle.prog_tables.proofs.Samples.{table_of, program}
 use Rattle.prog_tables.proofs.Opened.{opened}
 
 abbrev bath : List ℕ

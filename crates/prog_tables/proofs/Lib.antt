@@ -1,6 +1,7 @@
 pub mod Each
 pub mod First
 pub mod Scans
+pub mod KindWays
 pub mod Ranges
 pub mod Cases
 pub mod Rows

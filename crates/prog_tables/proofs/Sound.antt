@@ -3,7 +3,7 @@
 use mathlib.Core.Path.{◌≡◌, refl, sym, ◌∙◌, subst}
 use mathlib.Core.Bool.{Bool, true, false, not}
 use mathlib.Core.List.{List, [], ◌∷◌}
-use Prim.Native.Nat.{ℕ, ◌+◌, ◌-◌, ◌<◌}
+use Prim.Native.Nat.{ℕ, ◌+◌, ◌<◌}
 use native.Mathlib.Omega.{arith}
 use borrow.Author.Tests.{eqb-true, eq-eqb, ltb-true, lt-ltb, le-ltb}
 use lib.Dec.{eqb, ltb, leb}
@@ -11,9 +11,9 @@ use Rattle.base_prelude.proofs.Choice.{true-false, if_true-yes}
 use Rattle.base_limits.specs.declared.Width.{Width}
 use Rattle.prog_tables.specs.Layout.{frame_head}
 use Rattle.prog_tables.specs.Tests.{both, one_of, given, all}
-use Rattle.prog_tables.specs.Statement.{has_expression, is_call, is_import, used_by}
+use Rattle.prog_tables.specs.Statement.{is_call, is_import, used_by}
 use Rattle.prog_tables.specs.Label.{Tables, rows, labels_of, is_function_label}
-use Rattle.prog_tables.specs.Program.{Program, program_from}
+use Rattle.prog_tables.specs.Program.{program_from}
 use Rattle.prog_tables.specs.Nesting.{open_before, stands, all_closed, target_of, has_target}
 use Rattle.prog_tables.specs.Frames.{frame_size, block_word, let_word, lets_before, locals_at}
 use Rattle.prog_tables.specs.Faults.{expression_fault, in_function, kind_fault, target_fault, function_fault, import_fault, callee_fault, size_fault}

@@ -16,7 +16,7 @@ use Rattle.lang_words.specs.Words.{number_of}
 use Rattle.base_limits.specs.declared.Width.{Width}
 use Rattle.prog_tables.specs.Tests.{both, one_of, all, some, some_below}
 use Rattle.prog_tables.specs.Statement.{Row}
-use Rattle.prog_tables.specs.Label.{Label, Tables, rows, labels_of, is_data, is_function_label}
+use Rattle.prog_tables.specs.Label.{Label, Tables, labels_of, is_data, is_function_label}
 use Rattle.prog_tables.specs.Program.{Program, program_from}
 use Rattle.prog_tables.specs.Nesting.{follows_jump}
 use Rattle.prog_tables.specs.Faults.{row_fault, label_fault, count_fault, tables_fault}

@@ -18,7 +18,7 @@ use Rattle.prog_tables.specs.Layout.{frame_head}
 use Rattle.prog_tables.specs.Tests.{both, one_of, some, all_of, some_of, some_below}
 use Rattle.prog_tables.specs.Statement.{Row, has_expression, is_test, used_by, slots, row_from, row_at}
 use Rattle.prog_tables.specs.Label.{Tables, rows, labels_of, is_data}
-use Rattle.prog_tables.specs.Program.{Program, program_from}
+use Rattle.prog_tables.specs.Program.{program_from}
 use Rattle.prog_tables.specs.Nesting.{open_before, scope_in, depth_of, encloses}
 use Rattle.prog_tables.specs.Frames.{frame_depth, frame_size, let_seen, is_parameter, seen_at, in_scope, let_word, block_word, lets_before, locals_at}
 use Rattle.prog_tables.specs.Faults.{size_at, operand_fault, address_listed, operands_fault, address_fault, own_word, has_word, word_fault, row_fault}

@@ -4,7 +4,8 @@
 ghost use Rattle.std.specs.Prelude.{◌≡◌, ◌+◌, ◌≤◌, ◌<◌, length, get_or, []};
 ghost use Rattle.prog_tables.specs.Layout.{statement_row, operand_slots, sizes_of, numbers_of};
 ghost use Rattle.prog_tables.specs.Places.{place_of, kind_from, func_from, aFrom, bFrom, expr_from, address_kind, address_place, first_place, second_place, third_place, slot_place, slot_at, token_in, next_in};
-ghost use Rattle.prog_tables.specs.Label.{label_at};
+ghost use Rattle.prog_tables.specs.Label.{label_at, is_data};
+ghost use Rattle.prog_tables.specs.WellFormed.{has_operands};
 ghost use Rattle.prog_tables.specs.Statement.{operand_of, has_expression, is_test, is_operator, is_call_row, is_call, is_import, is_call_expression, expression_uses, used_by, operand_at, row_at};
 
 use base_limits::Machine;
@@ -518,6 +519,25 @@ pub fn used_by(k: u32, e: u32, n: u32) -> u32
     0
 }
 
+// Whether a row of this kind has operands.
+pub fn has_operands(k: u32) -> bool
+    ensures { result ≡ has_operands k }
+{
+    if has_expression(k) {
+        return true;
+    }
+    if is_test(k) {
+        return true;
+    }
+    if k < Kind::SET_BYTE {
+        return false;
+    }
+    if Kind::TAIL_CALL < k {
+        return false;
+    }
+    k != Kind::GOTO
+}
+
 // The expression kind of a row.
 pub fn expression_at(t: &[u32], n: u32) -> u32
     ensures { result ≡ (row_at t.now n).expr }
@@ -575,6 +595,13 @@ pub fn label_arguments_at(l: &[u32], n: u32) -> u32
     ensures { result ≡ (label_at l.now [] n).arguments }
 {
     word_at(l, n as usize * Table::LABEL_ROW + LabelRow::ARGUMENTS)
+}
+
+// Whether a label kind is that of data.
+pub fn is_data(k: u32) -> bool
+    ensures { result ≡ is_data k }
+{
+    matches!(k, LabelKind::DATA | LabelKind::EXPORTED_DATA)
 }
 
 // ---- rows that are in the table: read without a test

@@ -16,10 +16,7 @@ use base_limits::Machine;
 fn rows_stand(t: &[u32], c: u32) -> bool
     ensures { result ≡ both (both (all_closed (row_at t.now) c) (all_below (stands (row_at t.now)) c)) (all_below (shallow (row_at t.now)) c) }
 {
-    if prog_rules::is_nested(t, c) {
-        return prog_rules::all_shallow(t, c);
-    }
-    false
+    prog_rules::is_nested(t, c) && prog_rules::all_shallow(t, c)
 }
 
 // Whether every row is good: nesting first, then what needs no frame word, then frames and scope.
@@ -27,13 +24,10 @@ fn rows_good(t: &[u32], c: u32, l: &[u32], k: u32, names: &[u8], d: u32) -> bool
     requires { c ≤ limits.statements }
     ensures { result ≡ both (all_closed (row_at t.now) c) (all_below (row_good (tabled t.now c l.now k names.now d)) c) }
 {
-    if rows_stand(t, c) {
-        if prog_rules::all_rules(t, c, l, k, d) {
-            return prog_scope::frames_good(t, c, l, k, d);
-        }
+    if !rows_stand(t, c) {
         return false;
     }
-    false
+    prog_rules::all_rules(t, c, l, k, d) && prog_scope::frames_good(t, c, l, k, d)
 }
 
 // Whether tables within the limits of rows and labels are well formed.
@@ -44,8 +38,5 @@ pub fn is_well_formed(t: &[u32], c: u32, l: &[u32], k: u32, names: &[u8], d: u32
     if Machine::DATA_BYTES < d as usize {
         return false;
     }
-    if rows_good(t, c, l, k, names, d) {
-        return prog_labels::labels_good(t, c, l, k, names, d);
-    }
-    false
+    rows_good(t, c, l, k, names, d) && prog_labels::labels_good(t, c, l, k, names, d)
 }

@@ -214,6 +214,7 @@ fn lay_from(w: Width, s: &[u8], t: &[u32], start: Cursor, out: &mut [u8])
     ensures { out.new ≡ lay_from w s.now t.now (laying start out.old) }
 {
     let mut c = start;
+    // A loop, not a for: each unit says where the next one begins.
     loop {
         match lay_step(w, s, t, c, out) {
             Ok(Some(y)) => c = y,

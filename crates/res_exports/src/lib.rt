@@ -69,6 +69,7 @@ fn find_definition(t: &[u32], from: u32) -> Span
     ensures { result ≡ definition_from t.now from }
 {
     let mut at = from;
+    // A loop, not a for: each unit says where the next one begins.
     loop {
         match seek_step(t, at) {
             ControlFlow::Continue(x) => at = x,
@@ -245,6 +246,7 @@ fn exports_from(
     ensures { exported result flags.new ≡ exports_from (same_number t.now) t.now n y.now l uses.now (world start flags.old) }
 {
     let mut s = start;
+    // A loop, not a for: each unit says where the next one begins.
     loop {
         match export_step(t, n, y, l, uses, flags, s) {
             ControlFlow::Continue(x) => s = x,

@@ -1,11 +1,12 @@
 -- One law for each way through a function of this crate.
 -- Assumes nothing.
-use mathlib.Core.Path.{◌≡◌, sym, ◌∙◌, ap}
+use mathlib.Core.Path.{◌≡◌, refl, sym, ◌∙◌, ap}
 use mathlib.Core.Bool.{Bool, true, false}
+use lib.Dec.{ltb}
 use mathlib.Core.List.{List}
 use Prim.Native.Nat.{ℕ, ◌+◌, ◌-◌, ◌<◌, ◌≤◌, min}
 use lib.ListN.{length, get_or, set}
-use Rattle.base_prelude.specs.Choice.{if_true}
+use Rattle.base_prelude.specs.Choice.{pick, if_lt, if_true}
 use Rattle.base_prelude.specs.Fault.{none}
 use Rattle.base_prelude.proofs.Choice.{if_lt-yes, if_lt-no, if_eq-yes, if_eq-no}
 use Rattle.parse_lines.specs.Tokens.{token_word, key_at}
@@ -158,13 +159,13 @@ module _ (t : List ℕ) (n : ℕ) (k y : List ℕ) (r i : ℕ) where
 pub ruleset gotos = (place-not, place-function, place-scope, place-fits, goto-let, goto-parameter, goto-label, goto-unknown)
 
 module _ (same : ℕ → ℕ → Bool) (k : List ℕ) (f i q end : ℕ) (e : q ≡ parameter_of same k f i) (d : end ≡ end_token k f) where
-  pub taken_yes : q < end → true ≡ parameter_taken same k f i
-  unfolding parameter_taken
-  taken_yes h = rw (← e, ← d) (sym (if_lt-yes _ _ h))
-
-  pub taken-no : end ≤ q → false ≡ parameter_taken same k f i
-  unfolding parameter_taken
-  taken-no h = rw (← e, ← d) (sym (if_lt-no _ _ h))
+  pub taken_is : ltb q end ≡ parameter_taken same k f i
+  unfolding parameter_taken if_lt
+  taken_is = rw (← e, ← d) (picked (ltb q end))
+    where
+      picked : (b : Bool) → b ≡ pick b true false
+      picked true = refl
+      picked false = refl
 
 module _ (same : ℕ → ℕ → Bool) (k : List ℕ) (s r i m : ℕ) (e : m ≡ first_from (let_here same k s i) (r - s) s) where
   pub local-let : m < r → true ≡ local_taken same k s r i
@@ -209,7 +210,7 @@ module _ (same : ℕ → ℕ → Bool) (t : List ℕ) (n : ℕ) (y : List ℕ) (
   label-new h = rw (← d, ← e) (sym (if_lt-no _ _ h))
 
 pub ruleset seconds =
-    (taken_yes, taken-no, local-let, local-parameter, local_free, let-second, let-new, parameter-second, parameter-new, label-second, label-new)
+    (taken_is, local-let, local-parameter, local_free, let-second, let-new, parameter-second, parameter-new, label-second, label-new)
 
 -- ---- uses
 
@@ -229,23 +230,18 @@ use-past u w i h = sym (if_lt-no _ _ h)
 pub ruleset marks = (use-first, use-later, use-past)
 
 module _ (i : ℕ) (m : Meaning) (u : List ℕ) where
-  pub use-let : (j : ℕ) → m ≡ Let j → u ≡ use_of i m u
-  unfolding use_of
-  use-let j e = rw e
-
-  pub use-parameter : (j : ℕ) → m ≡ Parameter j → u ≡ use_of i m u
-  unfolding use_of
-  use-parameter j e = rw e
-
   pub use-label : (j : ℕ) (v : List ℕ) → m ≡ Label j → v ≡ mark_use i j u → v ≡ use_of i m u
   unfolding use_of
   use-label j v e p = rw e p
 
-  pub use-unknown : m ≡ Unknown → u ≡ use_of i m u
-  unfolding use_of
-  use-unknown e = rw e
+pub use-none : (i : ℕ) (m : Meaning) (u : List ℕ) → ((j : ℕ) → m ≡ Label j → ⊥) → u ≡ use_of i m u
+unfolding use_of
+use-none i (Let j) u h = refl
+use-none i (Parameter j) u h = refl
+use-none i (Label j) u h = absurd (h j refl)
+use-none i Unknown u h = refl
 
-pub ruleset uses = (use-let, use-parameter, use-label, use-unknown)
+pub ruleset uses = (use-label, use-none)
 
 -- ---- parts
 

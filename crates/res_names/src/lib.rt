@@ -110,12 +110,7 @@ fn goto_fault(t: &[u32], n: u32, k: &[u32], y: &[u32], r: u32, i: u32, m: Meanin
 fn is_parameter_taken(t: &[u32], k: &[u32], f: u32, i: u32) -> bool
     ensures { result ≡ parameter_taken (same_number t.now) k.now f i }
 {
-    let q = res_scope::find_parameter(t, k, f, i);
-    let end = res_scope::end_token(k, f);
-    if q < end {
-        return true;
-    }
-    false
+    res_scope::find_parameter(t, k, f, i) < res_scope::end_token(k, f)
 }
 
 fn is_local_taken(t: &[u32], k: &[u32], s: u32, r: u32, i: u32) -> bool
@@ -180,13 +175,8 @@ fn mark_use(u: &mut [u32], i: u32, j: u32)
 fn use_of(u: &mut [u32], i: u32, m: Meaning)
     ensures { u.new ≡ use_of i m u.old }
 {
-    match m {
-        Meaning::Let(_) => {}
-        Meaning::Parameter(_) => {}
-        Meaning::Label(j) => {
-            mark_use(u, i, j);
-        }
-        Meaning::Unknown => {}
+    if let Meaning::Label(j) = m {
+        mark_use(u, i, j);
     }
 }
 

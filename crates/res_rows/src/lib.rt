@@ -107,6 +107,7 @@ fn is_imported(y: &[u32], m: Meaning) -> bool
     }
 }
 
+// Two functions, not one with a flag: only the constructors differ, so a flag would be tested in each arm.
 fn plain_operand(w: &[u32], z: &[u32], m: Meaning) -> Operand
     ensures { result ≡ plain_operand w.now z.now m }
 {

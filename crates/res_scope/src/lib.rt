@@ -28,6 +28,7 @@ pub enum Meaning {
 #[derive(Clone, Copy)]
 pub struct Parts {
     pub expr: u32,
+    // Not an Option: the definition `parts_of` has 0 for none.
     pub callee: u32,
     pub first: u32,
 }
@@ -117,6 +118,7 @@ fn let_here(t: &[u32], k: &[u32], s: u32, i: u32, m: u32) -> bool
 }
 
 // The let that a token means at a row, plus one; 0 for none.
+// A number, not an Option: the definition `let_of` gives this number.
 fn find_let(t: &[u32], k: &[u32], n: u32, i: u32) -> u32
     ensures { result ≡ let_of (same_number t.now) k.now n i }
 {
@@ -151,6 +153,7 @@ pub fn find_parameter(t: &[u32], k: &[u32], f: u32, i: u32) -> u32
 }
 
 // The first of l labels with the name of a token; l for none.
+// A number, not an Option: the definition `label_of` gives this number.
 pub fn find_label(t: &[u32], y: &[u32], l: u32, i: u32) -> u32
     ensures { result ≡ label_of (same_number t.now) y.now l i }
 {

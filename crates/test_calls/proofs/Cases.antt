@@ -24,6 +24,7 @@ use Rattle.test_text.specs.Fields.{word_end, raw_at}
 use Rattle.test_text.specs.Numbers.{field_word, has_values, is_digits, long_number, listed, arguments_of}
 use Rattle.test_text.specs.Answers.{add_all, started_bytes, outcome_bytes, resumed_bytes}
 use Rattle.test_text.specs.Buffers.{lesser_of, behind_of}
+use Rattle.test_state.specs.declared.Fault.TheVariants.{BadLine}
 use Rattle.test_state.specs.declared.Progress.{Progress}
 use Rattle.test_state.specs.Progress.{On, on, failed_of, answered_of, machine_of}
 use Rattle.test_state.specs.Views.{blank}
@@ -136,11 +137,11 @@ module _ (name : List ℕ) (size : ℕ) (arguments : List ℕ) (count : ℕ) (q 
 
 -- `read_start`
 module _ (l : List ℕ) (q : Progress) (got : List ℕ) (t : List ℕ) (b : List ℕ) (k : List ℕ) (m : List ℕ) where
-  pub read-start-1 : (n : ℕ) → (w : List ℕ) → source n w ≡ read_name l blank → 16401 ≤ n → (z : Progress) → z ≡ failed_of q 1 → ran z got k m ≡ read_start l q got t b k m
+  pub read-start-1 : (n : ℕ) → (w : List ℕ) → source n w ≡ read_name l blank → 16401 ≤ n → (z : Progress) → z ≡ failed_of q BadLine → ran z got k m ≡ read_start l q got t b k m
   unfolding read_start
   read-start-1 n w p0 h0 z p1 = rw (← p0, ← p1) (search tests)
 
-  pub read-start-2 : (n : ℕ) → (w : List ℕ) → source n w ≡ read_name l blank → n < 16401 → (c : ℕ) → (a : List ℕ) → listed c a ≡ arguments_of l no_words → 16 < c → (z : Progress) → z ≡ failed_of q 1 → ran z got k m ≡ read_start l q got t b k m
+  pub read-start-2 : (n : ℕ) → (w : List ℕ) → source n w ≡ read_name l blank → n < 16401 → (c : ℕ) → (a : List ℕ) → listed c a ≡ arguments_of l no_words → 16 < c → (z : Progress) → z ≡ failed_of q BadLine → ran z got k m ≡ read_start l q got t b k m
   unfolding read_start
   read-start-2 n w p0 h0 c a p1 h1 z p2 = rw (← p0, ← p1, ← p2) (search tests)
 
@@ -156,7 +157,7 @@ module _ (l : List ℕ) (q : Progress) (got : List ℕ) (t : List ℕ) (b : List
   unfolding read_run
   read-run-1 d p0 h0 n p1 z g u v p2 = rw (← p0, ← p1, ← p2) (search tests)
 
-  pub read-run-2 : (d : Bool) → d ≡ is_digits l 4 → d ≡ false → (z : Progress) → z ≡ failed_of q 1 → ran z got k m ≡ read_run l q got t b k m
+  pub read-run-2 : (d : Bool) → d ≡ is_digits l 4 → d ≡ false → (z : Progress) → z ≡ failed_of q BadLine → ran z got k m ≡ read_run l q got t b k m
   unfolding read_run
   read-run-2 d p0 h0 z p1 = rw (← p0, ← p1) (search tests)
 
@@ -168,7 +169,7 @@ module _ (l : List ℕ) (q : Progress) (got : List ℕ) (t : List ℕ) (b : List
   unfolding read_resume
   read-resume-1 d p0 h0 n p1 z g u v p2 = rw (← p0, ← p1, ← p2) (search tests)
 
-  pub read-resume-2 : (d : Bool) → d ≡ has_values l 1 2 → d ≡ false → (z : Progress) → z ≡ failed_of q 1 → ran z got k m ≡ read_resume l q got t b k m
+  pub read-resume-2 : (d : Bool) → d ≡ has_values l 1 2 → d ≡ false → (z : Progress) → z ≡ failed_of q BadLine → ran z got k m ≡ read_resume l q got t b k m
   unfolding read_resume
   read-resume-2 d p0 h0 z p1 = rw (← p0, ← p1) (search tests)
 
@@ -184,7 +185,7 @@ module _ (l : List ℕ) where
   unfolding is_start
   is-start-2 a p0 h0 r p1 = rw (← p0, ← p1) (search tests)
 
-pub ruleset is-start-ways = (is-start-1, is-start-2)
+pub ruleset is_start_ways = (is-start-1, is-start-2)
 
 -- `do_call`
 module _ (l : List ℕ) (q : Progress) (got : List ℕ) (t : List ℕ) (b : List ℕ) (k : List ℕ) (m : List ℕ) where

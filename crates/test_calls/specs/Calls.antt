@@ -20,6 +20,7 @@ use Rattle.test_text.specs.Fields.{raw_at}
 use Rattle.test_text.specs.Numbers.{field_word, has_values, is_digits, long_number, arguments_of}
 use Rattle.test_text.specs.Answers.{add_all, started_bytes, outcome_bytes, resumed_bytes}
 use Rattle.test_text.specs.Buffers.{lesser_of, behind_of}
+use Rattle.test_state.specs.declared.Fault.TheVariants.{BadLine}
 use Rattle.test_state.specs.declared.Progress.{Progress}
 use Rattle.test_state.specs.Progress.{On, failed_of, machine_of, answered_by}
 use Rattle.test_state.specs.Views.{blank}
@@ -144,19 +145,19 @@ start_named name size arguments count q got t b k m = do_start (take size name) 
 unfoldable pub read_start : List ℕ → Progress → List ℕ → List ℕ → List ℕ → List ℕ → List ℕ → Ran
 read_start l q got t b k m =
     if_lt (read_name l blank).size 16401
-    (if_lt 16 (arguments_of l no_words).count (ran (failed_of q 1) got k m)
+    (if_lt 16 (arguments_of l no_words).count (ran (failed_of q BadLine) got k m)
     (start_named (read_name l blank).text (read_name l blank).size (arguments_of l no_words).words (arguments_of l no_words).count q got t b k m))
-    (ran (failed_of q 1) got k m)
+    (ran (failed_of q BadLine) got k m)
 
 unfoldable pub read_run : List ℕ → Progress → List ℕ → List ℕ → List ℕ → List ℕ → List ℕ → Ran
 read_run l q got t b k m =
     if_true (is_digits l 4) (do_run (long_number l 4) q got t b k m)
-    (ran (failed_of q 1) got k m)
+    (ran (failed_of q BadLine) got k m)
 
 unfoldable pub read_resume : List ℕ → Progress → List ℕ → List ℕ → List ℕ → List ℕ → List ℕ → Ran
 read_resume l q got t b k m =
     if_true (has_values l 1 2) (do_resume (field_word l 1) q got t b k m)
-    (ran (failed_of q 1) got k m)
+    (ran (failed_of q BadLine) got k m)
 
 -- a start; one of the empty name may end behind its word
 unfoldable pub is_start : List ℕ → Bool

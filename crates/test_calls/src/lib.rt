@@ -13,37 +13,22 @@ ghost use Rattle.test_calls.specs.Calls.{ran, with_outcome, with_opening, with_r
 
 use test_lines::{Case, add_text, field_start, front, starts_with};
 use test_state::{Fault, Progress, failed, with_answer, with_machine};
-use test_text::{Room, at_most, behind, behind_names, front_words, keep_memory, keep_stack};
+use test_text::{Bytes, Memory, Room, Rows, Stack, Text, at_most, behind, keep_memory, keep_stack};
 use vm_definitions::{Opening, Outcome, Resumed};
-
-// A source, or an answer.
-type Text = [u8; Case::SOURCE];
-
-// Statements, behind them labels.
-type Rows = [u32; Room::ROWS];
-
-// Names, behind them data.
-type Bytes = [u8; Room::BYTES];
-
-// The stack lent, behind it the stack before the last call.
-type Stack = [u32; Room::TWO_STACKS];
-
-// The memory lent, behind it the memory before the last call.
-type Memory = [u8; Room::TWO_MEMORIES];
 
 fn with_outcome(q: Progress, o: Outcome, got: &mut Text) -> Progress
     ensures { on result got.new ≡ with_outcome q o got.old }
 {
-    let r = o.machine;
-    with_answer(with_machine(q, r), test_text::add_outcome(o, got))
+    with_answer(with_machine(q, o.machine), test_text::add_outcome(o, got))
 }
 
 fn with_opening(q: Progress, o: Opening, got: &mut Text) -> Progress
     ensures { on result got.new ≡ with_opening q o got.old }
 {
-    let r = o.machine;
-    let a = o.answer;
-    with_answer(with_machine(q, r), test_text::add_started(a, got))
+    with_answer(
+        with_machine(q, o.machine),
+        test_text::add_started(o.answer, got),
+    )
 }
 
 fn with_resumed(q: Progress, o: Resumed, got: &mut Text) -> Progress
@@ -54,6 +39,7 @@ fn with_resumed(q: Progress, o: Resumed, got: &mut Text) -> Progress
     with_answer(with_machine(q, r), test_text::add_resumed(o, got))
 }
 
+// Beside each other: each passes the lent tables to another function of the machine, whose answer has a type of its own.
 fn call_step(q: Progress, t: &[u32], b: &[u8], stack: &mut [u32], memory: &mut [u8]) -> Outcome
     ensures { left result stack.new memory.new ≡ step_of (program_from Bits32 (tables_in q t.now b.now)) (world q.machine stack.old memory.old) }
 {
@@ -61,9 +47,9 @@ fn call_step(q: Progress, t: &[u32], b: &[u8], stack: &mut [u32], memory: &mut [
     let c = q.counts;
     let r = q.machine;
     vm_run::step(
-        front_words(t, a.statements),
+        front(t, a.statements),
         c.statements,
-        front_words(behind(t), a.labels),
+        front(behind(t, Room::STATEMENTS), a.labels),
         c.labels,
         front(b, a.names),
         c.bytes,
@@ -87,9 +73,9 @@ fn call_run(
     let c = q.counts;
     let r = q.machine;
     vm_run::run(
-        front_words(t, a.statements),
+        front(t, a.statements),
         c.statements,
-        front_words(behind(t), a.labels),
+        front(behind(t, Room::STATEMENTS), a.labels),
         c.labels,
         front(b, a.names),
         c.bytes,
@@ -114,9 +100,9 @@ fn call_resume(
     let c = q.counts;
     let r = q.machine;
     vm_resume::resume(
-        front_words(t, a.statements),
+        front(t, a.statements),
         c.statements,
-        front_words(behind(t), a.labels),
+        front(behind(t, Room::STATEMENTS), a.labels),
         c.labels,
         front(b, a.names),
         c.bytes,
@@ -142,13 +128,13 @@ fn call_start(
     let c = q.counts;
     let r = q.machine;
     vm_start::start(
-        front_words(t, a.statements),
+        front(t, a.statements),
         c.statements,
-        front_words(behind(t), a.labels),
+        front(behind(t, Room::STATEMENTS), a.labels),
         c.labels,
         front(b, a.names),
         c.bytes,
-        front(behind_names(b), a.bytes),
+        front(behind(b, Room::NAMES), a.bytes),
         name,
         arguments,
         r,
@@ -260,7 +246,7 @@ fn start_named(
     do_start(
         q,
         front(name, size),
-        front_words(arguments, count),
+        front(arguments, count),
         got,
         t,
         b,
@@ -284,11 +270,11 @@ fn read_start(
     let mut arguments = [0u32; 16];
     let size = read_name(l, &mut name);
     if Case::SOURCE <= size {
-        return failed(q, Fault::BAD_LINE);
+        return failed(q, Fault::BadLine);
     }
     let n = test_text::read_arguments(l, &mut arguments);
     if 16 < n {
-        return failed(q, Fault::BAD_LINE);
+        return failed(q, Fault::BadLine);
     }
     start_named(&name, size, &arguments, n, q, got, t, b, k, m)
 }
@@ -308,7 +294,7 @@ fn read_run(
         let budget = test_text::long_number(l, 4);
         return do_run(q, budget, got, t, b, k, m);
     }
-    failed(q, Fault::BAD_LINE)
+    failed(q, Fault::BadLine)
 }
 
 fn read_resume(
@@ -326,17 +312,15 @@ fn read_resume(
         let word = test_text::word_in(l, 1);
         return do_resume(q, word, got, t, b, k, m);
     }
-    failed(q, Fault::BAD_LINE)
+    failed(q, Fault::BadLine)
 }
 
 // A start; one of the empty name may end behind its word.
+#[tactic(auto, using(crate::proofs::Cases::is_start_ways))]
 pub fn is_start(l: &[u8]) -> bool
     ensures { result ≡ is_start l.now }
 {
-    if starts_with(l, b"start ") {
-        return true;
-    }
-    base_prelude::same(l, b"start")
+    starts_with(l, b"start ") || base_prelude::same(l, b"start")
 }
 
 // What the word of a line calls.

@@ -17,6 +17,9 @@ use Rattle.check_source.specs.Checked.{Checked, Counts, Refusal}
 use Rattle.test_lines.specs.Lines.{starts_with}
 use Rattle.test_lines.specs.Sources.{source, is_source}
 use Rattle.test_text.specs.Answers.{add_all, rejected_bytes}
+use Rattle.std.specs.Prelude.{None, Some}
+use Rattle.test_state.specs.declared.Fault.{Fault}
+use Rattle.test_state.specs.declared.Fault.TheVariants.{NoAnswer}
 use Rattle.test_state.specs.declared.Progress.{Progress}
 use Rattle.test_state.specs.Progress.{on, failed_of, checked_of, answered_of, unanswered_of, counted_of}
 use Rattle.test_state.specs.Source.{body-word, close_body, read_source}
@@ -25,7 +28,7 @@ use Rattle.test_state.specs.Changes.{changed, read_change}
 use Rattle.base_prelude.proofs.Choice.{tests}
 use Rattle.test_cases.specs.Checks.{with_checked, full_tables, kept, kept_in, check_source, once, check_once}
 use Rattle.test_calls.specs.Calls.{ran, run-word, resume-word, step-word, is_start, read_call}
-use Rattle.test_cases.specs.Lines.{begun-word, refused-word, broken-word, going-word, finished-word, stopped-word, paused-word, rejected-word, record-word, words-word, holds-word, same_word, memory_word, stack-word, is_call, is_answer, is_view, is_text, done, read_checked, lined, read_behind, read_line}
+use Rattle.test_cases.specs.Lines.{begun-word, refused-word, broken-word, going-word, finished-word, stopped-word, paused-word, rejected-word, record-word, words-word, holds-word, same_word, memory_word, stack-word, is_call, is_answer, is_view, is_text, done, is_fault, read_checked, lined, read_behind, read_line}
 
 -- `with_checked`
 module _ (x : Checked) (q z : Progress) (got : List ℕ) where
@@ -88,7 +91,7 @@ module _ (l : List ℕ) where
   unfolding is_call
   is-call-4 a p0 h0 b p1 h1 c p2 h2 r p3 = rw (← p0, ← p1, ← p2, ← p3) (search tests)
 
-pub ruleset is-call-ways = (is-call-1, is-call-2, is-call-3, is-call-4)
+pub ruleset is_call_ways = (is-call-1, is-call-2, is-call-3, is-call-4)
 
 -- `is_answer`
 module _ (l : List ℕ) where
@@ -124,7 +127,7 @@ module _ (l : List ℕ) where
   unfolding is_answer
   is-answer-8 a p0 h0 b p1 h1 c p2 h2 d p3 h3 e p4 h4 f p5 h5 g p6 h6 r p7 = rw (← p0, ← p1, ← p2, ← p3, ← p4, ← p5, ← p6, ← p7) (search tests depth 20)
 
-pub ruleset is-answer-ways = (is-answer-1, is-answer-2, is-answer-3, is-answer-4, is-answer-5, is-answer-6, is-answer-7, is-answer-8)
+pub ruleset is_answer_ways = (is-answer-1, is-answer-2, is-answer-3, is-answer-4, is-answer-5, is-answer-6, is-answer-7, is-answer-8)
 
 -- `is_view`
 module _ (l : List ℕ) where
@@ -144,7 +147,7 @@ module _ (l : List ℕ) where
   unfolding is_view
   is-view-4 a p0 h0 b p1 h1 c p2 h2 r p3 = rw (← p0, ← p1, ← p2, ← p3) (search tests)
 
-pub ruleset is-view-ways = (is-view-1, is-view-2, is-view-3, is-view-4)
+pub ruleset is_view_ways = (is-view-1, is-view-2, is-view-3, is-view-4)
 
 -- `is_text`
 module _ (l : List ℕ) where
@@ -156,7 +159,7 @@ module _ (l : List ℕ) where
   unfolding is_text
   is-text-2 a p0 h0 r p1 = rw (← p0, ← p1) (search tests)
 
-pub ruleset is-text-ways = (is-text-1, is-text-2)
+pub ruleset is_text_ways = (is-text-1, is-text-2)
 
 -- `read_checked`
 module _ (l : List ℕ) (q : Progress) (got : List ℕ) (t : List ℕ) (b : List ℕ) (k : List ℕ) (m : List ℕ) where
@@ -164,7 +167,7 @@ module _ (l : List ℕ) (q : Progress) (got : List ℕ) (t : List ℕ) (b : List
   unfolding read_checked
   read-checked-1 a p0 h0 z g p1 = rw (← p0, ← p1) (search tests)
 
-  pub read-checked-2 : (a : Bool) → a ≡ is_answer l → a ≡ false → 0 < q.given → (n : Progress) → n ≡ unanswered_of q → (z : Progress) → z ≡ failed_of n 2 → done z got t b k m ≡ read_checked l q got t b k m
+  pub read-checked-2 : (a : Bool) → a ≡ is_answer l → a ≡ false → 0 < q.given → (n : Progress) → n ≡ unanswered_of q → (z : Progress) → z ≡ failed_of n NoAnswer → done z got t b k m ≡ read_checked l q got t b k m
   unfolding read_checked
   read-checked-2 a p0 h0 h1 n p1 z p2 = rw (← p0, ← p1, ← p2) (search tests)
 
@@ -184,13 +187,13 @@ pub ruleset read-checked-ways = (read-checked-1, read-checked-2, read-checked-3,
 
 -- `read_behind`
 module _ (l : List ℕ) (q : Progress) (text : List ℕ) (got : List ℕ) (t : List ℕ) (b : List ℕ) (k : List ℕ) (m : List ℕ) where
-  pub read-behind-1 : (o : Progress) → (e : List ℕ) → (f : List ℕ) → (r : List ℕ) → (s : List ℕ) → once o e f r s ≡ check_once q text got t b → 0 < o.fault → lined o e f r s k m ≡ read_behind l q text got t b k m
+  pub read-behind-1 : (o : Progress) → (e : List ℕ) → (f : List ℕ) → (r : List ℕ) → (s : List ℕ) → once o e f r s ≡ check_once q text got t b → (h : Fault) → o.fault ≡ Some h → lined o e f r s k m ≡ read_behind l q text got t b k m
   unfolding read_behind
-  read-behind-1 o e f r s p0 h0 = rw (← p0) (search tests)
+  read-behind-1 o e f r s p0 h h0 = let g : is_fault o.fault ≡ true = ap is_fault h0 in rw (← p0) (search tests)
 
-  pub read-behind-2 : (o : Progress) → (e : List ℕ) → (f : List ℕ) → (r : List ℕ) → (s : List ℕ) → once o e f r s ≡ check_once q text got t b → o.fault ≤ 0 → (z : Progress) → (g : List ℕ) → (t1 : List ℕ) → (b1 : List ℕ) → (u : List ℕ) → (v : List ℕ) → done z g t1 b1 u v ≡ read_checked l o f r s k m → lined z e g t1 b1 u v ≡ read_behind l q text got t b k m
+  pub read-behind-2 : (o : Progress) → (e : List ℕ) → (f : List ℕ) → (r : List ℕ) → (s : List ℕ) → once o e f r s ≡ check_once q text got t b → o.fault ≡ None → (z : Progress) → (g : List ℕ) → (t1 : List ℕ) → (b1 : List ℕ) → (u : List ℕ) → (v : List ℕ) → done z g t1 b1 u v ≡ read_checked l o f r s k m → lined z e g t1 b1 u v ≡ read_behind l q text got t b k m
   unfolding read_behind
-  read-behind-2 o e f r s p0 h0 z g t1 b1 u v p1 = rw (← p0, ← p1) (search tests)
+  read-behind-2 o e f r s p0 h0 z g t1 b1 u v p1 = let h : is_fault o.fault ≡ false = ap is_fault h0 in rw (← p0, ← p1) (search tests)
 
 pub ruleset read-behind-ways = (read-behind-1, read-behind-2)
 

@@ -1,10 +1,12 @@
 -- The lines of a case.
 -- Assumes nothing.
-use Rattle.std.specs.Prelude.{ℕ, Bool, true, List, [], ◌∷◌}
+use Rattle.std.specs.Prelude.{ℕ, Bool, true, false, List, [], ◌∷◌, Option, None, Some}
 use Rattle.base_prelude.specs.Choice.{if_lt, if_true}
 use Rattle.base_prelude.specs.Lists.{same_list}
 use Rattle.test_lines.specs.Lines.{starts_with}
 use Rattle.test_lines.specs.Sources.{is_source}
+use Rattle.test_state.specs.declared.Fault.{Fault}
+use Rattle.test_state.specs.declared.Fault.TheVariants.{NoAnswer}
 use Rattle.test_state.specs.declared.Progress.{Progress}
 use Rattle.test_state.specs.Progress.{failed_of, unanswered_of}
 use Rattle.test_state.specs.Source.{body-word, read_source}
@@ -117,7 +119,7 @@ changed_with x got = done x.progress got x.rows x.bytes x.stack x.memory
 unfoldable pub read_checked : List ℕ → Progress → List ℕ → List ℕ → List ℕ → List ℕ → List ℕ → Done
 read_checked l q got t b k m =
     if_true (is_answer l) (done (read_answer l q got).progress (read_answer l q got).buffer t b k m)
-    (if_lt 0 q.given (done (failed_of (unanswered_of q) 2) got t b k m)
+    (if_lt 0 q.given (done (failed_of (unanswered_of q) NoAnswer) got t b k m)
     (if_true (is_call l) (ran_with (read_call l q got t b k m) t b)
     (if_true (is_view l) (done (read_view l q got k m).progress (read_view l q got k m).buffer t b k m)
     (changed_with (read_change l q t b k m) got))))
@@ -134,9 +136,14 @@ lined progress text got rows bytes stack memory =
 abbrev pub done_with : Done → List ℕ → Lined
 done_with x text = lined x.progress text x.got x.rows x.bytes x.stack x.memory
 
+-- whether a line came to a fault
+abbrev pub is_fault : Option Fault → Bool
+is_fault None = false
+is_fault (Some f) = true
+
 abbrev pub behind_by : List ℕ → Once → List ℕ → List ℕ → Lined
 behind_by l x k m =
-    if_lt 0 x.progress.fault (lined x.progress x.text x.got x.rows x.bytes k m)
+    if_true (is_fault x.progress.fault) (lined x.progress x.text x.got x.rows x.bytes k m)
     (done_with (read_checked l x.progress x.got x.rows x.bytes k m) x.text)
 
 -- a line that needs the tables of the source

@@ -10,27 +10,12 @@ use base_limits::{Machine, Refusal, Width};
 use check_source::Counts;
 use prog_tables::Table;
 use test_calls::{is_start, read_call};
-use test_lines::{Case, front, is_source, starts_with};
+use test_lines::{front, is_source, starts_with};
 use test_state::{
     Fault, Progress, close_body, failed, read_answer, read_change, read_memory, read_source,
     read_stack, read_view, set_checked, with_answer, with_counts, without_answer,
 };
-use test_text::{Room, copy_bytes};
-
-// A source, or an answer.
-type Text = [u8; Case::SOURCE];
-
-// Statements, behind them labels.
-type Rows = [u32; Room::ROWS];
-
-// Names, behind them data.
-type Bytes = [u8; Room::BYTES];
-
-// The stack lent, behind it the stack before the last call.
-type Stack = [u32; Room::TWO_STACKS];
-
-// The memory lent, behind it the memory before the last call.
-type Memory = [u8; Room::TWO_MEMORIES];
+use test_text::{Bytes, Memory, Room, Rows, Stack, Text, copy_bytes};
 
 fn with_checked(x: Result<Counts, Refusal>, q: Progress, got: &mut Text) -> Progress
     ensures { on result got.new ≡ with_checked x q got.old }
@@ -64,9 +49,9 @@ fn check_source(s: &[u8], t: &mut Rows, b: &mut Bytes) -> Result<Counts, Refusal
         &mut bytes,
     );
     vm_memory::put_words(t, 0, &rows);
-    vm_memory::put_words(t, 27648, &labels);
+    vm_memory::put_words(t, Room::STATEMENTS, &labels);
     copy_bytes(&names, b, 0);
-    copy_bytes(&bytes, b, 16384);
+    copy_bytes(&bytes, b, Room::NAMES);
     x
 }
 
@@ -82,61 +67,38 @@ fn check_once(q: Progress, text: &mut Text, got: &mut Text, t: &mut Rows, b: &mu
     with_checked(x, closed, got)
 }
 
+#[tactic(auto, using(crate::proofs::Cases::is_call_ways))]
 fn is_call(l: &[u8]) -> bool
     ensures { result ≡ is_call l.now }
 {
-    if is_start(l) {
-        return true;
-    }
-    if starts_with(l, b"run ") {
-        return true;
-    }
-    if starts_with(l, b"resume ") {
-        return true;
-    }
-    base_prelude::same(l, b"step")
+    is_start(l)
+        || starts_with(l, b"run ")
+        || starts_with(l, b"resume ")
+        || base_prelude::same(l, b"step")
 }
 
+#[tactic(auto, using(crate::proofs::Cases::is_answer_ways))]
 fn is_answer(l: &[u8]) -> bool
     ensures { result ≡ is_answer l.now }
 {
-    if starts_with(l, b"begun") {
-        return true;
-    }
-    if starts_with(l, b"refused ") {
-        return true;
-    }
-    if starts_with(l, b"broken ") {
-        return true;
-    }
-    if starts_with(l, b"going ") {
-        return true;
-    }
-    if starts_with(l, b"finished ") {
-        return true;
-    }
-    if starts_with(l, b"stopped ") {
-        return true;
-    }
-    if starts_with(l, b"paused ") {
-        return true;
-    }
-    starts_with(l, b"rejected ")
+    starts_with(l, b"begun")
+        || starts_with(l, b"refused ")
+        || starts_with(l, b"broken ")
+        || starts_with(l, b"going ")
+        || starts_with(l, b"finished ")
+        || starts_with(l, b"stopped ")
+        || starts_with(l, b"paused ")
+        || starts_with(l, b"rejected ")
 }
 
+#[tactic(auto, using(crate::proofs::Cases::is_view_ways))]
 fn is_view(l: &[u8]) -> bool
     ensures { result ≡ is_view l.now }
 {
-    if starts_with(l, b"record ") {
-        return true;
-    }
-    if starts_with(l, b"words ") {
-        return true;
-    }
-    if starts_with(l, b"holds ") {
-        return true;
-    }
-    starts_with(l, b"same")
+    starts_with(l, b"record ")
+        || starts_with(l, b"words ")
+        || starts_with(l, b"holds ")
+        || starts_with(l, b"same")
 }
 
 // A line behind the check; the answer of a call stands right behind it.
@@ -155,7 +117,7 @@ fn read_checked(
         return read_answer(l, q, got);
     }
     if 0 < q.given {
-        return failed(without_answer(q), Fault::NO_ANSWER);
+        return failed(without_answer(q), Fault::NoAnswer);
     }
     if is_call(l) {
         return read_call(l, q, got, t, b, k, m);
@@ -166,13 +128,11 @@ fn read_checked(
     read_change(l, q, t, b, k, m)
 }
 
+#[tactic(auto, using(crate::proofs::Cases::is_text_ways))]
 fn is_text(l: &[u8]) -> bool
     ensures { result ≡ is_text l.now }
 {
-    if is_source(l) {
-        return true;
-    }
-    starts_with(l, b"body ")
+    is_source(l) || starts_with(l, b"body ")
 }
 
 // A line that needs the tables of the source.
@@ -189,10 +149,10 @@ fn read_behind(
     ensures { lined result text.new got.new t.new b.new k.new m.new ≡ read_behind l.now q text.old got.old t.old b.old k.old m.old }
 {
     let checked = check_once(q, text, got, t, b);
-    if 0 < checked.fault {
-        return checked;
+    match checked.fault {
+        Some(_) => checked,
+        None => read_checked(l, checked, got, t, b, k, m),
     }
-    read_checked(l, checked, got, t, b, k, m)
 }
 
 // A line of a case.

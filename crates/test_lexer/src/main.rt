@@ -31,15 +31,13 @@ struct State {
     bits: u32,
     // bytes of its source
     size: usize,
-    // what it expects: tokens, whether each is given, or a refusal
-    rows: usize,
+    // what it expects, and whether each token is given
+    want: Answer,
     is_listed: bool,
-    number: u32,
-    place: usize,
 }
 
-// What the lexer answers: tokens, or a refusal (0: none).
-#[derive(Clone, Copy)]
+// What the lexer answers: tokens, or a refusal (0: none, as a line of a case may say).
+#[derive(Clone, Copy, PartialEq, Eq)]
 struct Answer {
     rows: usize,
     number: u32,
@@ -71,16 +69,6 @@ fn put_line(s: &[u8], at: usize) {
     if at < s.len() {
         let end = line_end(s, at);
         put(&s[at..end]);
-    }
-}
-
-fn word_at(t: &Table, i: usize) -> u32 {
-    if i < Machine::TOKEN_WORDS { t[i] } else { 0 }
-}
-
-fn put_word(t: &mut Table, i: usize, word: u32) {
-    if i < Machine::TOKEN_WORDS {
-        t[i] = word;
     }
 }
 
@@ -141,32 +129,13 @@ fn kind_of(l: &[u8]) -> u32 {
 fn put_fields(l: &[u8], kind: u32, want: &mut Table, row: usize)
     requires { row < 4096 }
 {
-    put_word(want, row * Machine::TOKEN_ROW, kind);
-    put_word(
-        want,
-        row * Machine::TOKEN_ROW + TokenRow::FIRST,
-        narrow(field(l, 2)),
-    );
-    put_word(
-        want,
-        row * Machine::TOKEN_ROW + TokenRow::NEXT,
-        narrow(field(l, 3)),
-    );
-    put_word(
-        want,
-        row * Machine::TOKEN_ROW + TokenRow::VALUE,
-        narrow(field(l, 4)),
-    );
-    put_word(
-        want,
-        row * Machine::TOKEN_ROW + TokenRow::NAME,
-        narrow(field(l, 5)),
-    );
-    put_word(
-        want,
-        row * Machine::TOKEN_ROW + TokenRow::WORD,
-        narrow(field(l, 6)),
-    );
+    let at = row * Machine::TOKEN_ROW;
+    want[at] = kind;
+    want[at + TokenRow::FIRST] = narrow(field(l, 2));
+    want[at + TokenRow::NEXT] = narrow(field(l, 3));
+    want[at + TokenRow::VALUE] = narrow(field(l, 4));
+    want[at + TokenRow::NAME] = narrow(field(l, 5));
+    want[at + TokenRow::WORD] = narrow(field(l, 6));
 }
 
 fn read_token(l: &[u8], mut q: State, want: &mut Table) -> State {
@@ -174,20 +143,18 @@ fn read_token(l: &[u8], mut q: State, want: &mut Table) -> State {
     if kind == Token::SOURCE_END {
         return bad_line(q);
     }
-    let row = q.rows;
-    if row < Machine::TOKENS {
-        if has_numbers(l, 2, 7) {
-            put_fields(l, kind, want, row);
-            q.rows = row + 1;
-            return q;
-        }
+    let row = q.want.rows;
+    if row < Machine::TOKENS && has_numbers(l, 2, 7) {
+        put_fields(l, kind, want, row);
+        q.want.rows = row + 1;
+        return q;
     }
     bad_line(q)
 }
 
 fn read_count(l: &[u8], mut q: State) -> State {
     if has_numbers(l, 1, 2) {
-        q.rows = field(l, 1) as usize;
+        q.want.rows = field(l, 1) as usize;
         q.is_listed = false;
         return q;
     }
@@ -196,8 +163,8 @@ fn read_count(l: &[u8], mut q: State) -> State {
 
 fn read_refusal(l: &[u8], mut q: State) -> State {
     if has_numbers(l, 1, 3) {
-        q.number = narrow(field(l, 1));
-        q.place = field(l, 2) as usize;
+        q.want.number = narrow(field(l, 1));
+        q.want.place = field(l, 2) as usize;
         return q;
     }
     bad_line(q)
@@ -231,18 +198,16 @@ fn open_case(mut q: State, name: usize) -> State {
     q.name_line = q.line;
     q.bits = 32;
     q.size = 0;
-    q.rows = 0;
+    q.want = no_tokens();
     q.is_listed = true;
-    q.number = 0;
-    q.place = 0;
     q
 }
 
-fn fill(t: &mut Table) {
-    let mut i: usize = 0;
-    while i < Machine::TOKEN_WORDS {
-        t[i] = 7;
-        i += 1;
+fn no_tokens() -> Answer {
+    Answer {
+        rows: 0,
+        number: 0,
+        place: 0,
     }
 }
 
@@ -262,35 +227,20 @@ fn answer_of(x: Result<usize, Refusal>) -> Answer {
 }
 
 fn lex_case(bits: u32, text: &[u8], size: usize, table: &mut Table) -> Answer {
-    fill(table);
+    table.fill(7);
     answer_of(lex_source::lex(width_of(bits), front(text, size), table))
 }
 
 // The word that a table must have at a place: the hash, and rows that are not listed, may be any.
-fn wanted(q: State, want: &Table, table: &Table, i: usize) -> u32 {
-    if q.rows <= i / 8 {
+fn wanted(q: State, want: u32, word: u32, i: usize) -> u32 {
+    if q.want.rows <= i / 8 {
         return 0;
     }
-    if i % 8 == 6 {
-        return word_at(table, i);
-    }
-    if q.is_listed {
-        word_at(want, i)
+    if q.is_listed && i % 8 != 6 {
+        want
     } else {
-        word_at(table, i)
+        word
     }
-}
-
-// The first word of the table that differs, or its length.
-fn first_wrong(q: State, want: &Table, table: &Table) -> usize {
-    let mut i: usize = 0;
-    while i < Machine::TOKEN_WORDS {
-        if word_at(table, i) != wanted(q, want, table, i) {
-            return i;
-        }
-        i += 1;
-    }
-    i
 }
 
 fn put_answer(a: Answer) {
@@ -299,7 +249,7 @@ fn put_answer(a: Answer) {
         put_number(a.rows as u64);
     } else {
         put(b"refused ");
-        put_number(a.number as u64);
+        put_number(u64::from(a.number));
         put(b" ");
         put_number(a.place as u64);
     }
@@ -309,11 +259,9 @@ fn put_row(t: &Table, row: usize)
     requires { row < 4096 }
 {
     put(b"token");
-    let mut i: usize = 0;
-    while i < 6 {
+    for word in &t[row * 8..row * 8 + 6] {
         put(b" ");
-        put_number(word_at(t, row * 8 + i) as u64);
-        i += 1;
+        put_number(u64::from(*word));
     }
 }
 
@@ -326,11 +274,7 @@ fn put_name(s: &[u8], q: State) {
 
 fn put_answers(s: &[u8], q: State, got: Answer) {
     put_name(s, q);
-    put_answer(Answer {
-        rows: q.rows,
-        number: q.number,
-        place: q.place,
-    });
+    put_answer(q.want);
     put(b", got ");
     put_answer(got);
     put(b"\n");
@@ -340,7 +284,7 @@ fn put_rows(s: &[u8], q: State, want: &Table, table: &Table, row: usize)
     requires { row < 4096 }
 {
     put_name(s, q);
-    if row < q.rows {
+    if row < q.want.rows {
         put_row(want, row);
     } else {
         put(b"zeros");
@@ -352,26 +296,17 @@ fn put_rows(s: &[u8], q: State, want: &Table, table: &Table, row: usize)
     put(b"\n");
 }
 
-fn is_answer(q: State, got: Answer) -> bool {
-    if q.rows != got.rows {
-        return false;
-    }
-    if q.number != got.number {
-        return false;
-    }
-    q.place == got.place
-}
-
 // Whether the case differs; prints how.
 fn is_wrong(s: &[u8], q: State, want: &Table, table: &Table, got: Answer) -> bool {
-    if !is_answer(q, got) {
+    if q.want != got {
         put_answers(s, q, got);
         return true;
     }
-    let i = first_wrong(q, want, table);
-    if i < Machine::TOKEN_WORDS {
-        put_rows(s, q, want, table, i / 8);
-        return true;
+    for i in 0..Machine::TOKEN_WORDS {
+        if table[i] != wanted(q, want[i], table[i], i) {
+            put_rows(s, q, want, table, i / 8);
+            return true;
+        }
     }
     false
 }
@@ -423,10 +358,8 @@ fn start() -> State {
         name_line: 0,
         bits: 32,
         size: 0,
-        rows: 0,
+        want: no_tokens(),
         is_listed: true,
-        number: 0,
-        place: 0,
     }
 }
 
@@ -436,6 +369,7 @@ fn run(s: &[u8]) {
     let mut table = [0u32; Machine::TOKEN_WORDS];
     let mut q = start();
     let mut at: usize = 0;
+    // By index: a step goes behind the next line's end.
     while at < s.len() {
         let end = line_end(s, at);
         q = take_line(s, at, end, q, &mut text, &mut want, &mut table);

@@ -1,21 +1,11 @@
 -- One law for each way through a function without a loop.
 -- Assumes nothing.
-use Rattle.std.proofs.Common.{◌≡◌, ℕ, ◌+◌, ◌-◌, ◌*◌, ◌<◌, ◌≤◌, Bool, true, false, List, length, take, drop, sym, refl, ap, ◌∙◌, subst, le_refl, arith, length-drop, take_all}
-use Rattle.base_prelude.specs.Choice.{if_lt, if_eq, if_true}
+use Rattle.std.proofs.Common.{◌≡◌, ℕ, ◌+◌, ◌-◌, ◌<◌, ◌≤◌, Bool, true, false, List, length, take, drop, ap, ◌∙◌, arith, length-drop, take_all}
 use Rattle.base_prelude.specs.Bytes.{byte_at}
 use Rattle.base_prelude.proofs.Choice.{tests}
 use Rattle.test_lines.specs.Lines.{is_comment, starts_with}
 use Rattle.test_lines.specs.Fields.{no_number, field_start, with_digit, number_from, number_at, field_of}
 use Rattle.test_lines.specs.Sources.{hex_of, hex_byte, text_byte, Source, source, full, add_byte, add_text, add_times, add_line, text-word, line_word, times-word, is_source, add_source}
-
-module _ (t : List ℕ) (n : ℕ) where
-  pub front_cut : n ≤ length t → take (n - 0) (drop 0 t) ≡ take n t
-  front_cut h = let e : n - 0 ≡ n = omega arith in ap (λ (m : ℕ). take m t) e
-
-  pub front-all : length t < n → t ≡ take n t
-  front-all h = sym (take_all n t (omega arith))
-
-pub ruleset fronts = (front_cut, front-all)
 
 module _ (l : List ℕ) where
   pub comment-empty : length l ≡ 0 → true ≡ is_comment l
@@ -37,25 +27,6 @@ pub ruleset comments = (comment-empty, comment-yes, comment-no)
 pub stands_at : (t word : List ℕ) (i : ℕ) (r : Bool) → r ≡ starts_with (take (length t - i) (drop i t)) word → r ≡ starts_with (drop i t) word
 stands_at t word i r e =
     e ∙ ap (λ (l : List ℕ). starts_with l word) (take_all (length t - i) (drop i t) (omega (arith, length-drop i t)))
-
-module _ (n c : ℕ) where
-  pub digit_low : c < 48 → no_number ≡ with_digit n c
-  unfolding with_digit
-  digit_low h = search tests
-
-  pub digit-high : 48 ≤ c → 57 < c → no_number ≡ with_digit n c
-  unfolding with_digit
-  digit-high h g = search tests
-
-  pub digit-large : 48 ≤ c → c ≤ 57 → no_number ≤ n → no_number ≡ with_digit n c
-  unfolding with_digit
-  digit-large h g k = search tests
-
-  pub digit-more : (d : ℕ) → 48 ≤ c → c ≤ 57 → n < no_number → d ≡ c - 48 → n * 10 + d ≡ with_digit n c
-  unfolding with_digit
-  digit-more d h g k p = rw (← p) (search tests)
-
-pub ruleset digits = (digit_low, digit-high, digit-large, digit-more)
 
 module _ (l : List ℕ) (at c : ℕ) (p : c ≡ byte_at l at) where
   pub number-none : 57 < c → no_number ≡ number_at l at
@@ -79,9 +50,9 @@ module _ (l : List ℕ) (i c : ℕ) (p : c ≡ byte_at l i) where
 
 pub ruleset bytes = (byte-hex, byte-plain)
 
-pub line-added : (l : List ℕ) (from n r : ℕ) (t u : List ℕ) (q : Source) → source n t ≡ add_text l from q → source r u ≡ add_byte t n 10 → source r u ≡ add_line l from q
+pub line_added : (l : List ℕ) (from n r : ℕ) (t u : List ℕ) (q : Source) → source n t ≡ add_text l from q → source r u ≡ add_byte t n 10 → source r u ≡ add_line l from q
 unfolding add_line
-line-added l from n r t u q e f = f ∙ ap (λ (z : Source). add_byte z.text z.size 10) e
+line_added l from n r t u q e f = f ∙ ap (λ (z : Source). add_byte z.text z.size 10) e
 
 module _ (l : List ℕ) (a : Bool) (p : a ≡ starts_with l text-word) where
   pub is-text : a ≡ true → true ≡ is_source l

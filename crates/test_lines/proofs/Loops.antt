@@ -1,50 +1,49 @@
 -- The loops: what is left gives the whole answer.
 -- Assumes nothing.
-use Rattle.std.proofs.Common.{◌≡◌, ℕ, zero, suc, ◌+◌, ◌-◌, ◌*◌, ◌<◌, ◌≤◌, Bool, true, false, List, length, drop, sym, refl, ap, ◌∙◌, subst, arith}
-use Rattle.base_prelude.specs.Choice.{if_lt, if_eq, if_true}
+use Rattle.std.proofs.Common.{◌≡◌, ℕ, suc, ◌+◌, ◌-◌, ◌<◌, ◌≤◌, Bool, true, false, List, length, drop, sym, ap, ◌∙◌, arith}
 use Rattle.base_prelude.specs.Bytes.{byte_at}
-use Rattle.base_prelude.specs.Walk.{Step, go, stop, walk}
+use Rattle.base_prelude.specs.Walk.{go, stop}
 use Rattle.base_prelude.proofs.Choice.{tests}
 use Rattle.base_prelude.proofs.Walk.{Runs, runs-start, runs-go, runs-stop}
-use Rattle.test_lines.specs.Lines.{one_more, line_step, line_end, prefix_step, starts_with, Count, count, place_step, place_of}
-use Rattle.test_lines.specs.Fields.{no_number, field_step, field_start, with_digit, Reading, reading, digit_step, number_from, field_of, numbers_step, has_numbers}
-use Rattle.test_lines.specs.Sources.{text_byte, spelled_size, Source, source, full, add_byte, Adding, adding, text_step, add_text, add_times}
+use Rattle.test_lines.specs.Lines.{one_more, byte_step, byte_place, prefix_step, starts_with, count, place_step, place_of}
+use Rattle.test_lines.specs.Fields.{no_number, field_step, field_start, with_digit, reading, digit_step, number_from, field_of, numbers_step, has_numbers}
+use Rattle.test_lines.specs.Sources.{text_byte, spelled_size, Source, source, full, add_byte, adding, text_step, add_text, add_times}
 
--- `line_end`
-module _ (s : List ℕ) (i : ℕ) where
-  line_on_lem : (c : ℕ) → i < length s → c ≡ byte_at s i → (c ≡ 10 → ⊥) → go (i + 1) ≡ line_step s i
-  unfolding line_step
-  line_on_lem c h p e = rw (← p) (search tests)
+-- `byte_place`
+module _ (b : ℕ) (s : List ℕ) (i : ℕ) where
+  byte-on : (c : ℕ) → i < length s → c ≡ byte_at s i → (c ≡ b → ⊥) → go (i + 1) ≡ byte_step b s i
+  unfolding byte_step
+  byte-on c h p e = rw (← p) (search tests)
 
-  line-here : (c : ℕ) → i < length s → c ≡ byte_at s i → c ≡ 10 → stop i ≡ line_step s i
-  unfolding line_step
-  line-here c h p e = rw (← p) (search tests)
+  byte-here : (c : ℕ) → i < length s → c ≡ byte_at s i → c ≡ b → stop i ≡ byte_step b s i
+  unfolding byte_step
+  byte-here c h p e = rw (← p) (search tests)
 
-  line-past : length s ≤ i → stop i ≡ line_step s i
-  unfolding line_step
-  line-past h = search tests
+  byte-past : length s ≤ i → stop i ≡ byte_step b s i
+  unfolding byte_step
+  byte-past h = search tests
 
-pub record Lining (s : List ℕ) (at i : ℕ) : Type 0 where
+pub record ByteSeeking (b : ℕ) (s : List ℕ) (at i : ℕ) : Type 0 where
   pub from : at ≤ i
   pub within : i ≤ length s
-  pub runs : Runs (line_step s) at (line_end s at) i (suc (length s - i))
+  pub runs : Runs (byte_step b s) at (byte_place b s at) i (suc (length s - i))
 
-pub lining-start : (s : List ℕ) (at : ℕ) → at ≤ length s → Lining s at at
-unfolding line_end
-lining-start s at h = record { from = omega arith; within = h; runs = runs-start _ _ _ _ _ (omega arith) }
+pub finding-start : (b : ℕ) (s : List ℕ) (at : ℕ) → at ≤ length s → ByteSeeking b s at at
+unfolding byte_place
+finding-start b s at h = record { from = omega arith; within = h; runs = runs-start _ _ _ _ _ (omega arith) }
 
-module _ (s : List ℕ) (at i : ℕ) where
-  pub lining-more : (c : ℕ) → Lining s at i → i < length s → c ≡ byte_at s i → (c ≡ 10 → ⊥) → Lining s at (i + 1)
-  lining-more c h l p e =
-      record { from = omega (arith, h.from); within = omega arith; runs = runs-go _ _ _ _ _ (length s - i) _ h.runs (sym (line_on_lem s i c l p e)) (omega arith) }
+module _ (b : ℕ) (s : List ℕ) (at i : ℕ) where
+  pub finding-more : (c : ℕ) → ByteSeeking b s at i → i < length s → c ≡ byte_at s i → (c ≡ b → ⊥) → ByteSeeking b s at (i + 1)
+  finding-more c h l p e =
+      record { from = omega (arith, h.from); within = omega arith; runs = runs-go _ _ _ _ _ (length s - i) _ h.runs (sym (byte-on b s i c l p e)) (omega arith) }
 
-  pub lining-here : (c : ℕ) → Lining s at i → i < length s → c ≡ byte_at s i → c ≡ 10 → i ≡ line_end s at
-  lining-here c h l p e = runs-stop _ _ _ _ _ _ h.runs (sym (line-here s i c l p e))
+  pub finding-here : (c : ℕ) → ByteSeeking b s at i → i < length s → c ≡ byte_at s i → c ≡ b → i ≡ byte_place b s at
+  finding-here c h l p e = runs-stop _ _ _ _ _ _ h.runs (sym (byte-here b s i c l p e))
 
-  pub lining-past : Lining s at i → length s ≤ i → i ≡ line_end s at
-  lining-past h l = runs-stop _ _ _ _ _ _ h.runs (sym (line-past s i l))
+  pub finding-past : ByteSeeking b s at i → length s ≤ i → length s ≡ byte_place b s at
+  finding-past h l = let e : length s ≡ i = omega (arith, h.within) in e ∙ runs-stop _ _ _ _ _ _ h.runs (sym (byte-past b s i l))
 
-pub ruleset lining = (lining-start, lining-more, lining-here, lining-past)
+pub ruleset finding = (finding-start, finding-more, finding-here, finding-past)
 
 -- `starts_with`
 module _ (l word : List ℕ) (i : ℕ) where
@@ -117,8 +116,8 @@ module _ (t word : List ℕ) (k seen i : ℕ) where
   pub placing-here : (b : Bool) (n : ℕ) → Placing t word k seen i → i < length t → b ≡ starts_with (drop i t) word → b ≡ true → n ≡ one_more seen → n ≡ k → i ≡ place_of t word k
   placing-here b n h g p e q f = runs-stop _ _ _ _ _ _ h.runs (sym (place_here t word k seen i b n g p e q f))
 
-  pub placing-past : Placing t word k seen i → length t ≤ i → i ≡ place_of t word k
-  placing-past h g = runs-stop _ _ _ _ _ _ h.runs (sym (place-past t word k seen i g))
+  pub placing-past : Placing t word k seen i → length t ≤ i → i ≤ length t → length t ≡ place_of t word k
+  placing-past h g f = let e : length t ≡ i = omega arith in e ∙ runs-stop _ _ _ _ _ _ h.runs (sym (place-past t word k seen i g))
 
 pub ruleset placing = (placing-start, placing-off, placing-on, placing-here, placing-past)
 
@@ -160,8 +159,8 @@ module _ (l : List ℕ) (k seen i : ℕ) where
   pub fielding-here : Fielding l k seen i → i < length l → seen ≡ k → i ≡ field_start l k
   fielding-here h g e = runs-stop _ _ _ _ _ _ h.runs (sym (field-here l k seen i g e))
 
-  pub fielding-past : Fielding l k seen i → length l ≤ i → i ≡ field_start l k
-  fielding-past h g = runs-stop _ _ _ _ _ _ h.runs (sym (field_past l k seen i g))
+  pub fielding-past : Fielding l k seen i → length l ≤ i → length l ≡ field_start l k
+  fielding-past h g = let e : length l ≡ i = omega (arith, h.within) in e ∙ runs-stop _ _ _ _ _ _ h.runs (sym (field_past l k seen i g))
 
 pub ruleset fielding = (fielding-start, fielding-off, fielding-on, fielding-here, fielding-past)
 

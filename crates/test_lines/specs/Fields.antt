@@ -2,7 +2,7 @@
 -- Assumes nothing.
 use Rattle.std.specs.Prelude.{ℕ, suc, ◌+◌, ◌-◌, ◌*◌, Bool, true, false, List, length}
 use Rattle.base_limits.specs.Limits.{word_values}
-use Rattle.base_prelude.specs.Choice.{if_lt, if_eq, if_true}
+use Rattle.base_prelude.specs.Choice.{if_lt, if_eq}
 use Rattle.base_prelude.specs.Bytes.{byte_at}
 use Rattle.base_prelude.specs.Walk.{Step, go, stop, walk}
 use Rattle.test_lines.specs.Lines.{one_more, Count, count}

@@ -18,12 +18,16 @@ width_of bits = if_eq bits 16 Bits16 Bits32
 unfoldable pub is_comment : List ℕ → Bool
 is_comment l = if_eq (length l) 0 true (if_eq (byte_at l 0) 59 true false)
 
-unfoldable pub line_step : List ℕ → ℕ → Step ℕ ℕ
-line_step s i = if_lt i (length s) (if_eq (byte_at s i) 10 (stop i) (go (i + 1))) (stop i)
+unfoldable pub byte_step : ℕ → List ℕ → ℕ → Step ℕ ℕ
+byte_step b s i = if_lt i (length s) (if_eq (byte_at s i) b (stop i) (go (i + 1))) (stop i)
+
+-- the place of a byte from a place on, or the end
+unfoldable pub byte_place : ℕ → List ℕ → ℕ → ℕ
+byte_place b s at = walk (byte_step b s) at (suc (length s)) at
 
 -- the place of the byte 10 from a place on, or the end
 unfoldable pub line_end : List ℕ → ℕ → ℕ
-line_end s at = walk (line_step s) at (suc (length s)) at
+line_end s at = byte_place 10 s at
 
 unfoldable pub prefix_step : List ℕ → List ℕ → ℕ → Step ℕ Bool
 prefix_step l word i =

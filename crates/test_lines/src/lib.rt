@@ -3,7 +3,7 @@
 
 ghost use Rattle.std.specs.Prelude.{◌≡◌, ◌-◌, ◌%◌, ◌<◌, ◌≤◌, length, take, drop};
 ghost use Rattle.base_limits.specs.Limits.{word_values};
-ghost use Rattle.test_lines.specs.Lines.{one_more, width_of, is_comment, line_end, starts_with, place_of};
+ghost use Rattle.test_lines.specs.Lines.{one_more, width_of, is_comment, byte_place, line_end, starts_with, place_of};
 ghost use Rattle.test_lines.specs.Fields.{field_start, with_digit, number_from, number_at, field_of, has_numbers};
 ghost use Rattle.test_lines.specs.Sources.{hex_of, hex_byte, text_byte, spelled_size, source, add_byte, add_text, add_times, add_line, is_source, add_source};
 
@@ -35,68 +35,68 @@ pub fn narrow(n: u64) -> u32
     (n % Machine::WORD_VALUES) as u32
 }
 
+#[tactic(auto, using(base_prelude::proofs::Choice::tests), unfolding(crate::specs::Lines::width_of))]
 pub fn width_of(bits: u32) -> Width
     ensures { result ≡ width_of bits }
 {
-    if bits == 16 {
-        return Width::Bits16;
+    match bits {
+        16 => Width::Bits16,
+        _ => Width::Bits32,
     }
-    Width::Bits32
 }
 
-// The first bytes of a text.
-pub fn front(text: &[u8], size: usize) -> &[u8]
-    ensures { result.now ≡ take size text.now }
+// The first elements of a slice: its bytes, or its words.
+pub fn front<T>(t: &[T], size: usize) -> &[T]
+    ensures { result.now ≡ take size t.now }
 {
-    if size <= text.len() {
-        return &text[0..size];
+    &t[..size.min(t.len())]
+}
+
+// The place of a byte from a place on, or the end.
+pub fn byte_place(s: &[u8], at: usize, byte: u32) -> usize
+    requires { at ≤ length s.now }
+    ensures value { result ≡ byte_place byte s.now at }
+    ensures lower_bound { (at ≤ result) × (result ≤ length s.now) }
+{
+    for i in at..s.len() {
+        if byte_at(s, i) == byte {
+            return i;
+        }
     }
-    text
+    s.len()
 }
 
 // The place of the byte 10 from a place on, or the end.
+#[tactic(auto, unfolding(crate::specs::Lines::line_end))]
 pub fn line_end(s: &[u8], at: usize) -> usize
     requires { at ≤ length s.now }
     ensures value { result ≡ line_end s.now at }
     ensures lower_bound { (at ≤ result) × (result ≤ length s.now) }
 {
-    let mut i = at;
-    while i < s.len() {
-        if byte_at(s, i) == 10 {
-            return i;
-        }
-        i += 1;
-    }
-    i
+    byte_place(s, at, 10)
 }
 
 // An empty line, or one that starts with `;`.
+#[tactic(auto, using(crate::proofs::Cases::comments))]
 pub fn is_comment(l: &[u8]) -> bool
     ensures { result ≡ is_comment l.now }
 {
-    if l.len() == 0 {
-        return true;
-    }
-    if byte_at(l, 0) == 59 {
-        return true;
-    }
-    false
+    l.is_empty() || byte_at(l, 0) == 59
 }
 
 pub fn starts_with(l: &[u8], word: &[u8]) -> bool
     ensures { result ≡ starts_with l.now word.now }
 {
-    let mut i: usize = 0;
-    while i < word.len() {
+    for i in 0..word.len() {
         if byte_at(l, i) != byte_at(word, i) {
             return false;
         }
-        i += 1;
     }
     true
 }
 
 // Whether a word stands at a place.
+#[tactic(auto, using(crate::proofs::Cases::stands_at))]
 fn stands(text: &[u8], at: usize, word: &[u8]) -> bool
     requires { at ≤ length text.now }
     ensures { result ≡ starts_with (drop at text.now) word.now }
@@ -105,14 +105,12 @@ fn stands(text: &[u8], at: usize, word: &[u8]) -> bool
 }
 
 // The place where a word stands for the k-th time, or the length.
+#[tactic(auto, using(crate::proofs::Loops::placing))]
 pub fn place_of(text: &[u8], word: &[u8], k: u64) -> usize
     ensures { result ≡ place_of text.now word.now k }
 {
     let mut seen: u64 = 0;
-    let mut i: usize = 0;
-    while i < text.len() {
-        let at = i;
-        i += 1;
+    for at in 0..text.len() {
         if stands(text, at, word) {
             seen = one_more(seen);
             if seen == k {
@@ -120,69 +118,54 @@ pub fn place_of(text: &[u8], word: &[u8], k: u64) -> usize
             }
         }
     }
-    i
+    text.len()
 }
 
 // The start of the field behind k blanks, or the end.
+#[tactic(auto, using(crate::proofs::Loops::fielding))]
 pub fn field_start(l: &[u8], k: u64) -> usize
     ensures value { result ≡ field_start l.now k }
     ensures upper_bound { result ≤ length l.now }
 {
     let mut blanks: u64 = 0;
-    let mut i: usize = 0;
-    while i < l.len() {
+    for i in 0..l.len() {
         if blanks == k {
             return i;
         }
-        let c = byte_at(l, i);
-        i += 1;
-        if c == 32 {
+        if byte_at(l, i) == 32 {
             blanks = one_more(blanks);
         }
     }
-    i
+    l.len()
 }
 
 // A number with one more digit; the numbers of a case are small.
+#[tactic(auto, using(base_prelude::proofs::Choice::tests), unfolding(crate::specs::Fields::with_digit))]
 fn with_digit(n: u64, c: u32) -> u64
     ensures { result ≡ with_digit n c }
 {
-    if c < 48 {
-        return Case::NO_NUMBER;
+    match c {
+        48..=57 if n < Case::NO_NUMBER => n * 10 + u64::from(c - 48),
+        _ => Case::NO_NUMBER,
     }
-    if 57 < c {
-        return Case::NO_NUMBER;
-    }
-    if Case::NO_NUMBER <= n {
-        return Case::NO_NUMBER;
-    }
-    n * 10 + digit(c)
-}
-
-fn digit(c: u32) -> u64
-    requires { 48 ≤ c }
-    ensures { result ≡ c - 48 }
-{
-    (c - 48) as u64
 }
 
 // The number from a place on, behind the digits of n.
 fn number_from(l: &[u8], at: usize, n: u64) -> u64
     ensures { result ≡ number_from l.now at n }
 {
-    let mut i = at;
     let mut v = n;
-    while i < l.len() {
+    for i in at..l.len() {
         let c = byte_at(l, i);
         if c == 32 {
             return v;
         }
         v = with_digit(v, c);
-        i += 1;
     }
     v
 }
 
+#[tactic(auto, using(crate::proofs::Cases::numbers))]
 fn number_at(l: &[u8], at: usize) -> u64
     requires { at ≤ length l.now }
     ensures { result ≡ number_at l.now at }
@@ -202,59 +185,42 @@ pub fn field(l: &[u8], k: u64) -> u64
 }
 
 // Whether the fields from one to before another are numbers, and the last of the line.
+#[tactic(auto, using(crate::proofs::Loops::checking))]
 pub fn has_numbers(l: &[u8], from: u64, end: u64) -> bool
     ensures { result ≡ has_numbers l.now from end }
 {
-    let mut k = from;
-    while k < end {
+    for k in from..end {
         if Case::NO_NUMBER <= field(l, k) {
             return false;
         }
-        k += 1;
     }
-    if field_start(l, end) < l.len() {
-        return false;
-    }
-    true
+    l.len() <= field_start(l, end)
 }
 
+#[tactic(auto, using(base_prelude::proofs::Choice::tests), unfolding(crate::specs::Sources::hex_of))]
 fn hex_digit(c: u32) -> u32
     ensures value { result ≡ hex_of c }
     ensures upper_bound { result ≤ 16 }
 {
-    if c < 48 {
-        return 16;
+    match c {
+        48..=57 => c - 48,
+        65..=70 => c - 55,
+        97..=102 => c - 87,
+        _ => 16,
     }
-    if c < 58 {
-        return c - 48;
-    }
-    if c < 65 {
-        return 16;
-    }
-    if c < 71 {
-        return c - 55;
-    }
-    if c < 97 {
-        return 16;
-    }
-    if c < 103 {
-        return c - 87;
-    }
-    16
 }
 
 // The byte of two hex digits, 256 or more where they are none.
+#[tactic(auto, using(base_prelude::proofs::Choice::tests), unfolding(crate::specs::Sources::hex_byte))]
 fn hex_byte(high: u32, low: u32) -> u32
     requires { (high ≤ 16) × (low ≤ 16) }
     ensures { result ≡ hex_byte high low }
 {
-    if low < 16 {
-        return high * 16 + low;
-    }
-    256
+    if low < 16 { high * 16 + low } else { 256 }
 }
 
 // The byte that the text of a case has at a place.
+#[tactic(auto, using(crate::proofs::Cases::bytes))]
 fn text_byte(l: &[u8], i: usize) -> u32
     requires { i < length l.now }
     ensures { result ≡ text_byte l.now i }
@@ -266,17 +232,16 @@ fn text_byte(l: &[u8], i: usize) -> u32
     c
 }
 
+#[tactic(auto, using(base_prelude::proofs::Choice::tests), unfolding(crate::specs::Sources::spelled_size))]
 fn spelled_size(c: u32) -> usize
     ensures value { result ≡ spelled_size c }
     ensures lower_bound { (1 ≤ result) × (result ≤ 3) }
 {
-    if c == 126 {
-        return 3;
-    }
-    1
+    if c == 126 { 3 } else { 1 }
 }
 
 // The source with a byte more; its new size.
+#[tactic(auto, using(base_prelude::proofs::Choice::tests), unfolding(crate::specs::Sources::add_byte))]
 pub fn add_byte(text: &mut [u8; Case::SOURCE], size: usize, c: u32) -> usize
     ensures { source result text.new ≡ add_byte text.old size c }
 {
@@ -293,6 +258,7 @@ pub fn add_text(l: &[u8], from: usize, text: &mut [u8; Case::SOURCE], size: usiz
 {
     let mut n = size;
     let mut i = from;
+    // By index: a byte may be spelled by three, so a step is 1 or 3.
     while i < l.len() {
         let c = text_byte(l, i);
         if 255 < c {
@@ -309,10 +275,8 @@ fn add_times(l: &[u8], from: usize, times: u64, text: &mut [u8; Case::SOURCE], s
     ensures { source result text.new ≡ add_times l.now from times (source size text.old) }
 {
     let mut n = size;
-    let mut k: u64 = 0;
-    while k < times {
+    for _ in 0..times {
         n = add_text(l, from, text, n);
-        k += 1;
     }
     n
 }
@@ -326,19 +290,15 @@ pub fn add_line(l: &[u8], from: usize, text: &mut [u8; Case::SOURCE], size: usiz
 }
 
 // Whether a line gives text of the source.
+#[tactic(auto, using(crate::proofs::Cases::kinds))]
 pub fn is_source(l: &[u8]) -> bool
     ensures { result ≡ is_source l.now }
 {
-    if starts_with(l, b"text ") {
-        return true;
-    }
-    if starts_with(l, b"line ") {
-        return true;
-    }
-    starts_with(l, b"times ")
+    starts_with(l, b"text ") || starts_with(l, b"line ") || starts_with(l, b"times ")
 }
 
 // The source with a line of a case: `text BYTES`, `line BYTES` or `times N BYTES`.
+#[tactic(auto, using(crate::proofs::Cases::adds))]
 pub fn add_source(l: &[u8], text: &mut [u8; Case::SOURCE], size: usize) -> usize
     ensures { source result text.new ≡ add_source l.now (source size text.old) }
 {

@@ -87,10 +87,7 @@ fn bad_line(q: State) -> State {
 
 // A source of a new size; it stands before the answer.
 fn with_size(mut q: State, size: usize) -> State {
-    if 0 < q.page {
-        return bad_line(q);
-    }
-    if Case::SOURCE <= size {
+    if 0 < q.page || Case::SOURCE <= size {
         return bad_line(q);
     }
     q.size = size;
@@ -125,14 +122,7 @@ fn read_body(l: &[u8], q: State, text: &mut Text) -> State {
 fn nth_of(word: &[u8]) -> u64 {
     match byte_at(word, 2) {
         32 => 1,
-        50 => 2,
-        51 => 3,
-        52 => 4,
-        53 => 5,
-        54 => 6,
-        55 => 7,
-        56 => 8,
-        57 => 9,
+        c @ 50..=57 => u64::from(c - 48),
         _ => 0,
     }
 }
@@ -171,10 +161,8 @@ fn place_in(l: &[u8], s: &[u8]) -> u64 {
 fn add_digit(n: u64, unit: u64, text: &mut Text, size: usize) -> usize
     requires { 1 ≤ unit }
 {
-    if n < unit {
-        if 1 < unit {
-            return size;
-        }
+    if n < unit && 1 < unit {
+        return size;
     }
     add_byte(text, size, (n / unit % 10) as u32 + 48)
 }
@@ -233,10 +221,7 @@ fn read_accepted(l: &[u8], q: State, text: &mut Text, want: &mut Text) -> State 
 
 // A further line of a page.
 fn read_label(l: &[u8], q: State, want: &mut Text) -> State {
-    if q.page == 0 {
-        return bad_line(q);
-    }
-    if q.is_refused {
+    if q.page == 0 || q.is_refused {
         return bad_line(q);
     }
     with_page(q, add_line(l, 0, want, q.page))
@@ -348,6 +333,7 @@ fn run(s: &[u8]) {
     let mut want = [0u8; Case::SOURCE];
     let mut q = start();
     let mut at: usize = 0;
+    // By index: a step goes behind the next line's end.
     while at < s.len() {
         let end = line_end(s, at);
         q = take_line(s, at, end, q, &mut text, &mut want);

@@ -5,25 +5,10 @@ ghost use Rattle.std.specs.Prelude.{◌≤◌, length};
 
 use test_lines::{Case, front, is_comment, line_end, one_more, starts_with};
 use test_state::{Fault, Progress, failed};
-use test_text::{Room, clear_memory, clear_stack};
+use test_text::{Bytes, Memory, Room, Rows, Stack, Text, clear_memory, clear_stack};
 
 // Room for the input: one byte more than it may have.
 const INPUT: usize = 262144;
-
-// A source, or an answer.
-type Text = [u8; Case::SOURCE];
-
-// Statements, behind them labels.
-type Rows = [u32; Room::ROWS];
-
-// Names, behind them data.
-type Bytes = [u8; Room::BYTES];
-
-// The stack lent, behind it the stack before the last call.
-type Stack = [u32; Room::TWO_STACKS];
-
-// The memory lent, behind it the memory before the last call.
-type Memory = [u8; Room::TWO_MEMORIES];
 
 fn put(text: &[u8]) {
     io::write_all(1, text);
@@ -56,7 +41,7 @@ fn put_name(s: &[u8], q: Progress) {
 
 // An answer of so many bytes; none where there are none.
 fn put_answer(got: &[u8]) {
-    if 0 < got.len() {
+    if !got.is_empty() {
         put(got);
         put(b"\n");
     }
@@ -84,7 +69,7 @@ fn put_difference(s: &[u8], l: &[u8], q: Progress, got: &[u8]) {
 
 // The case counts as differing once.
 fn differs(mut q: Progress) -> Progress {
-    q.fault = 0;
+    q.fault = None;
     if q.is_wrong {
         return q;
     }
@@ -95,19 +80,12 @@ fn differs(mut q: Progress) -> Progress {
 
 // Prints where a line came to a fault.
 fn report_fault(s: &[u8], l: &[u8], q: Progress, got: &Text) -> Progress {
-    let fault = q.fault;
-    if fault == 0 {
-        return q;
+    match q.fault {
+        None => return q,
+        Some(Fault::BadLine) => put_bad_line(q.line),
+        Some(Fault::NoAnswer) => put_no_answer(s, q),
+        Some(Fault::Differs) => put_difference(s, l, q, front(got, q.shown)),
     }
-    if fault == Fault::BAD_LINE {
-        put_bad_line(q.line);
-        return differs(q);
-    }
-    if fault == Fault::NO_ANSWER {
-        put_no_answer(s, q);
-        return differs(q);
-    }
-    put_difference(s, l, q, front(got, q.shown));
     differs(q)
 }
 
@@ -119,13 +97,8 @@ fn report(s: &[u8], l: &[u8], q: Progress, got: &Text) -> Progress {
 
 // The end of a case: its last call has an answer, and it has a call.
 fn close_case(s: &[u8], q: Progress) -> Progress {
-    if q.cases == 0 {
+    if q.cases == 0 || q.is_checked && q.given == 0 {
         return q;
-    }
-    if q.is_checked {
-        if q.given == 0 {
-            return q;
-        }
     }
     put_no_answer(s, q);
     differs(q)
@@ -160,7 +133,7 @@ fn take_part(
     m: &mut Memory,
 ) -> Progress {
     if q.cases == 0 {
-        return report(s, l, failed(q, Fault::BAD_LINE), got);
+        return report(s, l, failed(q, Fault::BadLine), got);
     }
     let read = test_cases::read_line(l, q, text, got, t, b, k, m);
     report(s, l, read, got)
@@ -202,6 +175,7 @@ fn run(s: &[u8]) {
     let mut m = [0u8; Room::TWO_MEMORIES];
     let mut q = test_state::first();
     let mut at: usize = 0;
+    // By index: a step goes behind the next line's end.
     while at < s.len() {
         let end = line_end(s, at);
         q = take_line(

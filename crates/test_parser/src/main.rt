@@ -41,7 +41,7 @@ struct State {
 }
 
 // Statements and labels, or a refusal (0: none).
-#[derive(Clone, Copy)]
+#[derive(Clone, Copy, PartialEq, Eq)]
 struct Answer {
     number: u32,
     place: u64,
@@ -85,15 +85,15 @@ fn accepted(statements: u64, labels: u64) -> Answer {
     Answer {
         number: 0,
         place: 0,
-        statements: statements,
-        labels: labels,
+        statements,
+        labels,
     }
 }
 
 fn refused(number: u32, place: u64) -> Answer {
     Answer {
-        number: number,
-        place: place,
+        number,
+        place,
         statements: 0,
         labels: 0,
     }
@@ -146,10 +146,7 @@ fn bad_line(q: State) -> State {
 
 // A source of a new size.
 fn with_size(mut q: State, size: usize) -> State {
-    if q.is_parsed {
-        return bad_line(q);
-    }
-    if Case::SOURCE <= size {
+    if q.is_parsed || Case::SOURCE <= size {
         return bad_line(q);
     }
     q.size = size;
@@ -192,14 +189,7 @@ fn read_width(l: &[u8], mut q: State) -> State {
 fn nth_of(word: &[u8]) -> u64 {
     match byte_at(word, 2) {
         32 => 1,
-        50 => 2,
-        51 => 3,
-        52 => 4,
-        53 => 5,
-        54 => 6,
-        55 => 7,
-        56 => 8,
-        57 => 9,
+        c @ 50..=57 => u64::from(c - 48),
         _ => 0,
     }
 }
@@ -242,7 +232,7 @@ fn put_answer(a: Answer) {
         put_number(a.labels);
     } else {
         put(b"refused ");
-        put_number(a.number as u64);
+        put_number(u64::from(a.number));
         put(b" ");
         put_number(a.place);
     }
@@ -255,21 +245,8 @@ fn put_name(s: &[u8], q: State) {
     put(b": expected ");
 }
 
-fn is_same(a: Answer, b: Answer) -> bool {
-    if a.number != b.number {
-        return false;
-    }
-    if a.place != b.place {
-        return false;
-    }
-    if a.statements != b.statements {
-        return false;
-    }
-    a.labels == b.labels
-}
-
 fn compare(s: &[u8], q: State, want: Answer, got: Answer) -> State {
-    if is_same(want, got) {
+    if want == got {
         return q;
     }
     put_name(s, q);
@@ -315,12 +292,10 @@ fn read_answer(
 fn is_listed(l: &[u8], t: &[u32], at: usize, count: usize) -> bool
     requires { (at < 65536) × (count ≤ 4) }
 {
-    let mut i: usize = 0;
-    while i < count {
+    for i in 0..count {
         if word_at(t, at + i) != narrow(field(l, i as u64 + 2)) {
             return false;
         }
-        i += 1;
     }
     true
 }
@@ -328,11 +303,9 @@ fn is_listed(l: &[u8], t: &[u32], at: usize, count: usize) -> bool
 fn put_words(t: &[u32], at: usize, count: usize)
     requires { (at < 65536) × (count ≤ 4) }
 {
-    let mut i: usize = 0;
-    while i < count {
+    for i in at..at + count {
         put(b" ");
-        put_number(word_at(t, at + i) as u64);
-        i += 1;
+        put_number(u64::from(word_at(t, i)));
     }
 }
 
@@ -355,10 +328,7 @@ fn row_start(row: u64, is_label: bool) -> usize
     requires { row < 4096 }
     ensures { result < 32768 }
 {
-    if is_label {
-        return (row * 4) as usize;
-    }
-    (row * 8) as usize
+    (if is_label { row * 4 } else { row * 8 }) as usize
 }
 
 // `row`, `label` or `locals`: words of a row, from one on.
@@ -373,12 +343,10 @@ fn read_words(
 ) -> State
     requires { (from ≤ 8) × (count ≤ 4) }
 {
-    if q.is_parsed {
-        if has_numbers(l, 1, count as u64 + 2) {
-            let row = field(l, 1);
-            if row < 4096 {
-                return compare_words(s, l, q, t, row_start(row, is_label) + from, count);
-            }
+    if q.is_parsed && has_numbers(l, 1, count as u64 + 2) {
+        let row = field(l, 1);
+        if row < 4096 {
+            return compare_words(s, l, q, t, row_start(row, is_label) + from, count);
         }
     }
     bad_line(q)
@@ -413,10 +381,7 @@ fn read_line(
     if starts_with(l, b"locals ") {
         return read_words(s, l, q, rows, false, 6, 1);
     }
-    if starts_with(l, b"accepted ") {
-        return read_answer(s, l, q, text, table, rows, labels);
-    }
-    if starts_with(l, b"refused ") {
+    if starts_with(l, b"accepted ") || starts_with(l, b"refused ") {
         return read_answer(s, l, q, text, table, rows, labels);
     }
     bad_line(q)
@@ -436,10 +401,7 @@ fn open_case(mut q: State, name: usize) -> State {
 
 // The end of a case: it must have expected an answer.
 fn close_case(s: &[u8], q: State) -> State {
-    if q.cases == 0 {
-        return q;
-    }
-    if q.is_parsed {
+    if q.cases == 0 || q.is_parsed {
         return q;
     }
     put_name(s, q);
@@ -495,6 +457,7 @@ fn run(s: &[u8]) {
     let mut labels = [0u32; Outline::LABEL_WORDS];
     let mut q = start();
     let mut at: usize = 0;
+    // By index: a step goes behind the next line's end.
     while at < s.len() {
         let end = line_end(s, at);
         q = take_line(s, at, end, q, &mut text, &mut table, &mut rows, &mut labels);

@@ -3,6 +3,7 @@
 use mathlib.Core.Path.{◌≡◌}
 use Prim.Native.Nat.{ℕ, ◌+◌, ◌-◌, ◌*◌, ◌%◌, ◌≤◌, ◌<◌}
 use mathlib.Core.Bool.{Bool, true, false}
+use Rattle.std.specs.Prelude.{None}
 use mathlib.Core.List.{List}
 use lib.ListN.{take, set, replicate}
 use Rattle.base_prelude.specs.Lists.{same_list}
@@ -19,28 +20,29 @@ use Rattle.test_text.specs.Records.{is_record_poke, poke_record}
 use Rattle.test_text.specs.Buffers.{lesser_of, changed_in, stored, bytes_stored}
 use Rattle.base_prelude.proofs.Choice.{tests}
 use Rattle.test_state.specs.declared.Lent.{Lent}
+use Rattle.test_state.specs.declared.Fault.TheVariants.{BadLine, Differs}
 use Rattle.test_state.specs.declared.Progress.{Progress}
 use Rattle.test_state.specs.Progress.{on, all_lent, first_of, opened_of, failed_of, sized_of, bodied_of, shown_of, unanswered_of, counted_of, lent_of, machine_of}
 use Rattle.test_state.specs.Source.{body-word, body-head, body_end, with_size, open_body, close_body, read_body, read_source}
 use Rattle.test_state.specs.Views.{rejected-word, accepted-word, words-word, holds-word, record-word, same_word, words-line, holds-line, stack_lent, memory_lent, read_memory, read_stack, compare_texts, blank, compare_line, read_accepted, read_answer, view_words, view_bytes, add_change, read_view}
-use Rattle.test_state.specs.Changes.{bytes_word, poke-word, count_word, lend-word, poke-statement-word, poke-label-word, poke-name-word, poke-stack-word, poke-record-word, statements-word, labels-word, data-word, names-word, read_bytes, poke_statement, poke_label, poke_name, poke_stack, poke_machine, poked, read_poke, count_part, read_count, lend_statements, lend_labels, lend_names, lend_bytes, read_lend, changed, read_change}
+use Rattle.test_state.specs.Changes.{bytes_word, poke-word, count_word, lend-word, poke-statement-word, poke-label-word, poke-name-word, poke-stack-word, poke-record-word, statements-word, labels-word, data-word, names-word, read_bytes, poke_statement, poke_label, poke_name, poke_stack, poke_machine, poked, read_poke, count_part, read_count, lend_part, lend_statements, lend_labels, lend_names, lend_bytes, read_lend, changed, read_change}
 
 -- `first`, `open_case`
-pub first-is : (a : Lent) (r : Machine) → a ≡ all_lent → r ≡ fresh_of 0 0 0 → record { line = 0; cases = 0; differ = 0; name = 0; size = 0; is_body = false; is_checked = false; is_wrong = false; given = 0; told = 0; fault = 0; shown = 0; lent = a; counts = record { statements = 0; labels = 0; bytes = 0 }; machine = r } ≡ first_of
+pub first-is : (a : Lent) (r : Machine) → a ≡ all_lent → r ≡ fresh_of 0 0 0 → record { line = 0; cases = 0; differ = 0; name = 0; size = 0; is_body = false; is_checked = false; is_wrong = false; given = 0; told = 0; fault = None; shown = 0; lent = a; counts = record { statements = 0; labels = 0; bytes = 0 }; machine = r } ≡ first_of
 unfolding first_of
 first-is a r e f = rw (e, f)
 
-pub opened-is : (q : Progress) (name n : ℕ) (a : Lent) (r : Machine) → a ≡ all_lent → r ≡ fresh_of 0 0 0 → n ≡ one_more q.cases → record { line = q.line; cases = n; differ = q.differ; name = name; size = 0; is_body = false; is_checked = false; is_wrong = false; given = 0; told = 0; fault = 0; shown = 0; lent = a; counts = record { statements = 0; labels = 0; bytes = 0 }; machine = r } ≡ opened_of q name
-unfolding opened_of
-opened-is q name n a r e f g = rw (e, f, g)
+pub opened-is : (q f : Progress) (name n : ℕ) → f ≡ first_of → n ≡ one_more q.cases → record { line = q.line; cases = n; differ = q.differ; name = name; size = f.size; is_body = f.is_body; is_checked = f.is_checked; is_wrong = f.is_wrong; given = f.given; told = f.told; fault = f.fault; shown = f.shown; lent = f.lent; counts = f.counts; machine = f.machine } ≡ opened_of q name
+unfolding opened_of first_of
+opened-is q f name n e g = rw (e, g)
 
 -- `with_size`
 module _ (q : Progress) (size : ℕ) where
-  pub with-size-1 : q.is_checked ≡ true → (z : Progress) → z ≡ failed_of q 1 → z ≡ with_size q size
+  pub with-size-1 : q.is_checked ≡ true → (z : Progress) → z ≡ failed_of q BadLine → z ≡ with_size q size
   unfolding with_size
   with-size-1 h0 z p0 = rw (← p0) (search tests)
 
-  pub with-size-2 : q.is_checked ≡ false → 16401 ≤ size → (z : Progress) → z ≡ failed_of q 1 → z ≡ with_size q size
+  pub with-size-2 : q.is_checked ≡ false → 16401 ≤ size → (z : Progress) → z ≡ failed_of q BadLine → z ≡ with_size q size
   unfolding with_size
   with-size-2 h0 h1 z p0 = rw (← p0) (search tests)
 
@@ -82,7 +84,7 @@ module _ (l : List ℕ) (q : Progress) (text : List ℕ) where
 
 -- `read_source`
 module _ (l : List ℕ) (q : Progress) (text : List ℕ) where
-  pub read-source-1 : q.is_checked ≡ true → (z : Progress) → z ≡ failed_of q 1 → on z text ≡ read_source l q text
+  pub read-source-1 : q.is_checked ≡ true → (z : Progress) → z ≡ failed_of q BadLine → on z text ≡ read_source l q text
   unfolding read_source
   read-source-1 h0 z p0 = rw (← p0) (search tests)
 
@@ -110,11 +112,11 @@ module _ (q : Progress) (n : ℕ) where
 
 -- `read_memory`
 module _ (l : List ℕ) (q : Progress) (m : List ℕ) where
-  pub read-memory-1 : (c : ℕ) → c ≡ count_fields l → (c ≡ 2 → ⊥) → (z : Progress) → z ≡ failed_of q 1 → on z m ≡ read_memory l q m
+  pub read-memory-1 : (c : ℕ) → c ≡ count_fields l → (c ≡ 2 → ⊥) → (z : Progress) → z ≡ failed_of q BadLine → on z m ≡ read_memory l q m
   unfolding read_memory
   read-memory-1 c p0 h0 z p1 = rw (← p0, ← p1) (search tests)
 
-  pub read-memory-2 : (c : ℕ) → c ≡ count_fields l → c ≡ 2 → (n : ℕ) → n ≡ field_value l 1 → 65537 < n → (z : Progress) → z ≡ failed_of q 1 → on z m ≡ read_memory l q m
+  pub read-memory-2 : (c : ℕ) → c ≡ count_fields l → c ≡ 2 → (n : ℕ) → n ≡ field_value l 1 → 65537 < n → (z : Progress) → z ≡ failed_of q BadLine → on z m ≡ read_memory l q m
   unfolding read_memory
   read-memory-2 c p0 h0 n p1 h1 z p2 = rw (← p0, ← p1, ← p2) (search tests)
 
@@ -126,11 +128,11 @@ pub ruleset read-memory-ways = (read-memory-1, read-memory-2, read-memory-3)
 
 -- `read_stack`
 module _ (l : List ℕ) (q : Progress) (k : List ℕ) where
-  pub read-stack-1 : (c : ℕ) → c ≡ count_fields l → (c ≡ 2 → ⊥) → (z : Progress) → z ≡ failed_of q 1 → on z k ≡ read_stack l q k
+  pub read-stack-1 : (c : ℕ) → c ≡ count_fields l → (c ≡ 2 → ⊥) → (z : Progress) → z ≡ failed_of q BadLine → on z k ≡ read_stack l q k
   unfolding read_stack
   read-stack-1 c p0 h0 z p1 = rw (← p0, ← p1) (search tests)
 
-  pub read-stack-2 : (c : ℕ) → c ≡ count_fields l → c ≡ 2 → (n : ℕ) → n ≡ field_value l 1 → 16385 < n → (z : Progress) → z ≡ failed_of q 1 → on z k ≡ read_stack l q k
+  pub read-stack-2 : (c : ℕ) → c ≡ count_fields l → c ≡ 2 → (n : ℕ) → n ≡ field_value l 1 → 16385 < n → (z : Progress) → z ≡ failed_of q BadLine → on z k ≡ read_stack l q k
   unfolding read_stack
   read-stack-2 c p0 h0 n p1 h1 z p2 = rw (← p0, ← p1, ← p2) (search tests)
 
@@ -146,7 +148,7 @@ module _ (want : List ℕ) (n : ℕ) (q : Progress) (got : List ℕ) (size : ℕ
   unfolding compare_texts
   compare-texts-1 a p0 b p1 s p2 h0 = rw (← p0, ← p1, ← p2) (search tests)
 
-  pub compare-texts-2 : (a : List ℕ) → a ≡ take n want → (b : List ℕ) → b ≡ take size got → (s : Bool) → s ≡ same_list a b → s ≡ false → (h : Progress) → h ≡ shown_of q size → (z : Progress) → z ≡ failed_of h 3 → z ≡ compare_texts want n q got size
+  pub compare-texts-2 : (a : List ℕ) → a ≡ take n want → (b : List ℕ) → b ≡ take size got → (s : Bool) → s ≡ same_list a b → s ≡ false → (h : Progress) → h ≡ shown_of q size → (z : Progress) → z ≡ failed_of h Differs → z ≡ compare_texts want n q got size
   unfolding compare_texts
   compare-texts-2 a p0 b p1 s p2 h0 h p3 z p4 = rw (← p0, ← p1, ← p2, ← p3, ← p4) (search tests)
 
@@ -154,7 +156,7 @@ pub ruleset compare-texts-ways = (compare-texts-1, compare-texts-2)
 
 -- `compare`
 module _ (l : List ℕ) (q : Progress) (got : List ℕ) (size : ℕ) where
-  pub compare-1 : (n : ℕ) → (w : List ℕ) → source n w ≡ add_all (plain_bytes l) (source 0 blank) → 16401 ≤ n → (z : Progress) → z ≡ failed_of q 1 → z ≡ compare_line l q got size
+  pub compare-1 : (n : ℕ) → (w : List ℕ) → source n w ≡ add_all (plain_bytes l) (source 0 blank) → 16401 ≤ n → (z : Progress) → z ≡ failed_of q BadLine → z ≡ compare_line l q got size
   unfolding compare_line
   compare-1 n w p0 h0 z p1 = rw (← p0, ← p1) (search tests)
 
@@ -170,7 +172,7 @@ module _ (l : List ℕ) (q : Progress) (got : List ℕ) where
   unfolding read_accepted
   read-accepted-1 a p0 h0 n u p1 z p2 = rw (← p0, ← p1, ← p2) (search tests)
 
-  pub read-accepted-2 : (a : Bool) → a ≡ starts_with l rejected-word → a ≡ false → (z : Progress) → z ≡ failed_of q 1 → on z got ≡ read_accepted l q got
+  pub read-accepted-2 : (a : Bool) → a ≡ starts_with l rejected-word → a ≡ false → (z : Progress) → z ≡ failed_of q BadLine → on z got ≡ read_accepted l q got
   unfolding read_accepted
   read-accepted-2 a p0 h0 z p1 = rw (← p0, ← p1) (search tests)
 
@@ -190,7 +192,7 @@ pub ruleset read-answer-ways = (read-answer-1, read-answer-2)
 
 -- `view_words`
 module _ (l : List ℕ) (q : Progress) (got : List ℕ) (k : List ℕ) where
-  pub view-words-1 : (i : ℕ) → i ≡ field_value l 1 → 16385 ≤ i → (z : Progress) → z ≡ failed_of q 1 → on z got ≡ view_words l q got k
+  pub view-words-1 : (i : ℕ) → i ≡ field_value l 1 → 16385 ≤ i → (z : Progress) → z ≡ failed_of q BadLine → on z got ≡ view_words l q got k
   unfolding view_words
   view-words-1 i p0 h0 z p1 = rw (← p0, ← p1) (search tests)
 
@@ -202,7 +204,7 @@ pub ruleset view-words-ways = (view-words-1, view-words-2)
 
 -- `view_bytes`
 module _ (l : List ℕ) (q : Progress) (got : List ℕ) (m : List ℕ) where
-  pub view-bytes-1 : (i : ℕ) → i ≡ field_value l 1 → 65537 ≤ i → (z : Progress) → z ≡ failed_of q 1 → on z got ≡ view_bytes l q got m
+  pub view-bytes-1 : (i : ℕ) → i ≡ field_value l 1 → 65537 ≤ i → (z : Progress) → z ≡ failed_of q BadLine → on z got ≡ view_bytes l q got m
   unfolding view_bytes
   view-bytes-1 i p0 h0 z p1 = rw (← p0, ← p1) (search tests)
 
@@ -250,7 +252,7 @@ pub ruleset read-view-ways = (read-view-1, read-view-2, read-view-3, read-view-4
 
 -- `read_bytes`
 module _ (l : List ℕ) (q : Progress) (m : List ℕ) where
-  pub read-bytes-1 : (i : ℕ) → i ≡ field_value l 1 → 65537 ≤ i → (z : Progress) → z ≡ failed_of q 1 → on z m ≡ read_bytes l q m
+  pub read-bytes-1 : (i : ℕ) → i ≡ field_value l 1 → 65537 ≤ i → (z : Progress) → z ≡ failed_of q BadLine → on z m ≡ read_bytes l q m
   unfolding read_bytes
   read-bytes-1 i p0 h0 z p1 = rw (← p0, ← p1) (search tests)
 
@@ -258,7 +260,7 @@ module _ (l : List ℕ) (q : Progress) (m : List ℕ) where
   unfolding read_bytes
   read-bytes-2 i p0 h0 d u p1 h1 = rw (← p0, ← p1) (search tests)
 
-  pub read-bytes-3 : (i : ℕ) → i ≡ field_value l 1 → i < 65537 → (d : Bool) → (u : List ℕ) → stored d u ≡ bytes_stored l i q.lent.memory m → d ≡ false → (z : Progress) → z ≡ failed_of q 1 → on z u ≡ read_bytes l q m
+  pub read-bytes-3 : (i : ℕ) → i ≡ field_value l 1 → i < 65537 → (d : Bool) → (u : List ℕ) → stored d u ≡ bytes_stored l i q.lent.memory m → d ≡ false → (z : Progress) → z ≡ failed_of q BadLine → on z u ≡ read_bytes l q m
   unfolding read_bytes
   read-bytes-3 i p0 h0 d u p1 h1 z p2 = rw (← p0, ← p1, ← p2) (search tests)
 
@@ -266,11 +268,11 @@ pub ruleset read-bytes-ways = (read-bytes-1, read-bytes-2, read-bytes-3)
 
 -- `poke_statement`
 module _ (l : List ℕ) (q : Progress) (t : List ℕ) where
-  pub poke-statement-1 : (i : ℕ) → i ≡ field_value l 2 → 1024 ≤ i → (z : Progress) → z ≡ failed_of q 1 → on z t ≡ poke_statement l q t
+  pub poke-statement-1 : (i : ℕ) → i ≡ field_value l 2 → 1024 ≤ i → (z : Progress) → z ≡ failed_of q BadLine → on z t ≡ poke_statement l q t
   unfolding poke_statement
   poke-statement-1 i p0 h0 z p1 = rw (← p0, ← p1) (search tests)
 
-  pub poke-statement-2 : (i : ℕ) → i ≡ field_value l 2 → i < 1024 → (j : ℕ) → j ≡ field_value l 3 → 27 ≤ j → (z : Progress) → z ≡ failed_of q 1 → on z t ≡ poke_statement l q t
+  pub poke-statement-2 : (i : ℕ) → i ≡ field_value l 2 → i < 1024 → (j : ℕ) → j ≡ field_value l 3 → 27 ≤ j → (z : Progress) → z ≡ failed_of q BadLine → on z t ≡ poke_statement l q t
   unfolding poke_statement
   poke-statement-2 i p0 h0 j p1 h1 z p2 = rw (← p0, ← p1, ← p2) (search tests)
 
@@ -278,7 +280,7 @@ module _ (l : List ℕ) (q : Progress) (t : List ℕ) where
   unfolding poke_statement
   poke-statement-3 i p0 h0 j p1 h1 h p2 h2 n p3 v p4 = rw (← p0, ← p1, ← p2, ← p3, ← p4) (search tests)
 
-  pub poke-statement-4 : (i : ℕ) → i ≡ field_value l 2 → i < 1024 → (j : ℕ) → j ≡ field_value l 3 → j < 27 → (h : Bool) → h ≡ has_values l 4 5 → h ≡ false → (z : Progress) → z ≡ failed_of q 1 → on z t ≡ poke_statement l q t
+  pub poke-statement-4 : (i : ℕ) → i ≡ field_value l 2 → i < 1024 → (j : ℕ) → j ≡ field_value l 3 → j < 27 → (h : Bool) → h ≡ has_values l 4 5 → h ≡ false → (z : Progress) → z ≡ failed_of q BadLine → on z t ≡ poke_statement l q t
   unfolding poke_statement
   poke-statement-4 i p0 h0 j p1 h1 h p2 h2 z p3 = rw (← p0, ← p1, ← p2, ← p3) (search tests)
 
@@ -286,11 +288,11 @@ pub ruleset poke-statement-ways = (poke-statement-1, poke-statement-2, poke-stat
 
 -- `poke_label`
 module _ (l : List ℕ) (q : Progress) (t : List ℕ) where
-  pub poke-label-1 : (i : ℕ) → i ≡ field_value l 2 → 256 ≤ i → (z : Progress) → z ≡ failed_of q 1 → on z t ≡ poke_label l q t
+  pub poke-label-1 : (i : ℕ) → i ≡ field_value l 2 → 256 ≤ i → (z : Progress) → z ≡ failed_of q BadLine → on z t ≡ poke_label l q t
   unfolding poke_label
   poke-label-1 i p0 h0 z p1 = rw (← p0, ← p1) (search tests)
 
-  pub poke-label-2 : (i : ℕ) → i ≡ field_value l 2 → i < 256 → (j : ℕ) → j ≡ field_value l 3 → 4 ≤ j → (z : Progress) → z ≡ failed_of q 1 → on z t ≡ poke_label l q t
+  pub poke-label-2 : (i : ℕ) → i ≡ field_value l 2 → i < 256 → (j : ℕ) → j ≡ field_value l 3 → 4 ≤ j → (z : Progress) → z ≡ failed_of q BadLine → on z t ≡ poke_label l q t
   unfolding poke_label
   poke-label-2 i p0 h0 j p1 h1 z p2 = rw (← p0, ← p1, ← p2) (search tests)
 
@@ -298,7 +300,7 @@ module _ (l : List ℕ) (q : Progress) (t : List ℕ) where
   unfolding poke_label
   poke-label-3 i p0 h0 j p1 h1 h p2 h2 n p3 v p4 = rw (← p0, ← p1, ← p2, ← p3, ← p4) (search tests)
 
-  pub poke-label-4 : (i : ℕ) → i ≡ field_value l 2 → i < 256 → (j : ℕ) → j ≡ field_value l 3 → j < 4 → (h : Bool) → h ≡ has_values l 4 5 → h ≡ false → (z : Progress) → z ≡ failed_of q 1 → on z t ≡ poke_label l q t
+  pub poke-label-4 : (i : ℕ) → i ≡ field_value l 2 → i < 256 → (j : ℕ) → j ≡ field_value l 3 → j < 4 → (h : Bool) → h ≡ has_values l 4 5 → h ≡ false → (z : Progress) → z ≡ failed_of q BadLine → on z t ≡ poke_label l q t
   unfolding poke_label
   poke-label-4 i p0 h0 j p1 h1 h p2 h2 z p3 = rw (← p0, ← p1, ← p2, ← p3) (search tests)
 
@@ -306,19 +308,19 @@ pub ruleset poke-label-ways = (poke-label-1, poke-label-2, poke-label-3, poke-la
 
 -- `poke_name`
 module _ (l : List ℕ) (q : Progress) (b : List ℕ) where
-  pub poke-name-1 : (i : ℕ) → i ≡ field_value l 2 → 256 ≤ i → (z : Progress) → z ≡ failed_of q 1 → on z b ≡ poke_name l q b
+  pub poke-name-1 : (i : ℕ) → i ≡ field_value l 2 → 256 ≤ i → (z : Progress) → z ≡ failed_of q BadLine → on z b ≡ poke_name l q b
   unfolding poke_name
   poke-name-1 i p0 h0 z p1 = rw (← p0, ← p1) (search tests)
 
-  pub poke-name-2 : (i : ℕ) → i ≡ field_value l 2 → i < 256 → (j : ℕ) → j ≡ field_value l 3 → 64 ≤ j → (z : Progress) → z ≡ failed_of q 1 → on z b ≡ poke_name l q b
+  pub poke-name-2 : (i : ℕ) → i ≡ field_value l 2 → i < 256 → (j : ℕ) → j ≡ field_value l 3 → 64 ≤ j → (z : Progress) → z ≡ failed_of q BadLine → on z b ≡ poke_name l q b
   unfolding poke_name
   poke-name-2 i p0 h0 j p1 h1 z p2 = rw (← p0, ← p1, ← p2) (search tests)
 
-  pub poke-name-3 : (i : ℕ) → i ≡ field_value l 2 → i < 256 → (j : ℕ) → j ≡ field_value l 3 → j < 64 → (c : ℕ) → c ≡ count_fields l → (c ≡ 5 → ⊥) → (z : Progress) → z ≡ failed_of q 1 → on z b ≡ poke_name l q b
+  pub poke-name-3 : (i : ℕ) → i ≡ field_value l 2 → i < 256 → (j : ℕ) → j ≡ field_value l 3 → j < 64 → (c : ℕ) → c ≡ count_fields l → (c ≡ 5 → ⊥) → (z : Progress) → z ≡ failed_of q BadLine → on z b ≡ poke_name l q b
   unfolding poke_name
   poke-name-3 i p0 h0 j p1 h1 c p2 h2 z p3 = rw (← p0, ← p1, ← p2, ← p3) (search tests)
 
-  pub poke-name-4 : (i : ℕ) → i ≡ field_value l 2 → i < 256 → (j : ℕ) → j ≡ field_value l 3 → j < 64 → (c : ℕ) → c ≡ count_fields l → c ≡ 5 → (v : ℕ) → v ≡ field_value l 4 → 255 < v → (z : Progress) → z ≡ failed_of q 1 → on z b ≡ poke_name l q b
+  pub poke-name-4 : (i : ℕ) → i ≡ field_value l 2 → i < 256 → (j : ℕ) → j ≡ field_value l 3 → j < 64 → (c : ℕ) → c ≡ count_fields l → c ≡ 5 → (v : ℕ) → v ≡ field_value l 4 → 255 < v → (z : Progress) → z ≡ failed_of q BadLine → on z b ≡ poke_name l q b
   unfolding poke_name
   poke-name-4 i p0 h0 j p1 h1 c p2 h2 v p3 h3 z p4 = rw (← p0, ← p1, ← p2, ← p3, ← p4) (search tests)
 
@@ -330,7 +332,7 @@ pub ruleset poke-name-ways = (poke-name-1, poke-name-2, poke-name-3, poke-name-4
 
 -- `poke_stack`
 module _ (l : List ℕ) (q : Progress) (k : List ℕ) where
-  pub poke-stack-1 : (i : ℕ) → i ≡ field_value l 2 → 16385 ≤ i → (z : Progress) → z ≡ failed_of q 1 → on z k ≡ poke_stack l q k
+  pub poke-stack-1 : (i : ℕ) → i ≡ field_value l 2 → 16385 ≤ i → (z : Progress) → z ≡ failed_of q BadLine → on z k ≡ poke_stack l q k
   unfolding poke_stack
   poke-stack-1 i p0 h0 z p1 = rw (← p0, ← p1) (search tests)
 
@@ -338,7 +340,7 @@ module _ (l : List ℕ) (q : Progress) (k : List ℕ) where
   unfolding poke_stack
   poke-stack-2 i p0 h0 h p1 h1 n p2 v p3 = rw (← p0, ← p1, ← p2, ← p3) (search tests)
 
-  pub poke-stack-3 : (i : ℕ) → i ≡ field_value l 2 → i < 16385 → (h : Bool) → h ≡ has_values l 2 4 → h ≡ false → (z : Progress) → z ≡ failed_of q 1 → on z k ≡ poke_stack l q k
+  pub poke-stack-3 : (i : ℕ) → i ≡ field_value l 2 → i < 16385 → (h : Bool) → h ≡ has_values l 2 4 → h ≡ false → (z : Progress) → z ≡ failed_of q BadLine → on z k ≡ poke_stack l q k
   unfolding poke_stack
   poke-stack-3 i p0 h0 h p1 h1 z p2 = rw (← p0, ← p1, ← p2) (search tests)
 
@@ -350,7 +352,7 @@ module _ (l : List ℕ) (q : Progress) where
   unfolding poke_machine
   poke-record-1 a p0 h0 p p1 z p2 = rw (← p0, ← p1, ← p2) (search tests)
 
-  pub poke-record-2 : (a : Bool) → a ≡ is_record_poke l → a ≡ false → (z : Progress) → z ≡ failed_of q 1 → z ≡ poke_machine l q
+  pub poke-record-2 : (a : Bool) → a ≡ is_record_poke l → a ≡ false → (z : Progress) → z ≡ failed_of q BadLine → z ≡ poke_machine l q
   unfolding poke_machine
   poke-record-2 a p0 h0 z p1 = rw (← p0, ← p1) (search tests)
 
@@ -378,7 +380,7 @@ module _ (l : List ℕ) (q : Progress) (t : List ℕ) (b : List ℕ) (k : List �
   unfolding read_poke
   read-poke-5 a p0 h0 c p1 h1 d p2 h2 e p3 h3 f p4 h4 z p5 = rw (← p0, ← p1, ← p2, ← p3, ← p4, ← p5) (search tests)
 
-  pub read-poke-6 : (a : Bool) → a ≡ starts_with l poke-statement-word → a ≡ false → (c : Bool) → c ≡ starts_with l poke-label-word → c ≡ false → (d : Bool) → d ≡ starts_with l poke-name-word → d ≡ false → (e : Bool) → e ≡ starts_with l poke-stack-word → e ≡ false → (f : Bool) → f ≡ starts_with l poke-record-word → f ≡ false → (z : Progress) → z ≡ failed_of q 1 → poked z t b k ≡ read_poke l q t b k
+  pub read-poke-6 : (a : Bool) → a ≡ starts_with l poke-statement-word → a ≡ false → (c : Bool) → c ≡ starts_with l poke-label-word → c ≡ false → (d : Bool) → d ≡ starts_with l poke-name-word → d ≡ false → (e : Bool) → e ≡ starts_with l poke-stack-word → e ≡ false → (f : Bool) → f ≡ starts_with l poke-record-word → f ≡ false → (z : Progress) → z ≡ failed_of q BadLine → poked z t b k ≡ read_poke l q t b k
   unfolding read_poke
   read-poke-6 a p0 h0 c p1 h1 d p2 h2 e p3 h3 f p4 h4 z p5 = rw (← p0, ← p1, ← p2, ← p3, ← p4, ← p5) (search tests)
 
@@ -398,7 +400,7 @@ module _ (l : List ℕ) (q : Progress) (n : ℕ) where
   unfolding count_part
   count-part-3 a p0 h0 b p1 h1 c p2 h2 z p3 = rw (← p0, ← p1, ← p2, ← p3) (search tests)
 
-  pub count-part-4 : (a : Bool) → a ≡ has_word l 1 statements-word → a ≡ false → (b : Bool) → b ≡ has_word l 1 labels-word → b ≡ false → (c : Bool) → c ≡ has_word l 1 data-word → c ≡ false → (z : Progress) → z ≡ failed_of q 1 → z ≡ count_part l q n
+  pub count-part-4 : (a : Bool) → a ≡ has_word l 1 statements-word → a ≡ false → (b : Bool) → b ≡ has_word l 1 labels-word → b ≡ false → (c : Bool) → c ≡ has_word l 1 data-word → c ≡ false → (z : Progress) → z ≡ failed_of q BadLine → z ≡ count_part l q n
   unfolding count_part
   count-part-4 a p0 h0 b p1 h1 c p2 h2 z p3 = rw (← p0, ← p1, ← p2, ← p3) (search tests)
 
@@ -410,83 +412,47 @@ module _ (l : List ℕ) (q : Progress) where
   unfolding read_count
   read-count-1 a p0 h0 m p1 n p2 z p3 = rw (← p0, ← p1, ← p2, ← p3) (search tests)
 
-  pub read-count-2 : (a : Bool) → a ≡ has_values l 2 3 → a ≡ false → (z : Progress) → z ≡ failed_of q 1 → z ≡ read_count l q
+  pub read-count-2 : (a : Bool) → a ≡ has_values l 2 3 → a ≡ false → (z : Progress) → z ≡ failed_of q BadLine → z ≡ read_count l q
   unfolding read_count
   read-count-2 a p0 h0 z p1 = rw (← p0, ← p1) (search tests)
 
 pub ruleset read-count-ways = (read-count-1, read-count-2)
 
--- `lend_statements`
-module _ (q : Progress) (n : ℕ) where
-  pub lend-statements-1 : 27648 < n → (z : Progress) → z ≡ failed_of q 1 → z ≡ lend_statements q n
-  unfolding lend_statements
-  lend-statements-1 h0 z p0 = rw (← p0) (search tests)
+-- `lend_part`
+module _ (q : Progress) (n most : ℕ) (a : Lent) where
+  pub lend-part-1 : most < n → (z : Progress) → z ≡ failed_of q BadLine → z ≡ lend_part q n most a
+  unfolding lend_part
+  lend-part-1 h0 z p0 = rw (← p0) (search tests)
 
-  pub lend-statements-2 : n ≤ 27648 → (z : Progress) → z ≡ lent_of q (record { statements = n; labels = q.lent.labels; names = q.lent.names; bytes = q.lent.bytes; stack = q.lent.stack; memory = q.lent.memory }) → z ≡ lend_statements q n
-  unfolding lend_statements
-  lend-statements-2 h0 z p0 = rw (← p0) (search tests)
+  pub lend-part-2 : n ≤ most → (z : Progress) → z ≡ lent_of q a → z ≡ lend_part q n most a
+  unfolding lend_part
+  lend-part-2 h0 z p0 = rw (← p0) (search tests)
 
-pub ruleset lend-statements-ways = (lend-statements-1, lend-statements-2)
-
--- `lend_labels`
-module _ (q : Progress) (n : ℕ) where
-  pub lend-labels-1 : 1024 < n → (z : Progress) → z ≡ failed_of q 1 → z ≡ lend_labels q n
-  unfolding lend_labels
-  lend-labels-1 h0 z p0 = rw (← p0) (search tests)
-
-  pub lend-labels-2 : n ≤ 1024 → (z : Progress) → z ≡ lent_of q (record { statements = q.lent.statements; labels = n; names = q.lent.names; bytes = q.lent.bytes; stack = q.lent.stack; memory = q.lent.memory }) → z ≡ lend_labels q n
-  unfolding lend_labels
-  lend-labels-2 h0 z p0 = rw (← p0) (search tests)
-
-pub ruleset lend-labels-ways = (lend-labels-1, lend-labels-2)
-
--- `lend_names`
-module _ (q : Progress) (n : ℕ) where
-  pub lend-names-1 : 16384 < n → (z : Progress) → z ≡ failed_of q 1 → z ≡ lend_names q n
-  unfolding lend_names
-  lend-names-1 h0 z p0 = rw (← p0) (search tests)
-
-  pub lend-names-2 : n ≤ 16384 → (z : Progress) → z ≡ lent_of q (record { statements = q.lent.statements; labels = q.lent.labels; names = n; bytes = q.lent.bytes; stack = q.lent.stack; memory = q.lent.memory }) → z ≡ lend_names q n
-  unfolding lend_names
-  lend-names-2 h0 z p0 = rw (← p0) (search tests)
-
-pub ruleset lend-names-ways = (lend-names-1, lend-names-2)
-
--- `lend_bytes`
-module _ (q : Progress) (n : ℕ) where
-  pub lend-bytes-1 : 32768 < n → (z : Progress) → z ≡ failed_of q 1 → z ≡ lend_bytes q n
-  unfolding lend_bytes
-  lend-bytes-1 h0 z p0 = rw (← p0) (search tests)
-
-  pub lend-bytes-2 : n ≤ 32768 → (z : Progress) → z ≡ lent_of q (record { statements = q.lent.statements; labels = q.lent.labels; names = q.lent.names; bytes = n; stack = q.lent.stack; memory = q.lent.memory }) → z ≡ lend_bytes q n
-  unfolding lend_bytes
-  lend-bytes-2 h0 z p0 = rw (← p0) (search tests)
-
-pub ruleset lend-bytes-ways = (lend-bytes-1, lend-bytes-2)
+pub ruleset lend-part-ways = (lend-part-1, lend-part-2)
 
 -- `read_lend`
 module _ (l : List ℕ) (q : Progress) where
-  pub read-lend-1 : (i : ℕ) → i ≡ count_fields l → (i ≡ 3 → ⊥) → (z : Progress) → z ≡ failed_of q 1 → z ≡ read_lend l q
+  pub read-lend-1 : (i : ℕ) → i ≡ count_fields l → (i ≡ 3 → ⊥) → (z : Progress) → z ≡ failed_of q BadLine → z ≡ read_lend l q
   unfolding read_lend
   read-lend-1 i p0 h0 z p1 = rw (← p0, ← p1) (search tests)
 
-  pub read-lend-2 : (i : ℕ) → i ≡ count_fields l → i ≡ 3 → (n : ℕ) → n ≡ field_value l 2 → (a : Bool) → a ≡ has_word l 1 statements-word → a ≡ true → (z : Progress) → z ≡ lend_statements q n → z ≡ read_lend l q
-  unfolding read_lend
+  pub read-lend-2 : (i : ℕ) → i ≡ count_fields l → i ≡ 3 → (n : ℕ) → n ≡ field_value l 2 → (a : Bool) → a ≡ has_word l 1 statements-word → a ≡ true → (z : Progress) → z ≡ lend_part q n 27648 (record { statements = n; labels = q.lent.labels; names = q.lent.names; bytes = q.lent.bytes; stack = q.lent.stack; memory = q.lent.memory }) → z ≡ read_lend l q
+  unfolding read_lend lend_statements
   read-lend-2 i p0 h0 n p1 a p2 h1 z p3 = rw (← p0, ← p1, ← p2, ← p3) (search tests)
 
-  pub read-lend-3 : (i : ℕ) → i ≡ count_fields l → i ≡ 3 → (n : ℕ) → n ≡ field_value l 2 → (a : Bool) → a ≡ has_word l 1 statements-word → a ≡ false → (b : Bool) → b ≡ has_word l 1 labels-word → b ≡ true → (z : Progress) → z ≡ lend_labels q n → z ≡ read_lend l q
-  unfolding read_lend
+  pub read-lend-3 : (i : ℕ) → i ≡ count_fields l → i ≡ 3 → (n : ℕ) → n ≡ field_value l 2 → (a : Bool) → a ≡ has_word l 1 statements-word → a ≡ false → (b : Bool) → b ≡ has_word l 1 labels-word → b ≡ true → (z : Progress) → z ≡ lend_part q n 1024 (record { statements = q.lent.statements; labels = n; names = q.lent.names; bytes = q.lent.bytes; stack = q.lent.stack; memory = q.lent.memory }) → z ≡ read_lend l q
+  unfolding read_lend lend_labels
   read-lend-3 i p0 h0 n p1 a p2 h1 b p3 h2 z p4 = rw (← p0, ← p1, ← p2, ← p3, ← p4) (search tests)
 
-  pub read-lend-4 : (i : ℕ) → i ≡ count_fields l → i ≡ 3 → (n : ℕ) → n ≡ field_value l 2 → (a : Bool) → a ≡ has_word l 1 statements-word → a ≡ false → (b : Bool) → b ≡ has_word l 1 labels-word → b ≡ false → (c : Bool) → c ≡ has_word l 1 names-word → c ≡ true → (z : Progress) → z ≡ lend_names q n → z ≡ read_lend l q
-  unfolding read_lend
+  pub read-lend-4 : (i : ℕ) → i ≡ count_fields l → i ≡ 3 → (n : ℕ) → n ≡ field_value l 2 → (a : Bool) → a ≡ has_word l 1 statements-word → a ≡ false → (b : Bool) → b ≡ has_word l 1 labels-word → b ≡ false → (c : Bool) → c ≡ has_word l 1 names-word → c ≡ true → (z : Progress) → z ≡ lend_part q n 16384 (record { statements = q.lent.statements; labels = q.lent.labels; names = n; bytes = q.lent.bytes; stack = q.lent.stack; memory = q.lent.memory }) → z ≡ read_lend l q
+  unfolding read_lend lend_names
   read-lend-4 i p0 h0 n p1 a p2 h1 b p3 h2 c p4 h3 z p5 = rw (← p0, ← p1, ← p2, ← p3, ← p4, ← p5) (search tests)
 
-  pub read-lend-5 : (i : ℕ) → i ≡ count_fields l → i ≡ 3 → (n : ℕ) → n ≡ field_value l 2 → (a : Bool) → a ≡ has_word l 1 statements-word → a ≡ false → (b : Bool) → b ≡ has_word l 1 labels-word → b ≡ false → (c : Bool) → c ≡ has_word l 1 names-word → c ≡ false → (d : Bool) → d ≡ has_word l 1 data-word → d ≡ true → (z : Progress) → z ≡ lend_bytes q n → z ≡ read_lend l q
-  unfolding read_lend
+  pub read-lend-5 : (i : ℕ) → i ≡ count_fields l → i ≡ 3 → (n : ℕ) → n ≡ field_value l 2 → (a : Bool) → a ≡ has_word l 1 statements-word → a ≡ false → (b : Bool) → b ≡ has_word l 1 labels-word → b ≡ false → (c : Bool) → c ≡ has_word l 1 names-word → c ≡ false → (d : Bool) → d ≡ has_word l 1 data-word → d ≡ true → (z : Progress) → z ≡ lend_part q n 32768 (record { statements = q.lent.statements; labels = q.lent.labels; names = q.lent.names; bytes = n; stack = q.lent.stack; memory = q.lent.memory }) → z ≡ read_lend l q
+  unfolding read_lend lend_bytes
   read-lend-5 i p0 h0 n p1 a p2 h1 b p3 h2 c p4 h3 d p5 h4 z p6 = rw (← p0, ← p1, ← p2, ← p3, ← p4, ← p5, ← p6) (search tests)
 
-  pub read-lend-6 : (i : ℕ) → i ≡ count_fields l → i ≡ 3 → (n : ℕ) → n ≡ field_value l 2 → (a : Bool) → a ≡ has_word l 1 statements-word → a ≡ false → (b : Bool) → b ≡ has_word l 1 labels-word → b ≡ false → (c : Bool) → c ≡ has_word l 1 names-word → c ≡ false → (d : Bool) → d ≡ has_word l 1 data-word → d ≡ false → (z : Progress) → z ≡ failed_of q 1 → z ≡ read_lend l q
+  pub read-lend-6 : (i : ℕ) → i ≡ count_fields l → i ≡ 3 → (n : ℕ) → n ≡ field_value l 2 → (a : Bool) → a ≡ has_word l 1 statements-word → a ≡ false → (b : Bool) → b ≡ has_word l 1 labels-word → b ≡ false → (c : Bool) → c ≡ has_word l 1 names-word → c ≡ false → (d : Bool) → d ≡ has_word l 1 data-word → d ≡ false → (z : Progress) → z ≡ failed_of q BadLine → z ≡ read_lend l q
   unfolding read_lend
   read-lend-6 i p0 h0 n p1 a p2 h1 b p3 h2 c p4 h3 d p5 h4 z p6 = rw (← p0, ← p1, ← p2, ← p3, ← p4, ← p5, ← p6) (search tests)
 
@@ -510,7 +476,7 @@ module _ (l : List ℕ) (q : Progress) (t : List ℕ) (b : List ℕ) (k : List �
   unfolding read_change
   read-change-4 a p0 h0 c p1 h1 d p2 h2 e p3 h3 z p4 = rw (← p0, ← p1, ← p2, ← p3, ← p4) (search tests)
 
-  pub read-change-5 : (a : Bool) → a ≡ starts_with l bytes_word → a ≡ false → (c : Bool) → c ≡ starts_with l poke-word → c ≡ false → (d : Bool) → d ≡ starts_with l count_word → d ≡ false → (e : Bool) → e ≡ starts_with l lend-word → e ≡ false → (z : Progress) → z ≡ failed_of q 1 → changed z t b k m ≡ read_change l q t b k m
+  pub read-change-5 : (a : Bool) → a ≡ starts_with l bytes_word → a ≡ false → (c : Bool) → c ≡ starts_with l poke-word → c ≡ false → (d : Bool) → d ≡ starts_with l count_word → d ≡ false → (e : Bool) → e ≡ starts_with l lend-word → e ≡ false → (z : Progress) → z ≡ failed_of q BadLine → changed z t b k m ≡ read_change l q t b k m
   unfolding read_change
   read-change-5 a p0 h0 c p1 h1 d p2 h2 e p3 h3 z p4 = rw (← p0, ← p1, ← p2, ← p3, ← p4) (search tests)
 

@@ -8,6 +8,8 @@ use Rattle.test_text.specs.Fields.{count_fields, has_word}
 use Rattle.test_text.specs.Numbers.{field_value, has_values}
 use Rattle.test_text.specs.Records.{is_record_poke, poke_record}
 use Rattle.test_text.specs.Buffers.{bytes_stored}
+use Rattle.test_state.specs.declared.Lent.{Lent}
+use Rattle.test_state.specs.declared.Fault.TheVariants.{BadLine}
 use Rattle.test_state.specs.declared.Progress.{Progress}
 use Rattle.test_state.specs.Progress.{On, on, failed_of, counted_of, lent_of, machine_of}
 
@@ -69,8 +71,8 @@ read_bytes l q m =
     if_lt (field_value l 1) 65537
     (if_true (bytes_stored l (field_value l 1) q.lent.memory m).done
     (on q (bytes_stored l (field_value l 1) q.lent.memory m).memory)
-    (on (failed_of q 1) (bytes_stored l (field_value l 1) q.lent.memory m).memory))
-    (on (failed_of q 1) m)
+    (on (failed_of q BadLine) (bytes_stored l (field_value l 1) q.lent.memory m).memory))
+    (on (failed_of q BadLine) m)
 
 -- `poke statement ROW WORD VALUE`
 unfoldable pub poke_statement : List ℕ → Progress → List ℕ → On
@@ -78,9 +80,9 @@ poke_statement l q t =
     if_lt (field_value l 2) 1024
     (if_lt (field_value l 3) 27
     (if_true (has_values l 4 5) (on q (set t (field_value l 2 * 27 + field_value l 3) (field_value l 4 % no_number)))
-    (on (failed_of q 1) t))
-    (on (failed_of q 1) t))
-    (on (failed_of q 1) t)
+    (on (failed_of q BadLine) t))
+    (on (failed_of q BadLine) t))
+    (on (failed_of q BadLine) t)
 
 -- `poke label ROW WORD VALUE`
 unfoldable pub poke_label : List ℕ → Progress → List ℕ → On
@@ -88,9 +90,9 @@ poke_label l q t =
     if_lt (field_value l 2) 256
     (if_lt (field_value l 3) 4
     (if_true (has_values l 4 5) (on q (set t (field_value l 2 * 4 + field_value l 3 + 27648) (field_value l 4 % no_number)))
-    (on (failed_of q 1) t))
-    (on (failed_of q 1) t))
-    (on (failed_of q 1) t)
+    (on (failed_of q BadLine) t))
+    (on (failed_of q BadLine) t))
+    (on (failed_of q BadLine) t)
 
 -- `poke name ROW BYTE VALUE`
 unfoldable pub poke_name : List ℕ → Progress → List ℕ → On
@@ -98,25 +100,25 @@ poke_name l q b =
     if_lt (field_value l 2) 256
     (if_lt (field_value l 3) 64
     (if_eq (count_fields l) 5
-    (if_lt 255 (field_value l 4) (on (failed_of q 1) b)
+    (if_lt 255 (field_value l 4) (on (failed_of q BadLine) b)
     (on q (set b (field_value l 2 * 64 + field_value l 3) (field_value l 4))))
-    (on (failed_of q 1) b))
-    (on (failed_of q 1) b))
-    (on (failed_of q 1) b)
+    (on (failed_of q BadLine) b))
+    (on (failed_of q BadLine) b))
+    (on (failed_of q BadLine) b)
 
 -- `poke stack INDEX VALUE`
 unfoldable pub poke_stack : List ℕ → Progress → List ℕ → On
 poke_stack l q k =
     if_lt (field_value l 2) 16385
     (if_true (has_values l 2 4) (on q (set k (field_value l 2) (field_value l 3 % no_number)))
-    (on (failed_of q 1) k))
-    (on (failed_of q 1) k)
+    (on (failed_of q BadLine) k))
+    (on (failed_of q BadLine) k)
 
 -- `poke record FIELD VALUE`
 unfoldable pub poke_machine : List ℕ → Progress → Progress
 poke_machine l q =
     if_true (is_record_poke l) (machine_of q (poke_record l q.machine))
-    (failed_of q 1)
+    (failed_of q BadLine)
 
 -- a progress, and the buffers that a poke changes
 abbrev pub Poked : Type 0
@@ -134,7 +136,7 @@ read_poke l q t b k =
     (if_true (starts_with l poke-name-word) (poked (poke_name l q b).progress t (poke_name l q b).buffer k)
     (if_true (starts_with l poke-stack-word) (poked (poke_stack l q k).progress t b (poke_stack l q k).buffer)
     (if_true (starts_with l poke-record-word) (poked (poke_machine l q) t b k)
-    (poked (failed_of q 1) t b k)))))
+    (poked (failed_of q BadLine) t b k)))))
 
 -- the count that a line names
 unfoldable pub count_part : List ℕ → Progress → ℕ → Progress
@@ -142,33 +144,37 @@ count_part l q n =
     if_true (has_word l 1 statements-word) (counted_of q n q.counts.labels q.counts.bytes)
     (if_true (has_word l 1 labels-word) (counted_of q q.counts.statements n q.counts.bytes)
     (if_true (has_word l 1 data-word) (counted_of q q.counts.statements q.counts.labels n)
-    (failed_of q 1)))
+    (failed_of q BadLine)))
 
 -- `count statements N`, `count labels N`, `count data N`
 unfoldable pub read_count : List ℕ → Progress → Progress
 read_count l q =
     if_true (has_values l 2 3) (count_part l q (field_value l 2 % no_number))
-    (failed_of q 1)
+    (failed_of q BadLine)
+
+-- a part of n lent, at most so many
+unfoldable pub lend_part : Progress → ℕ → ℕ → Lent → Progress
+lend_part q n most a = if_lt most n (failed_of q BadLine) (lent_of q a)
 
 unfoldable pub lend_statements : Progress → ℕ → Progress
 lend_statements q n =
-    if_lt 27648 n (failed_of q 1)
-    (lent_of q (record { statements = n; labels = q.lent.labels; names = q.lent.names; bytes = q.lent.bytes; stack = q.lent.stack; memory = q.lent.memory }))
+    lend_part q n 27648
+    (record { statements = n; labels = q.lent.labels; names = q.lent.names; bytes = q.lent.bytes; stack = q.lent.stack; memory = q.lent.memory })
 
 unfoldable pub lend_labels : Progress → ℕ → Progress
 lend_labels q n =
-    if_lt 1024 n (failed_of q 1)
-    (lent_of q (record { statements = q.lent.statements; labels = n; names = q.lent.names; bytes = q.lent.bytes; stack = q.lent.stack; memory = q.lent.memory }))
+    lend_part q n 1024
+    (record { statements = q.lent.statements; labels = n; names = q.lent.names; bytes = q.lent.bytes; stack = q.lent.stack; memory = q.lent.memory })
 
 unfoldable pub lend_names : Progress → ℕ → Progress
 lend_names q n =
-    if_lt 16384 n (failed_of q 1)
-    (lent_of q (record { statements = q.lent.statements; labels = q.lent.labels; names = n; bytes = q.lent.bytes; stack = q.lent.stack; memory = q.lent.memory }))
+    lend_part q n 16384
+    (record { statements = q.lent.statements; labels = q.lent.labels; names = n; bytes = q.lent.bytes; stack = q.lent.stack; memory = q.lent.memory })
 
 unfoldable pub lend_bytes : Progress → ℕ → Progress
 lend_bytes q n =
-    if_lt 32768 n (failed_of q 1)
-    (lent_of q (record { statements = q.lent.statements; labels = q.lent.labels; names = q.lent.names; bytes = n; stack = q.lent.stack; memory = q.lent.memory }))
+    lend_part q n 32768
+    (record { statements = q.lent.statements; labels = q.lent.labels; names = q.lent.names; bytes = n; stack = q.lent.stack; memory = q.lent.memory })
 
 -- `lend statements N`, `lend labels N`, `lend names N`, `lend data N`
 unfoldable pub read_lend : List ℕ → Progress → Progress
@@ -178,8 +184,8 @@ read_lend l q =
     (if_true (has_word l 1 labels-word) (lend_labels q (field_value l 2))
     (if_true (has_word l 1 names-word) (lend_names q (field_value l 2))
     (if_true (has_word l 1 data-word) (lend_bytes q (field_value l 2))
-    (failed_of q 1)))))
-    (failed_of q 1)
+    (failed_of q BadLine)))))
+    (failed_of q BadLine)
 
 -- a progress, and the buffers that a change between calls may change
 abbrev pub Changed : Type 0
@@ -199,4 +205,4 @@ read_change l q t b k m =
     (if_true (starts_with l poke-word) (poked_by (read_poke l q t b k) m)
     (if_true (starts_with l count_word) (changed (read_count l q) t b k m)
     (if_true (starts_with l lend-word) (changed (read_lend l q) t b k m)
-    (changed (failed_of q 1) t b k m))))
+    (changed (failed_of q BadLine) t b k m))))

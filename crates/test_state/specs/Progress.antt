@@ -1,10 +1,11 @@
 -- The state of a case, and one part of it set.
 -- Assumes nothing.
-use Rattle.std.specs.Prelude.{ℕ, Bool, true, false, List}
+use Rattle.std.specs.Prelude.{ℕ, Bool, true, false, List, None, Some}
 use Rattle.base_limits.specs.declared.Machine.{Machine}
 use Rattle.base_limits.specs.Record.{fresh_of}
 use Rattle.test_lines.specs.Lines.{one_more}
 use Rattle.test_lines.specs.Sources.{Source}
+use Rattle.test_state.specs.declared.Fault.{Fault}
 use Rattle.test_state.specs.declared.Lent.{Lent}
 use Rattle.test_state.specs.declared.Progress.{Progress}
 
@@ -33,7 +34,7 @@ first_of =
       is_wrong = false;
       given = 0;
       told = 0;
-      fault = 0;
+      fault = None;
       shown = 0;
       lent = all_lent;
       counts = record { statements = 0; labels = 0; bytes = 0 };
@@ -54,14 +55,14 @@ opened_of q name =
       is_wrong = false;
       given = 0;
       told = 0;
-      fault = 0;
+      fault = None;
       shown = 0;
       lent = all_lent;
       counts = record { statements = 0; labels = 0; bytes = 0 };
       machine = fresh_of 0 0 0;
     }
 
-unfoldable pub failed_of : Progress → ℕ → Progress
+unfoldable pub failed_of : Progress → Fault → Progress
 failed_of q fault =
     record {
       line = q.line;
@@ -74,7 +75,7 @@ failed_of q fault =
       is_wrong = q.is_wrong;
       given = q.given;
       told = q.told;
-      fault = fault;
+      fault = Some fault;
       shown = q.shown;
       lent = q.lent;
       counts = q.counts;

@@ -4,6 +4,7 @@ use Rattle.std.specs.Prelude.{ℕ, true, false, List, [], ◌∷◌}
 use Rattle.base_prelude.specs.Choice.{if_lt, if_true}
 use Rattle.test_lines.specs.Lines.{starts_with}
 use Rattle.test_lines.specs.Sources.{Source, source, add_text, add_line, add_source}
+use Rattle.test_state.specs.declared.Fault.TheVariants.{BadLine}
 use Rattle.test_state.specs.declared.Progress.{Progress}
 use Rattle.test_state.specs.Progress.{On, on, failed_of, sized_of, bodied_of}
 
@@ -22,9 +23,9 @@ body_end = 101 ∷ 110 ∷ 100 ∷ 32 ∷ 102 ∷ 117 ∷ 110 ∷ 99 ∷ 116 ∷
 -- a source of a new size; it stands before the first call
 unfoldable pub with_size : Progress → ℕ → Progress
 with_size q size =
-    if_true q.is_checked (failed_of q 1)
+    if_true q.is_checked (failed_of q BadLine)
     (if_lt size 16401 (sized_of q size)
-    (failed_of q 1))
+    (failed_of q BadLine))
 
 -- a progress beside a source, which is its new source
 abbrev pub sourced : Progress → Source → On
@@ -53,6 +54,6 @@ read_body l q text = body_by l (open_body q text)
 -- a line of the source
 unfoldable pub read_source : List ℕ → Progress → List ℕ → On
 read_source l q text =
-    if_true q.is_checked (on (failed_of q 1) text)
+    if_true q.is_checked (on (failed_of q BadLine) text)
     (if_true (starts_with l body-word) (read_body l q text)
     (sourced q (add_source l (source q.size text))))

@@ -11,6 +11,7 @@ use Rattle.test_text.specs.Numbers.{field_value}
 use Rattle.test_text.specs.Answers.{add_all, plain_bytes, record_bytes, words_bytes, holds_bytes}
 use Rattle.test_text.specs.Buffers.{lesser_of, changed_in}
 use Rattle.test_state.specs.declared.Lent.{Lent}
+use Rattle.test_state.specs.declared.Fault.TheVariants.{BadLine, Differs}
 use Rattle.test_state.specs.declared.Progress.{Progress}
 use Rattle.test_state.specs.Progress.{On, on, failed_of, shown_of, unanswered_of, lent_of}
 
@@ -59,23 +60,23 @@ memory_lent q n =
 unfoldable pub read_memory : List ℕ → Progress → List ℕ → On
 read_memory l q m =
     if_eq (count_fields l) 2
-    (if_lt 65537 (field_value l 1) (on (failed_of q 1) m)
+    (if_lt 65537 (field_value l 1) (on (failed_of q BadLine) m)
     (on (memory_lent q (field_value l 1)) (store_from m (field_value l 1) (replicate (65537 - field_value l 1) 0))))
-    (on (failed_of q 1) m)
+    (on (failed_of q BadLine) m)
 
 -- `stack N`
 unfoldable pub read_stack : List ℕ → Progress → List ℕ → On
 read_stack l q k =
     if_eq (count_fields l) 2
-    (if_lt 16385 (field_value l 1) (on (failed_of q 1) k)
+    (if_lt 16385 (field_value l 1) (on (failed_of q BadLine) k)
     (on (stack_lent q (field_value l 1)) (store_from k (field_value l 1) (replicate (16385 - field_value l 1) 0))))
-    (on (failed_of q 1) k)
+    (on (failed_of q BadLine) k)
 
 -- what is wanted beside what is given
 unfoldable pub compare_texts : List ℕ → ℕ → Progress → List ℕ → ℕ → Progress
 compare_texts want n q got size =
     if_true (same_list (take n want) (take size got)) q
-    (failed_of (shown_of q size) 3)
+    (failed_of (shown_of q size) Differs)
 
 -- a text before its first byte
 unfoldable pub blank : List ℕ
@@ -83,7 +84,7 @@ blank = zeros 16401
 
 -- the text of a line beside what is given; one that fills the room is no line
 abbrev pub compare_by : Source → Progress → List ℕ → ℕ → Progress
-compare_by s q got size = if_lt s.size 16401 (compare_texts s.text s.size q got size) (failed_of q 1)
+compare_by s q got size = if_lt s.size 16401 (compare_texts s.text s.size q got size) (failed_of q BadLine)
 
 -- a line beside what is given
 unfoldable pub compare_line : List ℕ → Progress → List ℕ → ℕ → Progress
@@ -97,7 +98,7 @@ compared l q s = on (compare_line l q s.text s.size) s.text
 unfoldable pub read_accepted : List ℕ → Progress → List ℕ → On
 read_accepted l q got =
     if_true (starts_with l rejected-word) (compared l q (add_all accepted-word (source 0 got)))
-    (on (failed_of q 1) got)
+    (on (failed_of q BadLine) got)
 
 -- the answer of the last call
 unfoldable pub read_answer : List ℕ → Progress → List ℕ → On
@@ -110,14 +111,14 @@ unfoldable pub view_words : List ℕ → Progress → List ℕ → List ℕ → 
 view_words l q got k =
     if_lt (field_value l 1) 16385
     (compared l q (add_all (words_bytes l (field_value l 1) (take (lesser_of q.lent.stack 16385) k)) (source 0 got)))
-    (on (failed_of q 1) got)
+    (on (failed_of q BadLine) got)
 
 -- `holds ADDRESS B ..`
 unfoldable pub view_bytes : List ℕ → Progress → List ℕ → List ℕ → On
 view_bytes l q got m =
     if_lt (field_value l 1) 65537
     (compared l q (add_all (holds_bytes l (field_value l 1) (take (lesser_of q.lent.memory 65537) m)) (source 0 got)))
-    (on (failed_of q 1) got)
+    (on (failed_of q BadLine) got)
 
 -- what the last call changed first: a word, a byte, or nothing
 unfoldable pub add_change : Lent → List ℕ → List ℕ → List ℕ → Source

@@ -6,40 +6,21 @@ ghost use Rattle.test_lines.specs.Sources.{source};
 ghost use Rattle.test_state.specs.Progress.{on, all_lent, first_of, opened_of, failed_of, sized_of, bodied_of, checked_of, shown_of, answered_of, unanswered_of, counted_of, lent_of, machine_of};
 ghost use Rattle.test_state.specs.Source.{with_size, open_body, close_body, read_body, read_source};
 ghost use Rattle.test_state.specs.Views.{stack_lent, memory_lent, read_memory, read_stack, compare_texts, compare_line, read_accepted, read_answer, view_words, view_bytes, add_change, read_view};
-ghost use Rattle.test_state.specs.Changes.{read_bytes, poke_statement, poke_label, poke_name, poke_stack, poke_machine, poked, read_poke, count_part, read_count, lend_statements, lend_labels, lend_names, lend_bytes, read_lend, changed, read_change};
+ghost use Rattle.test_state.specs.Changes.{read_bytes, poke_statement, poke_label, poke_name, poke_stack, poke_machine, poked, read_poke, count_part, read_count, lend_part, read_lend, changed, read_change};
 
 use base_limits::Machine;
 use test_lines::{Case, add_line, add_source, add_text, front, narrow, one_more, starts_with};
 use test_text::{
-    Room, add_all, at_most, changed_byte, changed_word, clear_memory, clear_stack, count_fields,
-    front_words, has_values, has_word, put_bytes, value,
+    Bytes, Memory, Room, Rows, Stack, Text, add_all, at_most, changed_byte, changed_word,
+    clear_memory, clear_stack, count_fields, has_values, has_word, put_bytes, value,
 };
 
-// A source, or an answer.
-type Text = [u8; Case::SOURCE];
-
-// Statements, behind them labels.
-type Rows = [u32; Room::ROWS];
-
-// Names, behind them data.
-type Bytes = [u8; Room::BYTES];
-
-// The stack lent, behind it the stack before the last call.
-type Stack = [u32; Room::TWO_STACKS];
-
-// The memory lent, behind it the memory before the last call.
-type Memory = [u8; Room::TWO_MEMORIES];
-
 // What a line may come to, but good.
-#[derive(Drop)]
-pub struct Fault {}
-
-impl Fault {
-    pub const BAD_LINE: u32 = 1;
-
-    pub const NO_ANSWER: u32 = 2;
-
-    pub const DIFFERS: u32 = 3;
+#[derive(Clone, Copy)]
+pub enum Fault {
+    BadLine,
+    NoAnswer,
+    Differs,
 }
 
 // Words and bytes lent of each buffer.
@@ -78,18 +59,18 @@ pub struct Progress {
     // bytes of the answer that waits for its line, and of the answer that the line gave, 0 for none
     pub given: usize,
     pub told: usize,
-    // what the line came to, and bytes of what was given where it differs
-    pub fault: u32,
+    // what the line came to, but good, and bytes of what was given where it differs
+    pub fault: Option<Fault>,
     pub shown: usize,
     pub lent: Lent,
     pub counts: Counts,
     pub machine: Machine,
 }
 
-pub fn failed(mut q: Progress, fault: u32) -> Progress
+pub fn failed(mut q: Progress, fault: Fault) -> Progress
     ensures { result ≡ failed_of q fault }
 {
-    q.fault = fault;
+    q.fault = Some(fault);
     q
 }
 
@@ -141,12 +122,11 @@ pub fn without_answer(mut q: Progress) -> Progress
 pub fn with_counts(mut q: Progress, statements: u32, labels: u32, bytes: u32) -> Progress
     ensures { result ≡ counted_of q statements labels bytes }
 {
-    let c = Counts {
-        statements: statements,
-        labels: labels,
-        bytes: bytes,
+    q.counts = Counts {
+        statements,
+        labels,
+        bytes,
     };
-    q.counts = c;
     q
 }
 
@@ -169,10 +149,10 @@ fn with_size(q: Progress, size: usize) -> Progress
     ensures { result ≡ with_size q size }
 {
     if q.is_checked {
-        return failed(q, Fault::BAD_LINE);
+        return failed(q, Fault::BadLine);
     }
     if Case::SOURCE <= size {
-        return failed(q, Fault::BAD_LINE);
+        return failed(q, Fault::BadLine);
     }
     set_size(q, size)
 }
@@ -215,7 +195,7 @@ pub fn read_source(l: &[u8], q: Progress, text: &mut Text) -> Progress
     ensures { on result text.new ≡ read_source l.now q text.old }
 {
     if q.is_checked {
-        return failed(q, Fault::BAD_LINE);
+        return failed(q, Fault::BadLine);
     }
     if starts_with(l, b"body ") {
         return read_body(l, q, text);
@@ -227,17 +207,19 @@ pub fn read_source(l: &[u8], q: Progress, text: &mut Text) -> Progress
 fn with_stack(q: Progress, n: usize) -> Progress
     ensures { result ≡ stack_lent q n }
 {
-    let mut a = q.lent;
-    a.stack = n;
-    with_lent(q, a)
+    with_lent(q, Lent { stack: n, ..q.lent })
 }
 
 fn with_memory(q: Progress, n: usize) -> Progress
     ensures { result ≡ memory_lent q n }
 {
-    let mut a = q.lent;
-    a.memory = n;
-    with_lent(q, a)
+    with_lent(
+        q,
+        Lent {
+            memory: n,
+            ..q.lent
+        },
+    )
 }
 
 // `memory N`: what was lent before keeps its bytes.
@@ -245,11 +227,11 @@ pub fn read_memory(l: &[u8], q: Progress, m: &mut Memory) -> Progress
     ensures { on result m.new ≡ read_memory l.now q m.old }
 {
     if count_fields(l) != 2 {
-        return failed(q, Fault::BAD_LINE);
+        return failed(q, Fault::BadLine);
     }
     let n = value(l, 1);
     if 65537 < n {
-        return failed(q, Fault::BAD_LINE);
+        return failed(q, Fault::BadLine);
     }
     clear_memory(m, n as usize);
     with_memory(q, n as usize)
@@ -260,11 +242,11 @@ pub fn read_stack(l: &[u8], q: Progress, k: &mut Stack) -> Progress
     ensures { on result k.new ≡ read_stack l.now q k.old }
 {
     if count_fields(l) != 2 {
-        return failed(q, Fault::BAD_LINE);
+        return failed(q, Fault::BadLine);
     }
     let n = value(l, 1);
     if 16385 < n {
-        return failed(q, Fault::BAD_LINE);
+        return failed(q, Fault::BadLine);
     }
     clear_stack(k, n as usize);
     with_stack(q, n as usize)
@@ -277,7 +259,7 @@ fn compare_texts(want: &Text, n: usize, q: Progress, got: &Text, size: usize) ->
     if base_prelude::same(front(want, n), front(got, size)) {
         return q;
     }
-    failed(set_shown(q, size), Fault::DIFFERS)
+    failed(set_shown(q, size), Fault::Differs)
 }
 
 // Compares a line with what is given.
@@ -287,7 +269,7 @@ fn compare(l: &[u8], q: Progress, got: &Text, size: usize) -> Progress
     let mut want = [0u8; Case::SOURCE];
     let n = test_text::plain_line(l, &mut want);
     if Case::SOURCE <= n {
-        return failed(q, Fault::BAD_LINE);
+        return failed(q, Fault::BadLine);
     }
     compare_texts(&want, n, q, got, size)
 }
@@ -300,7 +282,7 @@ fn read_accepted(l: &[u8], q: Progress, got: &mut Text) -> Progress
         let size = add_all(b"accepted", got, 0);
         return compare(l, q, got, size);
     }
-    failed(q, Fault::BAD_LINE)
+    failed(q, Fault::BadLine)
 }
 
 // The answer of the last call.
@@ -320,11 +302,11 @@ fn view_words(l: &[u8], q: Progress, got: &mut Text, k: &Stack) -> Progress
 {
     let at = value(l, 1);
     if 16385 <= at {
-        return failed(q, Fault::BAD_LINE);
+        return failed(q, Fault::BadLine);
     }
     let a = q.lent;
     let n = at_most(a.stack, Room::STACK);
-    let size = test_text::add_words(l, at as usize, front_words(k, n), got);
+    let size = test_text::add_words(l, at as usize, front(k, n), got);
     compare(l, q, got, size)
 }
 
@@ -334,7 +316,7 @@ fn view_bytes(l: &[u8], q: Progress, got: &mut Text, m: &Memory) -> Progress
 {
     let at = value(l, 1);
     if 65537 <= at {
-        return failed(q, Fault::BAD_LINE);
+        return failed(q, Fault::BadLine);
     }
     let a = q.lent;
     let n = at_most(a.memory, Room::MEMORY);
@@ -349,7 +331,7 @@ fn add_change(a: Lent, got: &mut Text, k: &Stack, m: &Memory) -> usize
     let n = at_most(a.stack, Room::STACK);
     let i = changed_word(k, n);
     if i < n {
-        return test_text::add_words(b"words 0 0", i, front_words(k, n), got);
+        return test_text::add_words(b"words 0 0", i, front(k, n), got);
     }
     let h = at_most(a.memory, Room::MEMORY);
     let j = changed_byte(m, h);
@@ -385,13 +367,13 @@ fn read_bytes(l: &[u8], q: Progress, m: &mut Memory) -> Progress
 {
     let at = value(l, 1);
     if 65537 <= at {
-        return failed(q, Fault::BAD_LINE);
+        return failed(q, Fault::BadLine);
     }
     let a = q.lent;
     if put_bytes(l, at as usize, a.memory, m) {
         return q;
     }
-    failed(q, Fault::BAD_LINE)
+    failed(q, Fault::BadLine)
 }
 
 // `poke statement ROW WORD VALUE`
@@ -400,17 +382,17 @@ fn poke_statement(l: &[u8], q: Progress, t: &mut Rows) -> Progress
 {
     let row = value(l, 2);
     if 1024 <= row {
-        return failed(q, Fault::BAD_LINE);
+        return failed(q, Fault::BadLine);
     }
     let word = value(l, 3);
     if 27 <= word {
-        return failed(q, Fault::BAD_LINE);
+        return failed(q, Fault::BadLine);
     }
     if has_values(l, 4, 5) {
         t[(row * 27 + word) as usize] = narrow(value(l, 4));
         return q;
     }
-    failed(q, Fault::BAD_LINE)
+    failed(q, Fault::BadLine)
 }
 
 // `poke label ROW WORD VALUE`
@@ -419,17 +401,17 @@ fn poke_label(l: &[u8], q: Progress, t: &mut Rows) -> Progress
 {
     let row = value(l, 2);
     if 256 <= row {
-        return failed(q, Fault::BAD_LINE);
+        return failed(q, Fault::BadLine);
     }
     let word = value(l, 3);
     if 4 <= word {
-        return failed(q, Fault::BAD_LINE);
+        return failed(q, Fault::BadLine);
     }
     if has_values(l, 4, 5) {
         t[(row * 4 + word + 27648) as usize] = narrow(value(l, 4));
         return q;
     }
-    failed(q, Fault::BAD_LINE)
+    failed(q, Fault::BadLine)
 }
 
 // `poke name ROW BYTE VALUE`
@@ -438,18 +420,18 @@ fn poke_name(l: &[u8], q: Progress, b: &mut Bytes) -> Progress
 {
     let row = value(l, 2);
     if 256 <= row {
-        return failed(q, Fault::BAD_LINE);
+        return failed(q, Fault::BadLine);
     }
     let place = value(l, 3);
     if 64 <= place {
-        return failed(q, Fault::BAD_LINE);
+        return failed(q, Fault::BadLine);
     }
     if count_fields(l) != 5 {
-        return failed(q, Fault::BAD_LINE);
+        return failed(q, Fault::BadLine);
     }
     let v = value(l, 4);
     if 255 < v {
-        return failed(q, Fault::BAD_LINE);
+        return failed(q, Fault::BadLine);
     }
     b[(row * 64 + place) as usize] = v as u8;
     q
@@ -461,13 +443,13 @@ fn poke_stack(l: &[u8], q: Progress, k: &mut Stack) -> Progress
 {
     let at = value(l, 2);
     if 16385 <= at {
-        return failed(q, Fault::BAD_LINE);
+        return failed(q, Fault::BadLine);
     }
     if has_values(l, 2, 4) {
         k[at as usize] = narrow(value(l, 3));
         return q;
     }
-    failed(q, Fault::BAD_LINE)
+    failed(q, Fault::BadLine)
 }
 
 // `poke record FIELD VALUE`
@@ -479,7 +461,7 @@ fn poke_record(l: &[u8], q: Progress) -> Progress
         let poked = test_text::poke_record(l, r);
         return with_machine(q, poked);
     }
-    failed(q, Fault::BAD_LINE)
+    failed(q, Fault::BadLine)
 }
 
 fn read_poke(l: &[u8], q: Progress, t: &mut Rows, b: &mut Bytes, k: &mut Stack) -> Progress
@@ -500,7 +482,7 @@ fn read_poke(l: &[u8], q: Progress, t: &mut Rows, b: &mut Bytes, k: &mut Stack) 
     if starts_with(l, b"poke record ") {
         return poke_record(l, q);
     }
-    failed(q, Fault::BAD_LINE)
+    failed(q, Fault::BadLine)
 }
 
 // The count that a line names.
@@ -517,7 +499,7 @@ fn count_part(l: &[u8], q: Progress, n: u32) -> Progress
     if has_word(l, 1, b"data ") {
         return with_counts(q, c.statements, c.labels, n);
     }
-    failed(q, Fault::BAD_LINE)
+    failed(q, Fault::BadLine)
 }
 
 // `count statements N`, `count labels N`, `count data N`
@@ -527,50 +509,16 @@ fn read_count(l: &[u8], q: Progress) -> Progress
     if has_values(l, 2, 3) {
         return count_part(l, q, narrow(value(l, 2)));
     }
-    failed(q, Fault::BAD_LINE)
+    failed(q, Fault::BadLine)
 }
 
-fn lend_statements(q: Progress, n: u64) -> Progress
-    ensures { result ≡ lend_statements q n }
+// What is lent, with a part of n in it, at most so many.
+fn lend_part(q: Progress, n: u64, most: u64, a: Lent) -> Progress
+    ensures { result ≡ lend_part q n most a }
 {
-    if 27648 < n {
-        return failed(q, Fault::BAD_LINE);
+    if most < n {
+        return failed(q, Fault::BadLine);
     }
-    let mut a = q.lent;
-    a.statements = n as usize;
-    with_lent(q, a)
-}
-
-fn lend_labels(q: Progress, n: u64) -> Progress
-    ensures { result ≡ lend_labels q n }
-{
-    if 1024 < n {
-        return failed(q, Fault::BAD_LINE);
-    }
-    let mut a = q.lent;
-    a.labels = n as usize;
-    with_lent(q, a)
-}
-
-fn lend_names(q: Progress, n: u64) -> Progress
-    ensures { result ≡ lend_names q n }
-{
-    if 16384 < n {
-        return failed(q, Fault::BAD_LINE);
-    }
-    let mut a = q.lent;
-    a.names = n as usize;
-    with_lent(q, a)
-}
-
-fn lend_bytes(q: Progress, n: u64) -> Progress
-    ensures { result ≡ lend_bytes q n }
-{
-    if 32768 < n {
-        return failed(q, Fault::BAD_LINE);
-    }
-    let mut a = q.lent;
-    a.bytes = n as usize;
     with_lent(q, a)
 }
 
@@ -579,22 +527,32 @@ fn read_lend(l: &[u8], q: Progress) -> Progress
     ensures { result ≡ read_lend l.now q }
 {
     if count_fields(l) != 3 {
-        return failed(q, Fault::BAD_LINE);
+        return failed(q, Fault::BadLine);
     }
     let n = value(l, 2);
+    let size = n as usize;
+    let a = q.lent;
     if has_word(l, 1, b"statements ") {
-        return lend_statements(q, n);
+        return lend_part(
+            q,
+            n,
+            27648,
+            Lent {
+                statements: size,
+                ..a
+            },
+        );
     }
     if has_word(l, 1, b"labels ") {
-        return lend_labels(q, n);
+        return lend_part(q, n, 1024, Lent { labels: size, ..a });
     }
     if has_word(l, 1, b"names ") {
-        return lend_names(q, n);
+        return lend_part(q, n, 16384, Lent { names: size, ..a });
     }
     if has_word(l, 1, b"data ") {
-        return lend_bytes(q, n);
+        return lend_part(q, n, 32768, Lent { bytes: size, ..a });
     }
-    failed(q, Fault::BAD_LINE)
+    failed(q, Fault::BadLine)
 }
 
 // A change between calls.
@@ -620,7 +578,7 @@ pub fn read_change(
     if starts_with(l, b"lend ") {
         return read_lend(l, q);
     }
-    failed(q, Fault::BAD_LINE)
+    failed(q, Fault::BadLine)
 }
 
 // All of each table, and 64 of stack and memory.
@@ -641,29 +599,12 @@ fn full() -> Lent
 pub fn open_case(q: Progress, name: usize) -> Progress
     ensures { result ≡ opened_of q name }
 {
-    let a = full();
-    let c = Counts {
-        statements: 0,
-        labels: 0,
-        bytes: 0,
-    };
-    let r = Machine::fresh(0, 0, 0);
     Progress {
         line: q.line,
         cases: one_more(q.cases),
         differ: q.differ,
-        name: name,
-        size: 0,
-        is_body: false,
-        is_checked: false,
-        is_wrong: false,
-        given: 0,
-        told: 0,
-        fault: 0,
-        shown: 0,
-        lent: a,
-        counts: c,
-        machine: r,
+        name,
+        ..first()
     }
 }
 
@@ -689,7 +630,7 @@ pub fn first() -> Progress
         is_wrong: false,
         given: 0,
         told: 0,
-        fault: 0,
+        fault: None,
         shown: 0,
         lent: a,
         counts: c,

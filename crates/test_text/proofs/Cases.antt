@@ -1,10 +1,11 @@
 -- One law for each way through a function without a loop.
 -- Assumes nothing.
 use Rattle.vm_definitions.specs.declared.StartError.{StartError}
-use Rattle.std.proofs.Common.{◌≡◌, ℕ, zero, suc, ◌+◌, ◌-◌, ◌*◌, ◌/◌, ◌%◌, ◌<◌, ◌≤◌, Bool, true, false, List, [], ◌∷◌, ◌++◌, length, take, drop, sym, refl, ap, ◌∙◌, arith, length-drop, take_all, Ok, Err}
+use Rattle.std.proofs.Common.{◌≡◌, ℕ, zero, suc, ◌+◌, ◌-◌, ◌*◌, ◌/◌, ◌%◌, ◌<◌, ◌≤◌, Bool, true, false, List, [], ◌∷◌, ◌++◌, length, min, take, drop, sym, refl, ap, ◌∙◌, arith, length-drop, take_all, Ok, Err}
 use Rattle.base_prelude.specs.Bytes.{byte_at}
 use Rattle.base_prelude.proofs.Bytes.{byte-within}
 use Rattle.base_prelude.proofs.Choice.{tests, if_lt-yes, if_lt-no, if_true-yes, if_true-no}
+use native.Mathlib.Decide.{dec_lt}
 use Rattle.base_limits.specs.declared.State.{State}
 use Rattle.base_limits.specs.declared.State.TheVariants.{Running, Finished, Stopped, Paused}
 use Rattle.base_limits.specs.declared.Pause.{Pause}
@@ -77,7 +78,7 @@ module _ (l : List ℕ) (from end n : ℕ) (p : n ≡ count_fields l) where
   unfolding has_values
   has_all r e f = rw (← p, ← f) (search tests)
 
-pub ruleset has-values = (has-others, has_all)
+pub ruleset has_all_values = (has-others, has_all)
 
 module _ (n c : ℕ) where
   pub long-low : c < 48 → n ≡ long_digit n c
@@ -450,18 +451,15 @@ pub ruleset poked = (poked-state, poked-number)
 
 -- ---- buffers
 
-module _ (n most : ℕ) where
-  pub lesser-first : n ≤ most → n ≡ lesser_of n most
-  unfolding lesser_of
-  lesser-first h = search tests
+pub lesser-min : (n most : ℕ) → min n most ≡ lesser_of n most
+unfolding lesser_of
+lesser-min n most =
+    elim (dec_lt most n) [
+      | yes h ↦ (let e : min n most ≡ most = omega arith in e ∙ sym (if_lt-yes most n h))
+      | no h ↦ (let e : min n most ≡ n = omega arith in e ∙ sym (if_lt-no most n (omega arith)))
+    ]
 
-  pub lesser-second : most < n → most ≡ lesser_of n most
-  unfolding lesser_of
-  lesser-second h = search tests
-
-pub ruleset lessers = (lesser-first, lesser-second)
-
-module _ (n : ℕ) (t : List ℕ) where
+module _ {X : Type 0} (n : ℕ) (t : List X) where
   pub behind-part : n ≤ length t → take (length t - n) (drop n t) ≡ behind_of n t
   unfolding behind_of
   behind-part h =

@@ -13,9 +13,9 @@ use Rattle.vm_definitions.specs.declared.StartError.TheVariants.{Refused}
 use Rattle.vm_definitions.specs.declared.Outcome.{Outcome}
 use Rattle.vm_definitions.specs.declared.Resumed.{Resumed}
 use Rattle.app_page.specs.Bytes.{digits_within, decimal, field}
-use Rattle.test_lines.specs.Lines.{one_more}
+use Rattle.test_lines.specs.Lines.{one_more, byte_step, byte_place}
 use Rattle.test_lines.specs.Fields.{field_step, field_start, with_digit, digit_step, number_from, number_at, field_of}
-use Rattle.test_text.specs.Fields.{count_step, count_fields, word_step, word_end, raw_at}
+use Rattle.test_text.specs.Fields.{count_step, count_fields, word_end, raw_at}
 use Rattle.test_text.specs.Numbers.{negated_of, field_value}
 use Rattle.test_text.specs.Answers.{error_bytes, field_bytes, fields_from, plain_bytes, broken_bytes, started_bytes, counted_bytes, stopped_bytes, finished_bytes, list_bytes, paused_bytes, state_bytes, unsound_bytes, outcome_bytes, resumed_bytes}
 
@@ -78,5 +78,5 @@ minus_one = refl
 
 -- `finished 3 -2` is `finished 3 4294967294`
 plain-minus : plain_bytes (102 ∷ 105 ∷ 110 ∷ 105 ∷ 115 ∷ 104 ∷ 101 ∷ 100 ∷ 32 ∷ 51 ∷ 32 ∷ 45 ∷ 50 ∷ []) ≡ 102 ∷ 105 ∷ 110 ∷ 105 ∷ 115 ∷ 104 ∷ 101 ∷ 100 ∷ 32 ∷ 51 ∷ 32 ∷ 52 ∷ 50 ∷ 57 ∷ 52 ∷ 57 ∷ 54 ∷ 55 ∷ 50 ∷ 57 ∷ 52 ∷ []
-unfolding if_lt if_eq byte_at walk one_more field_step field_start with_digit digit_step number_from number_at field_of negated_of field_value digits_within decimal count_step count_fields word_step word_end raw_at field_bytes fields_from plain_bytes
+unfolding if_lt if_eq byte_at walk one_more field_step field_start with_digit digit_step number_from number_at field_of negated_of field_value digits_within decimal count_step count_fields byte_step byte_place word_end raw_at field_bytes fields_from plain_bytes
 plain-minus = refl

@@ -1,19 +1,24 @@
 -- The loops: what is left gives the whole answer.
 -- Assumes nothing.
-use Rattle.std.proofs.Common.{◌≡◌, ℕ, suc, ◌+◌, ◌-◌, ◌%◌, ◌<◌, ◌≤◌, true, false, ltb, List, [], ◌∷◌, ◌++◌, length, get_or, take, drop, set, replicate, sym, refl, ap, ◌∙◌, add-one, arith, length-set, drop_of_length-le, length-take, drop-cons, get_or-take}
+use Rattle.std.proofs.Common.{◌≡◌, ℕ, zero, suc, ◌+◌, ◌-◌, ◌%◌, ◌<◌, ◌≤◌, true, false, ltb, List, [], ◌∷◌, ◌++◌, length, get_or, take, drop, set, replicate, sym, refl, ap, ◌∙◌, append_assoc, add-one, arith, length-set, drop_of_length-le, length-take, drop-cons, get_or-take}
 use native.Mathlib.Decide.{dec_lt}
-use lib.Seq.{set_out, take-set-le}
+use borrow.Author.Tests.{le-ltb}
+use lib.ListN.{length-replicate}
+use lib.Seq.{paste}
+use borrow.Rule.Slice.PartMut.{put_mid, mid_of, mid_len}
+use Rattle.std.proofs.lemmas.Slice.{put_mid-paste}
+use Rattle.std.proofs.lemmas.List.Edits.{paste_all}
 use Rattle.base_prelude.specs.Bytes.{byte_at}
 use Rattle.base_prelude.specs.Walk.{go, stop}
 use Rattle.base_prelude.proofs.Choice.{tests, if_lt-yes, if_lt-no}
 use Rattle.base_prelude.proofs.Walk.{Runs, runs-start, runs-go, runs-stop}
 use Rattle.vm_definitions.specs.Access.{store_from}
-use Rattle.vm_memory.proofs.Cases.{store-next}
+use Rattle.vm_memory.proofs.Cases.{store-next, front-stored}
 use Rattle.app_page.specs.Bytes.{field}
 use Rattle.test_lines.specs.Lines.{one_more, count}
 use Rattle.test_lines.specs.Fields.{no_number}
 use Rattle.test_lines.specs.Sources.{Source, source, add_byte}
-use Rattle.test_text.specs.Fields.{count_fields, count_step, word_step, word_end}
+use Rattle.test_text.specs.Fields.{count_fields, count_step}
 use Rattle.test_text.specs.Numbers.{field_value, values_step, are_values, digits_step, is_digits, long_digit, long_step, long_number, listed, argument_step, arguments_of}
 use Rattle.test_text.specs.Answers.{add_all, field_bytes, fields_from, plain_bytes, none-word, words-word, holds-word, counted_bytes, list_bytes, numbers_from, words_bytes, holds_bytes}
 use Rattle.test_text.specs.Buffers.{lesser_of, changed_step, changed_in, stored, storing, store_step, bytes_stored}
@@ -53,42 +58,6 @@ module _ (l : List ℕ) (n i : ℕ) where
   counting-past h g = runs-stop _ _ _ _ _ _ h.runs (sym (count_past l n i g))
 
 pub ruleset counting = (counting-start, counting-off, counting-on, counting-past)
-
--- `word_end`
-module _ (l : List ℕ) (i : ℕ) where
-  word_on : (c : ℕ) → i < length l → c ≡ byte_at l i → (c ≡ 32 → ⊥) → go (i + 1) ≡ word_step l i
-  unfolding word_step
-  word_on c h p e = rw (← p) (search tests)
-
-  word-here : (c : ℕ) → i < length l → c ≡ byte_at l i → c ≡ 32 → stop i ≡ word_step l i
-  unfolding word_step
-  word-here c h p e = rw (← p) (search tests)
-
-  word-past : length l ≤ i → stop i ≡ word_step l i
-  unfolding word_step
-  word-past h = search tests
-
-pub record Wording (l : List ℕ) (at i : ℕ) : Type 0 where
-  pub from : at ≤ i
-  pub within : i ≤ length l
-  pub runs : Runs (word_step l) at (word_end l at) i (suc (length l - i))
-
-pub wording-start : (l : List ℕ) (at : ℕ) → at ≤ length l → Wording l at at
-unfolding word_end
-wording-start l at h = record { from = omega arith; within = h; runs = runs-start _ _ _ _ _ (omega arith) }
-
-module _ (l : List ℕ) (at i : ℕ) where
-  pub wording-more : (c : ℕ) → Wording l at i → i < length l → c ≡ byte_at l i → (c ≡ 32 → ⊥) → Wording l at (i + 1)
-  wording-more c h g p e =
-      record { from = omega (arith, h.from); within = omega arith; runs = runs-go _ _ _ _ _ (length l - i) _ h.runs (sym (word_on l i c g p e)) (omega arith) }
-
-  pub wording-here : (c : ℕ) → Wording l at i → i < length l → c ≡ byte_at l i → c ≡ 32 → i ≡ word_end l at
-  wording-here c h g p e = runs-stop _ _ _ _ _ _ h.runs (sym (word-here l i c g p e))
-
-  pub wording-past : Wording l at i → length l ≤ i → i ≡ word_end l at
-  wording-past h g = runs-stop _ _ _ _ _ _ h.runs (sym (word-past l i g))
-
-pub ruleset wording = (wording-start, wording-more, wording-here, wording-past)
 
 -- `are_values`
 module _ (l : List ℕ) (end k : ℕ) where
@@ -142,15 +111,17 @@ module _ (l : List ℕ) (from i : ℕ) where
   digits-end h = search tests
 
 pub record Testing (l : List ℕ) (from i : ℕ) : Type 0 where
+  pub below : from ≤ i
+  pub within : i ≤ length l + (from - length l)
   pub runs : Runs (digits_step l from) false (is_digits l from) i (suc (length l - i))
 
 pub testing-start : (l : List ℕ) (from : ℕ) → Testing l from from
 unfolding is_digits
-testing-start l from = record { runs = runs-start _ _ _ _ _ (omega arith) }
+testing-start l from = record { below = omega arith; within = omega arith; runs = runs-start _ _ _ _ _ (omega arith) }
 
 module _ (l : List ℕ) (from i : ℕ) where
   pub testing-on : (c : ℕ) → Testing l from i → i < length l → c ≡ byte_at l i → 48 ≤ c → c ≤ 57 → Testing l from (i + 1)
-  testing-on c h g p e f = record { runs = runs-go _ _ _ _ _ (length l - i) _ h.runs (sym (digits-on l from i c g p e f)) (omega arith) }
+  testing-on c h g p e f = record { below = omega (arith, h.below); within = omega arith; runs = runs-go _ _ _ _ _ (length l - i) _ h.runs (sym (digits-on l from i c g p e f)) (omega arith) }
 
   pub testing-low : (c : ℕ) → Testing l from i → i < length l → c ≡ byte_at l i → c < 48 → false ≡ is_digits l from
   testing-low c h g p e = runs-stop _ _ _ _ _ _ h.runs (sym (digits_low l from i c g p e))
@@ -158,8 +129,15 @@ module _ (l : List ℕ) (from i : ℕ) where
   pub testing-high : (c : ℕ) → Testing l from i → i < length l → c ≡ byte_at l i → 48 ≤ c → 57 < c → false ≡ is_digits l from
   testing-high c h g p e f = runs-stop _ _ _ _ _ _ h.runs (sym (digits-high l from i c g p e f))
 
-  pub testing-end : Testing l from i → length l ≤ i → ltb from i ≡ is_digits l from
-  testing-end h g = runs-stop _ _ _ _ _ _ h.runs (sym (digits-end l from i g))
+  pub testing-end : Testing l from i → length l ≤ i → ltb from (length l) ≡ is_digits l from
+  testing-end h g = same ∙ runs-stop _ _ _ _ _ _ h.runs (sym (digits-end l from i g))
+    where
+      same : ltb from (length l) ≡ ltb from i
+      same =
+          elim (dec_lt from (length l)) [
+            | yes w ↦ (let e : length l ≡ i = omega (arith, h.within) in ap (λ (n : ℕ). ltb from n) e)
+            | no w ↦ (let a : length l ≤ from = omega arith in let b : i ≤ from = omega (arith, h.within) in le-ltb from (length l) a ∙ sym (le-ltb from i b))
+          ]
 
 pub ruleset testing = (testing-start, testing-on, testing-low, testing-high, testing-end)
 
@@ -410,95 +388,41 @@ module _ (l w₀ w : List ℕ) (n fields : ℕ) (h : Listing l w₀ w n) (p : fi
 
 pub ruleset listing = (listing_start, listing-end, listing-bad, listing-more, listing-over, listing_full)
 
--- `clear_stack`, `clear_memory`: zeros up to a size
-pub record Zeroing (size : ℕ) (t₀ : List ℕ) (from : ℕ) (t : List ℕ) (i : ℕ) : Type 0 where
-  pub rest : store_from t i (replicate (size - i) 0) ≡ store_from t₀ from (replicate (size - from) 0)
-
-pub zeroing-start : (size : ℕ) (t : List ℕ) (from : ℕ) → Zeroing size t from t from
-zeroing-start size t from = record { rest = refl }
-
-module _ (size : ℕ) (t₀ : List ℕ) (from : ℕ) (t : List ℕ) (i : ℕ) where
-  pub zeroing-more : Zeroing size t₀ from t i → i < size → Zeroing size t₀ from (set t i 0) (i + 1)
-  zeroing-more h g =
-      let j : suc (size - (i + 1)) ≡ size - i = omega arith in
-      record {
-        rest = sym (store-next t i 0 (replicate (size - (i + 1)) 0)) ∙ ap (λ (n : ℕ). store_from t i (replicate n 0)) j ∙ h.rest;
-      }
-
-  pub zeroing-done : Zeroing size t₀ from t i → size ≤ i → t ≡ store_from t₀ from (replicate (size - from) 0)
-  unfolding store_from
-  zeroing-done h g =
-      let j : 0 ≡ size - i = omega arith in
-      ap (λ (n : ℕ). store_from t i (replicate n 0)) j ∙ h.rest
-
-pub ruleset zeroing = (zeroing-start, zeroing-more, zeroing-done)
-
--- `keep_stack`, `keep_memory`: the first n elements again from place `size` on
-pub record Keeping (size n : ℕ) (k₀ k : List ℕ) (i : ℕ) : Type 0 where
-  pub below : i ≤ n
-  pub few : n ≤ size
-  pub long : length k ≡ length k₀
-  pub same : take size k ≡ take size k₀
-  pub rest : store_from k (size + i) (drop i (take n k₀)) ≡ store_from k₀ size (take n k₀)
-
-pub keeping_start : (size n : ℕ) (k : List ℕ) → n ≤ size → Keeping size n k k 0
-keeping_start size n k h =
-    let z : size + 0 ≡ size = omega arith in
-    record { below = omega arith; few = h; long = refl; same = refl; rest = ap (λ (j : ℕ). store_from k j (take n k)) z }
-
-module _ (size n : ℕ) (k₀ k : List ℕ) (i : ℕ) (h : Keeping size n k₀ k i) (g : i < n) where
-  kept-value : get_or k i 0 ≡ get_or (take n k₀) i 0
-  kept-value =
-      let b : i < size = omega (arith, h.few) in
-      sym (get_or-take size k i 0 b) ∙ ap (λ (x : List ℕ). get_or x i 0) h.same ∙ get_or-take size k₀ i 0 b ∙ sym (get_or-take n k₀ i 0 g)
-
-  kept-place : i + size ≡ size + i
-  kept-place = omega arith
-
-  kept_next : size + (i + 1) ≡ size + i + 1
-  kept_next = omega arith
-
-  kept-within : i < length (take n k₀)
-      → store_from (set k (i + size) (get_or k i 0)) (size + (i + 1)) (drop (i + 1) (take n k₀)) ≡ store_from k (size + i) (drop i (take n k₀))
-  kept-within w =
-      ap (λ (j : ℕ). store_from (set k j (get_or k i 0)) (size + (i + 1)) (drop (i + 1) (take n k₀))) kept-place
-      ∙ ap (λ (j : ℕ). store_from (set k (size + i) (get_or k i 0)) j (drop (i + 1) (take n k₀))) kept_next
-      ∙ sym (store-next k (size + i) (get_or k i 0) (drop (i + 1) (take n k₀)))
-      ∙ ap (λ (v : ℕ). store_from k (size + i) (v ∷ drop (i + 1) (take n k₀))) kept-value
-      ∙ ap (λ (x : List ℕ). store_from k (size + i) x) (sym (next-drop (take n k₀) i w))
-
-  kept-past : length (take n k₀) ≤ i
-      → store_from (set k (i + size) (get_or k i 0)) (size + (i + 1)) (drop (i + 1) (take n k₀)) ≡ store_from k (size + i) (drop i (take n k₀))
-  unfolding store_from
-  kept-past w =
-      let z : length (take n k₀) ≤ i + 1 = omega arith in
-      let o : length k ≤ i + size = omega (arith, length-take n k₀, h.long) in
-      ap (λ (x : List ℕ). store_from (set k (i + size) (get_or k i 0)) (size + (i + 1)) x) (drop_of_length-le (take n k₀) z)
-      ∙ set_out k (i + size) (get_or k i 0) o
-      ∙ ap (λ (x : List ℕ). store_from k (size + i) x) (sym (drop_of_length-le (take n k₀) w))
-
-  kept-rest : store_from (set k (i + size) (get_or k i 0)) (size + (i + 1)) (drop (i + 1) (take n k₀)) ≡ store_from k (size + i) (drop i (take n k₀))
-  kept-rest = elim (dec_lt i (length (take n k₀))) [ yes w ↦ kept-within w | no w ↦ kept-past (omega arith) ]
-
-  pub keeping-more : Keeping size n k₀ (set k (i + size) (get_or k i 0)) (i + 1)
-  keeping-more =
-      let b : size ≤ i + size = omega arith in
-      record {
-        below = omega arith;
-        few = h.few;
-        long = length-set k (i + size) (get_or k i 0) ∙ h.long;
-        same = take-set-le size k (i + size) (get_or k i 0) b ∙ h.same;
-        rest = kept-rest ∙ h.rest;
-      }
-
-pub keeping-done : (size most n : ℕ) (k₀ k : List ℕ) (i : ℕ) → Keeping size n k₀ k i → n ≡ lesser_of most size → n ≤ i → k ≡ store_from k₀ size (take (lesser_of most size) k₀)
+-- `clear_stack`, `clear_memory`, `keep_stack`, `keep_memory`: what is stored within a list
+cons-stored : (x : ℕ) (m : List ℕ) (a : ℕ) (ys : List ℕ) → store_from (x ∷ m) (suc a) ys ≡ x ∷ store_from m a ys
 unfolding store_from
-keeping-done size most n k₀ k i h p g =
-    let z : length (take n k₀) ≤ i = omega (arith, length-take n k₀) in
-    ap (λ (x : List ℕ). store_from k (size + i) x) (sym (drop_of_length-le (take n k₀) z)) ∙ h.rest
-    ∙ ap (λ (j : ℕ). store_from k₀ size (take j k₀)) p
+cons-stored x m a [] = refl
+cons-stored x m a (y ∷ ys) = cons-stored x (set m a y) (suc a) ys
 
-pub ruleset keeping = (keeping_start, keeping-more, keeping-done)
+stored-within : (m ys : List ℕ) (a b : ℕ) → b ≡ a + length ys → b ≤ length m → store_from m a ys ≡ take a m ++ (ys ++ drop b m)
+stored-within m ys zero b e h = front-stored m ys (omega arith) ∙ ap (λ (n : ℕ). ys ++ drop n m) (let f : length ys ≡ b = omega arith in f)
+stored-within [] ys (suc a) b e h = absurd (omega arith)
+stored-within (x ∷ m) ys (suc a) zero e h = absurd (omega arith)
+stored-within (x ∷ m) ys (suc a) (suc b) e h =
+    cons-stored x m a ys ∙ ap (λ (l : List ℕ). x ∷ l) (stored-within m ys a b (omega arith) (omega arith))
+
+pub cleared : (size from : ℕ) (t z w : List ℕ) → from < size → size ≤ length t → z ≡ put_mid from (size - from) t w → w ≡ replicate (length (mid_of from (size - from) t)) 0
+    → z ≡ store_from t from (replicate (size - from) 0)
+cleared size from t z w h g f e =
+    let l : size - from ≡ length (replicate (size - from) 0) = sym (length-replicate (size - from) 0) in
+    let b : size ≡ from + length (replicate (size - from) 0) = omega arith in
+    let s : from + (size - from) ≡ size = omega arith in
+    let m : length (mid_of from (size - from) t) ≡ size - from = mid_len from size t g in
+    let o : w ≡ replicate (size - from) 0 = e ∙ ap (λ (n : ℕ). replicate n 0) m in
+    f ∙ put_mid-paste from (size - from) t w (replicate (size - from) 0) (size - from) o refl l
+    ∙ paste_all t from (replicate (size - from) 0) (size - from) l
+    ∙ ap (λ (n : ℕ). take from t ++ (replicate (size - from) 0 ++ drop n t)) s
+    ∙ sym (stored-within t (replicate (size - from) 0) from size b g)
+
+pub cleared-none : (size from : ℕ) (t : List ℕ) → size ≤ from → t ≡ store_from t from (replicate (size - from) 0)
+unfolding store_from
+cleared-none size from t h = let j : 0 ≡ size - from = omega arith in ap (λ (n : ℕ). store_from t from (replicate n 0)) j
+
+pub kept : (size n : ℕ) (t : List ℕ) → n ≤ size → size + n ≤ length t → paste t size (drop 0 t) (n - 0) ≡ store_from t size (take n t)
+kept size n t h g =
+    let z : n - 0 ≡ n = omega arith in
+    let e : size + n ≡ size + length (take n t) = omega (arith, length-take n t) in
+    ap (λ (j : ℕ). paste t size t j) z ∙ append_assoc (take size t) (take n t) (drop (size + n) t) ∙ sym (stored-within t (take n t) size (size + n) e g)
 
 -- `changed_word`, `changed_byte`
 module _ (size : ℕ) (k : List ℕ) (n i : ℕ) where

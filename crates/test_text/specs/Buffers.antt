@@ -11,7 +11,7 @@ unfoldable pub lesser_of : ℕ → ℕ → ℕ
 lesser_of n most = if_lt most n most n
 
 -- what stands behind the first n elements; all where there are fewer
-unfoldable pub behind_of : ℕ → List ℕ → List ℕ
+unfoldable pub behind_of : {X : Type 0} → ℕ → List X → List X
 behind_of n t = if_lt (length t) n t (drop n t)
 
 unfoldable pub changed_step : ℕ → List ℕ → ℕ → ℕ → Step ℕ ℕ

@@ -4,7 +4,7 @@ use Rattle.std.specs.Prelude.{ℕ, suc, ◌+◌, ◌-◌, Bool, List, length, ta
 use Rattle.base_prelude.specs.Choice.{if_lt, if_eq}
 use Rattle.base_prelude.specs.Bytes.{byte_at}
 use Rattle.base_prelude.specs.Walk.{Step, go, stop, walk}
-use Rattle.test_lines.specs.Lines.{one_more, starts_with, Count, count}
+use Rattle.test_lines.specs.Lines.{one_more, byte_place, starts_with, Count, count}
 use Rattle.test_lines.specs.Fields.{field_start}
 
 unfoldable pub count_step : List ℕ → Count → Step Count ℕ
@@ -21,12 +21,9 @@ count_fields l = walk (count_step l) 1 (suc (length l)) (count 1 0)
 unfoldable pub has_word : List ℕ → ℕ → List ℕ → Bool
 has_word l k word = starts_with (drop (field_start l k) l) word
 
-unfoldable pub word_step : List ℕ → ℕ → Step ℕ ℕ
-word_step l i = if_lt i (length l) (if_eq (byte_at l i) 32 (stop i) (go (i + 1))) (stop i)
-
 -- the place of the blank from a place on, or the end
 unfoldable pub word_end : List ℕ → ℕ → ℕ
-word_end l at = walk (word_step l) at (suc (length l)) at
+word_end l at = byte_place 32 l at
 
 -- the bytes of the word from a place on
 unfoldable pub raw_at : List ℕ → ℕ → List ℕ

@@ -14,8 +14,8 @@ ghost use Rattle.test_text.specs.Records.{poke_number, pause_poked, is_pause_pok
 ghost use Rattle.test_text.specs.Buffers.{lesser_of, behind_of, changed_in, stored, bytes_stored};
 
 use base_limits::{Machine, Pause, State};
-use base_prelude::{byte_at, wide};
-use test_lines::{Case, add_byte, field, field_start, narrow, starts_with};
+use base_prelude::byte_at;
+use test_lines::{Case, add_byte, field, field_start, front, narrow, starts_with};
 use vm_definitions::{Broken, Outcome, Resumed, StartError};
 
 // Sizes of the buffers of a case.
@@ -36,29 +36,39 @@ impl Room {
     // Statements, behind them labels.
     pub const ROWS: usize = 28672;
 
+    // The words of the statements; the labels are behind them.
+    pub const STATEMENTS: usize = 27648;
+
     // Names, behind them data.
     pub const BYTES: usize = 49152;
+
+    // The bytes of the names; the data are behind them.
+    pub const NAMES: usize = 16384;
 }
 
-// An answer, or the line that expects one.
-type Text = [u8; Case::SOURCE];
+// A source, an answer, or the line that expects one.
+pub type Text = [u8; Case::SOURCE];
+
+// Statements, behind them labels.
+pub type Rows = [u32; Room::ROWS];
+
+// Names, behind them data.
+pub type Bytes = [u8; Room::BYTES];
 
 // The stack lent, behind it the stack before the last call.
-type Stack = [u32; Room::TWO_STACKS];
+pub type Stack = [u32; Room::TWO_STACKS];
 
 // The memory lent, behind it the memory before the last call.
-type Memory = [u8; Room::TWO_MEMORIES];
+pub type Memory = [u8; Room::TWO_MEMORIES];
 
 // How many fields a line has.
+#[tactic(auto, using(crate::proofs::Loops::counting))]
 pub fn count_fields(l: &[u8]) -> u64
     ensures { result ≡ count_fields l.now }
 {
     let mut n: u64 = 1;
-    let mut i: usize = 0;
-    while i < l.len() {
-        let c = byte_at(l, i);
-        i += 1;
-        if c == 32 {
+    for i in 0..l.len() {
+        if byte_at(l, i) == 32 {
             n = test_lines::one_more(n);
         }
     }
@@ -73,29 +83,25 @@ pub fn has_word(l: &[u8], k: u64, word: &[u8]) -> bool
 }
 
 // The place of the blank from a place on, or the end.
+#[tactic(auto, unfolding(crate::specs::Fields::word_end))]
 pub fn word_end(l: &[u8], at: usize) -> usize
     requires { at ≤ length l.now }
     ensures value { result ≡ word_end l.now at }
     ensures lower_bound { (at ≤ result) × (result ≤ length l.now) }
 {
-    let mut i = at;
-    while i < l.len() {
-        if byte_at(l, i) == 32 {
-            return i;
-        }
-        i += 1;
-    }
-    i
+    test_lines::byte_place(l, at, 32)
 }
 
 // A number below zero, modulo 2^32.
+#[tactic(auto, using(base_prelude::proofs::Choice::tests), unfolding(crate::specs::Numbers::negated_of))]
 fn negated(n: u64) -> u64
     ensures { result ≡ negated_of n }
 {
     if n < Case::NO_NUMBER {
-        return (Case::NO_NUMBER - n) % Case::NO_NUMBER;
+        (Case::NO_NUMBER - n) % Case::NO_NUMBER
+    } else {
+        Case::NO_NUMBER
     }
-    Case::NO_NUMBER
 }
 
 // The number in a field, modulo 2^32 where it has a sign; NO_NUMBER or more where it is none.
@@ -105,8 +111,7 @@ pub fn value(l: &[u8], k: u64) -> u64
     let at = field_start(l, k);
     let c = byte_at(l, at);
     if c == 45 {
-        let i = at + 1;
-        return negated(field(&l[i..], 0));
+        return negated(field(&l[at + 1..], 0));
     }
     field(l, k)
 }
@@ -122,58 +127,47 @@ pub fn word_in(l: &[u8], k: u64) -> u32
 fn are_values(l: &[u8], from: u64, end: u64) -> bool
     ensures { result ≡ are_values l.now from end }
 {
-    let mut k = from;
-    while k < end {
+    for k in from..end {
         if Case::NO_NUMBER <= value(l, k) {
             return false;
         }
-        k += 1;
     }
     true
 }
 
 // Whether the fields from one to before another are numbers, and the last of the line.
+#[tactic(auto, using(crate::proofs::Cases::has_all_values))]
 pub fn has_values(l: &[u8], from: u64, end: u64) -> bool
     ensures { result ≡ has_values l.now from end }
 {
-    if count_fields(l) != end {
-        return false;
-    }
-    are_values(l, from, end)
+    count_fields(l) == end && are_values(l, from, end)
 }
 
 // Whether a line has digits alone from a place on, and one at least.
+#[tactic(auto, using(crate::proofs::Loops::testing))]
 pub fn is_digits(l: &[u8], from: usize) -> bool
     ensures { result ≡ is_digits l.now from }
 {
-    let mut i = from;
-    while i < l.len() {
+    for i in from..l.len() {
         let c = byte_at(l, i);
-        if c < 48 {
+        if c < 48 || 57 < c {
             return false;
         }
-        if 57 < c {
-            return false;
-        }
-        i += 1;
     }
-    from < i
+    from < l.len()
 }
 
 // A number of 64 bits with one more digit.
+#[tactic(auto, using(base_prelude::proofs::Choice::tests), unfolding(crate::specs::Numbers::long_digit))]
 fn long_digit(n: u64, c: u32) -> u64
     ensures { result ≡ long_digit n c }
 {
-    if c < 48 {
-        return n;
+    match c {
+        48..=57 if n <= 1844674407370955161 => {
+            std::num::wrapping_add_u64(n * 10, u64::from(c - 48))
+        }
+        _ => n,
     }
-    if 57 < c {
-        return n;
-    }
-    if 1844674407370955161 < n {
-        return n;
-    }
-    std::num::wrapping_add_u64(n * 10, (c - 48) as u64)
 }
 
 // The number of 64 bits whose digits stand from a place on.
@@ -181,10 +175,8 @@ pub fn long_number(l: &[u8], from: usize) -> u64
     ensures { result ≡ long_number l.now from }
 {
     let mut n: u64 = 0;
-    let mut i = from;
-    while i < l.len() {
+    for i in from..l.len() {
         n = long_digit(n, byte_at(l, i));
-        i += 1;
     }
     n
 }
@@ -194,10 +186,8 @@ pub fn add_all(l: &[u8], text: &mut Text, size: usize) -> usize
     ensures { source result text.new ≡ add_all l.now (source size text.old) }
 {
     let mut end = size;
-    let mut i: usize = 0;
-    while i < l.len() {
-        end = add_byte(text, end, wide(l[i]));
-        i += 1;
+    for b in l {
+        end = add_byte(text, end, u32::from(*b));
     }
     end
 }
@@ -264,11 +254,9 @@ pub fn plain_line(l: &[u8], text: &mut Text) -> usize
 {
     let count = count_fields(l);
     let mut size = add_field(l, 0, text, 0);
-    let mut k: u64 = 1;
-    while k < count {
+    for k in 1..count {
         let at = add_byte(text, size, 32);
         size = add_field(l, k, text, at);
-        k += 1;
     }
     size
 }
@@ -349,10 +337,8 @@ fn add_list(ws: &[u32], text: &mut Text, size: usize) -> usize
     ensures { source result text.new ≡ add_all (list_bytes ws.now) (source size text.old) }
 {
     let mut end = size;
-    let mut i: usize = 0;
-    while i < ws.len() {
-        end = add_next(long(ws[i]), text, end);
-        i += 1;
+    for w in ws {
+        end = add_next(u64::from(*w), text, end);
     }
     end
 }
@@ -373,7 +359,7 @@ fn add_paused(count: u64, p: Pause, text: &mut Text) -> usize
     let size = add_counted(b"paused", count, text);
     let at = add_next(p.number as u64, text, size);
     let words = eight_words(p);
-    add_list(front_words(&words, p.count as usize), text, at)
+    add_list(front(&words, p.count as usize), text, at)
 }
 
 // What a step or a run answers without a 35.
@@ -431,13 +417,6 @@ pub fn add_record(r: Machine, text: &mut Text) -> usize
     add_next(r.top as u64, text, b)
 }
 
-// A word as a wider number.
-fn long(w: u32) -> u64
-    ensures { result ≡ w }
-{
-    w as u64
-}
-
 // Words from a place on, as many as a line has behind its place.
 pub fn add_words(l: &[u8], at: usize, stack: &[u32], text: &mut Text) -> usize
     ensures { source result text.new ≡ add_all (words_bytes l.now at stack.now) (source 0 text.old) }
@@ -445,14 +424,12 @@ pub fn add_words(l: &[u8], at: usize, stack: &[u32], text: &mut Text) -> usize
     let count = count_fields(l);
     let mut size = add_counted(b"words", at as u64, text);
     let mut i = at;
-    let mut k: u64 = 2;
-    while k < count {
+    for _ in 2..count {
         if stack.len() <= i {
             return add_all(b" none", text, size);
         }
-        size = add_next(long(stack[i]), text, size);
+        size = add_next(u64::from(stack[i]), text, size);
         i += 1;
-        k += 1;
     }
     size
 }
@@ -464,14 +441,12 @@ pub fn add_bytes(l: &[u8], at: usize, memory: &[u8], text: &mut Text) -> usize
     let count = count_fields(l);
     let mut size = add_counted(b"holds", at as u64, text);
     let mut i = at;
-    let mut k: u64 = 2;
-    while k < count {
+    for _ in 2..count {
         if memory.len() <= i {
             return add_all(b" none", text, size);
         }
-        size = add_next(wide(memory[i]) as u64, text, size);
+        size = add_next(u64::from(memory[i]), text, size);
         i += 1;
-        k += 1;
     }
     size
 }
@@ -481,8 +456,7 @@ pub fn read_arguments(l: &[u8], arguments: &mut [u32; 16]) -> usize
     ensures { listed result arguments.new ≡ arguments_of l.now arguments.old }
 {
     let count = count_fields(l);
-    let mut n: usize = 0;
-    while n < 16 {
+    for n in 0..16 {
         let k = n as u64 + 2;
         if count <= k {
             return n;
@@ -492,12 +466,8 @@ pub fn read_arguments(l: &[u8], arguments: &mut [u32; 16]) -> usize
             return 17;
         }
         arguments[n] = narrow(v);
-        n += 1;
     }
-    if 18 < count {
-        return 17;
-    }
-    16
+    if 18 < count { 17 } else { 16 }
 }
 
 // A record with one of its numbers changed.
@@ -539,33 +509,25 @@ fn pause_in(l: &[u8]) -> Pause
 }
 
 // Whether a line has a pause: numbers, at most eight words.
+#[tactic(auto, using(crate::proofs::Cases::pauses))]
 fn is_pause_poke(l: &[u8]) -> bool
     ensures { result ≡ is_pause_poke l.now }
 {
     let n = count_fields(l);
-    if 13 < n {
-        return false;
-    }
-    are_values(l, 3, n)
+    n <= 13 && are_values(l, 3, n)
 }
 
 // A record with its state changed.
 fn poke_state(l: &[u8], r: Machine) -> Machine
     ensures { result ≡ poke_state l.now r }
 {
-    let v = narrow(value(l, 3));
+    let number = narrow(value(l, 3));
     if has_word(l, 2, b"finished ") {
-        return Machine::with_state(State::Finished(v), r);
+        return Machine::with_state(State::Finished(number), r);
     }
     if has_word(l, 2, b"stopped ") {
-        let at = narrow(value(l, 4));
-        return Machine::with_state(
-            State::Stopped {
-                number: v,
-                statement: at,
-            },
-            r,
-        );
+        let statement = narrow(value(l, 4));
+        return Machine::with_state(State::Stopped { number, statement }, r);
     }
     if has_word(l, 2, b"paused ") {
         return Machine::with_state(State::Paused(pause_in(l)), r);
@@ -574,19 +536,14 @@ fn poke_state(l: &[u8], r: Machine) -> Machine
 }
 
 // Whether a line names a number of the record.
+#[tactic(auto, using(crate::proofs::Cases::named))]
 fn is_number_poke(l: &[u8]) -> bool
     ensures { result ≡ is_number_poke l.now }
 {
-    if has_word(l, 2, b"next ") {
-        return true;
-    }
-    if has_word(l, 2, b"frame ") {
-        return true;
-    }
-    if has_word(l, 2, b"used ") {
-        return true;
-    }
-    has_word(l, 2, b"top ")
+    has_word(l, 2, b"next ")
+        || has_word(l, 2, b"frame ")
+        || has_word(l, 2, b"used ")
+        || has_word(l, 2, b"top ")
 }
 
 // Whether a line names a state of the record.
@@ -609,16 +566,11 @@ fn is_state_poke(l: &[u8]) -> bool
 }
 
 // Whether a line changes a record.
+#[tactic(auto, using(crate::proofs::Cases::changes))]
 pub fn is_record_poke(l: &[u8]) -> bool
     ensures { result ≡ is_record_poke l.now }
 {
-    if is_state_poke(l) {
-        return true;
-    }
-    if is_number_poke(l) {
-        return has_values(l, 3, 4);
-    }
-    false
+    is_state_poke(l) || is_number_poke(l) && has_values(l, 3, 4)
 }
 
 // A record as a line changes it.
@@ -636,40 +588,15 @@ pub fn at_most(n: usize, most: usize) -> usize
     ensures value { result ≡ lesser_of n most }
     ensures upper_bound { result ≤ most }
 {
-    if n <= most {
-        return n;
-    }
-    most
+    n.min(most)
 }
 
-// The first words of a table.
-pub fn front_words(t: &[u32], size: usize) -> &[u32]
-    ensures { result.now ≡ take size t.now }
+// What stands behind the first elements of a slice; all where there are fewer.
+#[tactic(auto, using(crate::proofs::Cases::behinds))]
+pub fn behind<T>(t: &[T], n: usize) -> &[T]
+    ensures { result.now ≡ behind_of n t.now }
 {
-    if size <= t.len() {
-        return &t[0..size];
-    }
-    t
-}
-
-// The labels behind the statements.
-pub fn behind(t: &[u32]) -> &[u32]
-    ensures { result.now ≡ behind_of 27648 t.now }
-{
-    if 27648 <= t.len() {
-        return &t[27648..];
-    }
-    t
-}
-
-// The data behind the names.
-pub fn behind_names(b: &[u8]) -> &[u8]
-    ensures { result.now ≡ behind_of 16384 b.now }
-{
-    if 16384 <= b.len() {
-        return &b[16384..];
-    }
-    b
+    if n <= t.len() { &t[n..] } else { t }
 }
 
 // A byte of a buffer; past its end nothing.
@@ -686,10 +613,8 @@ pub fn copy_bytes(from: &[u8], to: &mut [u8], at: usize)
     requires { (at < 1099511627776) × (length from.now < word_values) }
     ensures { to.new ≡ store_from to.old at from.now }
 {
-    let mut i: usize = 0;
-    while i < from.len() {
-        put(to, at + i, from[i]);
-        i += 1;
+    for (i, b) in from.iter().enumerate() {
+        put(to, at + i, *b);
     }
 }
 
@@ -697,20 +622,16 @@ pub fn copy_bytes(from: &[u8], to: &mut [u8], at: usize)
 pub fn clear_stack(k: &mut Stack, from: usize)
     ensures { k.new ≡ store_from k.old from (replicate (16385 - from) 0) }
 {
-    let mut i = from;
-    while i < Room::STACK {
-        k[i] = 0;
-        i += 1;
+    if from < Room::STACK {
+        k[from..Room::STACK].fill(0);
     }
 }
 
 pub fn clear_memory(m: &mut Memory, from: usize)
     ensures { m.new ≡ store_from m.old from (replicate (65537 - from) 0) }
 {
-    let mut i = from;
-    while i < Room::MEMORY {
-        m[i] = 0;
-        i += 1;
+    if from < Room::MEMORY {
+        m[from..Room::MEMORY].fill(0);
     }
 }
 
@@ -718,40 +639,26 @@ pub fn clear_memory(m: &mut Memory, from: usize)
 pub fn keep_stack(k: &mut Stack, n: usize)
     ensures { k.new ≡ store_from k.old 16385 (take (lesser_of n 16385) k.old) }
 {
-    let most = at_most(n, Room::STACK);
-    let mut i: usize = 0;
-    while i < most {
-        let v = k[i];
-        k[i + Room::STACK] = v;
-        i += 1;
-    }
+    k.copy_within(..at_most(n, Room::STACK), Room::STACK);
 }
 
 pub fn keep_memory(m: &mut Memory, n: usize)
     ensures { m.new ≡ store_from m.old 65537 (take (lesser_of n 65537) m.old) }
 {
-    let most = at_most(n, Room::MEMORY);
-    let mut i: usize = 0;
-    while i < most {
-        let v = m[i];
-        m[i + Room::MEMORY] = v;
-        i += 1;
-    }
+    m.copy_within(..at_most(n, Room::MEMORY), Room::MEMORY);
 }
 
 // The first word that the last call changed, or n.
 pub fn changed_word(k: &Stack, n: usize) -> usize
     ensures { result ≡ changed_in 16385 k.now n }
 {
-    let mut i: usize = 0;
-    while i < n {
+    for i in 0..n {
         if Room::STACK <= i {
             return n;
         }
         if k[i] != k[i + Room::STACK] {
             return i;
         }
-        i += 1;
     }
     n
 }
@@ -759,15 +666,13 @@ pub fn changed_word(k: &Stack, n: usize) -> usize
 pub fn changed_byte(m: &Memory, n: usize) -> usize
     ensures { result ≡ changed_in 65537 m.now n }
 {
-    let mut i: usize = 0;
-    while i < n {
+    for i in 0..n {
         if Room::MEMORY <= i {
             return n;
         }
         if m[i] != m[i + Room::MEMORY] {
             return i;
         }
-        i += 1;
     }
     n
 }
@@ -778,8 +683,7 @@ pub fn put_bytes(l: &[u8], at: usize, n: usize, m: &mut Memory) -> bool
 {
     let count = count_fields(l);
     let mut i = at;
-    let mut f: u64 = 2;
-    while f < count {
+    for f in 2..count {
         if n <= i {
             return false;
         }
@@ -792,7 +696,6 @@ pub fn put_bytes(l: &[u8], at: usize, n: usize, m: &mut Memory) -> bool
         }
         m[i] = v as u8;
         i += 1;
-        f += 1;
     }
     at < i
 }

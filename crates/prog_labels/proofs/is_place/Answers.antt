@@ -9,10 +9,6 @@ pub returns-then-kind_at-eq-FUNCTION : goal.returns-then-kind_at-eq-FUNCTION
 returns-then-kind_at-eq-FUNCTION c =
     search row-ways
 
-pub returns-then-follows_jump : goal.returns-then-follows_jump
-returns-then-follows_jump c =
-    search row-ways
-
 pub returns : goal.returns
 returns c =
     search row-ways

@@ -5,6 +5,6 @@ pub returns-then-is_function_label : goal.returns-then-is_function_label
 returns-then-is_function_label c =
     search bearing
 
-pub returns : goal.returns
-returns c =
-    search bearing
+pub returns-else-is_function_label : goal.returns-else-is_function_label
+returns-else-is_function_label c =
+    rw c.if-is_function_label.false (search bearing)

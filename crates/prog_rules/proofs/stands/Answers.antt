@@ -5,6 +5,6 @@ pub returns-then-stands_there : goal.returns-then-stands_there
 returns-then-stands_there c =
     search stand
 
-pub returns : goal.returns
-returns c =
-    search stand
+pub returns-else-stands_there : goal.returns-else-stands_there
+returns-else-stands_there c =
+    rw c.if-stands_there.false (search stand)

@@ -9,6 +9,6 @@ pub returns-then-rows_good : goal.returns-then-rows_good
 returns-then-rows_good c =
     search formed-ways
 
-pub returns : goal.returns
-returns c =
-    search formed-ways
+pub returns-else-rows_good : goal.returns-else-rows_good
+returns-else-rows_good c =
+    rw c.if-rows_good.false (search formed-ways)

@@ -5,6 +5,6 @@ pub returns-then-is_nested : goal.returns-then-is_nested
 returns-then-is_nested c =
     search stand-ways
 
-pub returns : goal.returns
-returns c =
-    search stand-ways
+pub returns-else-is_nested : goal.returns-else-is_nested
+returns-else-is_nested c =
+    rw c.if-is_nested.false (search stand-ways)

@@ -1,10 +1,10 @@
 use Rattle.test_cases.proofs.Cases.{read-behind-ways}
 use Rattle.test_cases.proofs.read_behind.Goals as goal
 
-pub returns-then-checked-gt0 : goal.returns-then-checked-gt0
-returns-then-checked-gt0 c =
+pub returns-in-Some : goal.returns-in-Some
+returns-in-Some c =
     search read-behind-ways
 
-pub returns : goal.returns
-returns c =
+pub returns-in-None : goal.returns-in-None
+returns-in-None c =
     search read-behind-ways

@@ -12,11 +12,3 @@ returns-then-field-ge-NO_NUMBER c =
 pub loop-k-preserved : goal.loop-k-preserved
 loop-k-preserved c =
     search checking
-
-pub returns-then-field_start-l : goal.returns-then-field_start-l
-returns-then-field_start-l c =
-    search checking
-
-pub returns : goal.returns
-returns c =
-    search checking

@@ -1,11 +1,6 @@
-use Rattle.std.proofs.Common.{◌-◌, length}
 use Rattle.test_lines.proofs.Loops.{Numbering}
 use Rattle.test_lines.proofs.number_from.Given as goal
 
 abbrev pub invariant-loop-i : goal.invariant-loop-i
 invariant-loop-i l =
     Numbering l.l l.at l.n l.i l.v
-
-abbrev pub decreases-loop-i : goal.decreases-loop-i
-decreases-loop-i l =
-    length l.l - l.i

@@ -3,4 +3,4 @@ use Rattle.test_state.proofs.open_case.Goals as goal
 
 pub returns : goal.returns
 returns c =
-    search opened-is
+    opened-is _ _ _ _ c.first.ensures c.one_more.ensures

@@ -1,12 +1,12 @@
 use Rattle.test_text.proofs.Loops.{adding}
 use Rattle.test_text.proofs.add_all.Goals as goal
 
-pub loop-i-init : goal.loop-i-init
-loop-i-init c =
+pub loop-b-init : goal.loop-b-init
+loop-b-init c =
     search adding
 
-pub loop-i-preserved : goal.loop-i-preserved
-loop-i-preserved c =
+pub loop-b-preserved : goal.loop-b-preserved
+loop-b-preserved c =
     search adding
 
 pub returns : goal.returns

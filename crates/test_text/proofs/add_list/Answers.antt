@@ -1,12 +1,12 @@
 use Rattle.test_text.proofs.Loops.{listed-words}
 use Rattle.test_text.proofs.add_list.Goals as goal
 
-pub loop-i-init : goal.loop-i-init
-loop-i-init c =
+pub loop-w-init : goal.loop-w-init
+loop-w-init c =
     search listed-words
 
-pub loop-i-preserved : goal.loop-i-preserved
-loop-i-preserved c =
+pub loop-w-preserved : goal.loop-w-preserved
+loop-w-preserved c =
     search listed-words
 
 pub returns : goal.returns

@@ -1,11 +1,6 @@
-use Rattle.std.proofs.Common.{◌-◌}
 use Rattle.test_text.proofs.Loops.{Valuing}
 use Rattle.test_text.proofs.are_values.Given as goal
 
 abbrev pub invariant-loop-k : goal.invariant-loop-k
 invariant-loop-k l =
     Valuing l.l l.from l.end l.k
-
-abbrev pub decreases-loop-k : goal.decreases-loop-k
-decreases-loop-k l =
-    l.end - l.k

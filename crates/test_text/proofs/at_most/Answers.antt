@@ -1,11 +1,7 @@
-use Rattle.test_text.proofs.Cases.{lessers}
-use Rattle.std.proofs.Common.{rules}
+use Rattle.std.proofs.Common.{◌∙◌}
+use Rattle.test_text.proofs.Cases.{lesser-min}
 use Rattle.test_text.proofs.at_most.Goals as goal
 
-pub returns-then-n-most : goal.returns-then-n-most
-returns-then-n-most c =
-    record { value = search lessers; upper_bound = search rules }
-
-pub returns : goal.returns
-returns c =
-    record { value = search lessers; upper_bound = search rules }
+pub returns-clause-value : goal.returns-clause-value
+returns-clause-value c =
+    c.min.ensures ∙ lesser-min _ _

@@ -1,11 +1,6 @@
-use Rattle.std.proofs.Common.{◌-◌, length}
 use Rattle.vm_memory.proofs.Cases.{Putting}
 use Rattle.test_text.proofs.copy_bytes.Given as goal
 
 abbrev pub invariant-loop-i : goal.invariant-loop-i
 invariant-loop-i l =
     Putting l.initial.to l.at l.from l.to l.i
-
-abbrev pub decreases-loop-i : goal.decreases-loop-i
-decreases-loop-i l =
-    length l.from - l.i

@@ -1,14 +1,7 @@
-use Rattle.test_text.proofs.Loops.{keeping}
+use Rattle.std.proofs.Common.{◌∙◌, arith}
+use Rattle.test_text.proofs.Loops.{kept}
 use Rattle.test_text.proofs.keep_stack.Goals as goal
-
-pub loop-i-init : goal.loop-i-init
-loop-i-init c =
-    search keeping
-
-pub loop-i-preserved : goal.loop-i-preserved
-loop-i-preserved c =
-    search keeping
 
 pub returns : goal.returns
 returns c =
-    search keeping
+    rw (← c.at_most.ensures.value) (c.copy_within.ensures.after ∙ kept 16385 c.at_most.result c.args.k.now c.at_most.ensures.upper_bound (omega arith))

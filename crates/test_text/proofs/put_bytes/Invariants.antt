@@ -1,11 +1,6 @@
-use Rattle.std.proofs.Common.{◌-◌}
 use Rattle.test_text.proofs.Loops.{Bytes}
 use Rattle.test_text.proofs.put_bytes.Given as goal
 
 abbrev pub invariant-loop-f : goal.invariant-loop-f
 invariant-loop-f l =
     Bytes l.l l.count l.at l.n l.initial.m l.m l.i l.f
-
-abbrev pub decreases-loop-f : goal.decreases-loop-f
-decreases-loop-f l =
-    l.count - l.f

@@ -21,6 +21,6 @@ pub returns-then-count-gt18 : goal.returns-then-count-gt18
 returns-then-count-gt18 c =
     search listing
 
-pub returns : goal.returns
-returns c =
+pub returns-else-count-gt18 : goal.returns-else-count-gt18
+returns-else-count-gt18 c =
     search listing
