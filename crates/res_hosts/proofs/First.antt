@@ -5,16 +5,27 @@ use mathlib.Core.Bool.{Bool, true, false}
 use mathlib.Core.List.{List, [], ◌∷◌}
 use Prim.Native.Nat.{ℕ, zero, suc, ◌+◌, ◌*◌, ◌≤◌, ◌<◌}
 use native.Mathlib.Omega.{arith}
-use lib.Dec.{leb}
+use lib.Dec.{eqb, leb}
 use lib.ListN.{length, drop, length-take}
 use borrow.Author.Tests.{leb-true}
 use Rattle.base_prelude.specs.Choice.{pick}
 use Rattle.base_prelude.specs.Lists.{same_list}
 use Rattle.base_prelude.proofs.Choice.{if_lt-no}
-use Rattle.base_prelude.proofs.Lists.{same-lengths}
 use Rattle.prog_tables.specs.Tests.{first_from}
 use Rattle.prog_tables.specs.Hosts.{Hosts, entries_of, host_size, host_arguments, host_name, entry_left, entry_named, host_of, host_mark}
 use Rattle.prog_tables.proofs.Each.{both_left, both_right, all-at}
+
+-- lists of different lengths are not the same
+same-lengths : (a b : List ℕ) → (length a ≡ length b → ⊥) → false ≡ same_list a b
+unfolding same_list
+same-lengths [] [] h = absurd (h refl)
+same-lengths [] (y ∷ b) h = refl
+same-lengths (x ∷ a) [] h = refl
+same-lengths (x ∷ a) (y ∷ b) h = differ (eqb x y) (same-lengths a b (λ e. h (ap suc e)))
+  where
+    differ : (t : Bool) → false ≡ same_list a b → false ≡ pick t (same_list a b) false
+    differ true e = e
+    differ false e = refl
 
 -- what is found passes
 pub first_passes : (p : ℕ → Bool) (left i : ℕ) → first_from p left i < i + left → p (first_from p left i) ≡ true
