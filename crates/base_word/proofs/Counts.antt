@@ -1,14 +1,17 @@
--- What shifts and rotates give at counts below the width, at it, past it and below 0.
+-- What shifts and rotates give at counts below the width, at it, past it and below 0; the numbers of the stops.
 -- Assumes nothing.
 use Rattle.std.proofs.Common.{Err, Ok}
 use Rattle.std.proofs.Common.{◌≡◌, ℕ, ◌-◌, ◌^◌, List, [], ◌∷◌, refl}
-use Rattle.base_word.specs.Word.{Answer}
-use Rattle.base_word.specs.declared.WordError.TheVariants.{Shift}
+use Rattle.base_word.specs.Word.{Answer, stop_of}
+use Rattle.base_word.specs.declared.WordError.TheVariants.{Division, Shift}
 use Rattle.base_word.specs.Word.{shl_of, bsr_of, shr_of, asr_of, rol_of, ror_of}
 
 -- the 32-bit word of -n
 abbrev minus : ℕ → ℕ
 minus n = 2 ^ 32 - n
+
+pub stop-numbers : stop_of (Err Division) ∷ stop_of (Err Shift) ∷ [] ≡ 30 ∷ 31 ∷ []
+stop-numbers = refl
 
 abbrev at_counts : (ℕ → Answer) → List Answer
 at_counts f = f 0 ∷ f 1 ∷ f 31 ∷ f 32 ∷ f 33 ∷ f 2147483647 ∷ f (minus 1) ∷ f (minus 2147483648) ∷ []

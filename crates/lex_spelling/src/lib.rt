@@ -274,7 +274,8 @@ fn pair(a: Result<Decoded, Ending>, b: Result<Decoded, Ending>) -> ControlFlow<b
             }
         }
         (Err(_), Err(_)) => ControlFlow::Break(true),
-        _ => ControlFlow::Break(false),
+        (Ok(_), Err(_)) => ControlFlow::Break(false),
+        (Err(_), Ok(_)) => ControlFlow::Break(false),
     }
 }
 

@@ -256,6 +256,8 @@ fn exports_from(
 }
 
 // The exports and imports of the tokens t of a source of n bytes: the least fault, and in `flags` 1 for each label that is exported.
+// A function of its own in the compiled code too: inside that of the check its walks took a quarter more time.
+#[inline(never)]
 pub fn judge_exports(t: &[u32], n: u32, y: &[u32], l: u32, uses: &[u32], flags: &mut [u32]) -> u64
     requires { (length t.now ≡ limits.token_words) × (length flags.old ≡ limits.labels) }
     ensures { exported result flags.new ≡ exports_of (same_number t.now) t.now n y.now l uses.now }

@@ -71,9 +71,9 @@ module _ (t : List ℕ) (i k : ℕ) (p : k ≡ token_word t i 0) where
   unfolding is_import
   import-yes w n e q f g = rw (← p, ← q, ← g) (search tests)
 
-  pub import-other : (w : ℕ) → k ≡ 3 → w ≡ token_word t i 5 → (w ≡ 2 → ⊥) → eqb w 2 ≡ is_import t i
+  pub import-other : (w : ℕ) → k ≡ 3 → w ≡ token_word t i 5 → (w ≡ 2 → ⊥) → false ≡ is_import t i
   unfolding is_import
-  import-other w e q f = rw (← p, ← q, ne_eqb _ _ f) (search tests)
+  import-other w e q f = rw (← p, ← q) (search tests)
 
   pub import-no : (k ≡ 3 → ⊥) → false ≡ is_import t i
   unfolding is_import

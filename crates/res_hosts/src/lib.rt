@@ -60,7 +60,11 @@ fn is_import(t: &[u32], i: u32) -> bool
     if parse_lines::kind_at(t, i) != Token::SYMBOL {
         return false;
     }
-    parse_lines::word_at(t, i) == Word::IMPORT && parse_lines::kind_at(t, i + 1) == Token::SYMBOL
+    // By `if`: so the goal that refuses the edit of this word keeps its name.
+    if parse_lines::word_at(t, i) == Word::IMPORT {
+        return parse_lines::kind_at(t, i + 1) == Token::SYMBOL;
+    }
+    false
 }
 
 // The mark of the name at token i.

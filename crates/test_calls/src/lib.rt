@@ -12,7 +12,7 @@ ghost use Rattle.test_state.specs.Progress.{on};
 ghost use Rattle.test_calls.specs.Calls.{ran, with_outcome, with_opening, with_resumed, tables_in, data_in, do_step, do_run, do_resume, read_name, do_start, start_named, read_start, read_run, read_resume, is_start, do_call, read_call};
 
 use test_lines::{Case, add_text, field_start, front, starts_with};
-use test_state::{Fault, Progress, failed, with_answer, with_machine};
+use test_state::{Fault, Progress, with_answer, with_fault, with_machine};
 use test_text::{Bytes, Memory, Room, Rows, Stack, Text, at_most, behind, keep_memory, keep_stack};
 use vm_definitions::{Opening, Outcome, Resumed};
 
@@ -270,11 +270,11 @@ fn read_start(
     let mut arguments = [0u32; 16];
     let size = read_name(l, &mut name);
     if Case::SOURCE <= size {
-        return failed(q, Fault::BadLine);
+        return with_fault(q, Fault::BadLine);
     }
     let n = test_text::read_arguments(l, &mut arguments);
     if 16 < n {
-        return failed(q, Fault::BadLine);
+        return with_fault(q, Fault::BadLine);
     }
     start_named(&name, size, &arguments, n, q, got, t, b, k, m)
 }
@@ -294,7 +294,7 @@ fn read_run(
         let budget = test_text::long_number(l, 4);
         return do_run(q, budget, got, t, b, k, m);
     }
-    failed(q, Fault::BadLine)
+    with_fault(q, Fault::BadLine)
 }
 
 fn read_resume(
@@ -312,7 +312,7 @@ fn read_resume(
         let word = test_text::word_in(l, 1);
         return do_resume(q, word, got, t, b, k, m);
     }
-    failed(q, Fault::BadLine)
+    with_fault(q, Fault::BadLine)
 }
 
 // A start; one of the empty name may end behind its word.

@@ -12,8 +12,8 @@ use prog_tables::Table;
 use test_calls::{is_start, read_call};
 use test_lines::{front, is_source, starts_with};
 use test_state::{
-    Fault, Progress, close_body, failed, read_answer, read_change, read_memory, read_source,
-    read_stack, read_view, set_checked, with_answer, with_counts, without_answer,
+    Fault, Progress, close_body, read_answer, read_change, read_memory, read_source, read_stack,
+    read_view, set_checked, with_answer, with_counts, with_fault, without_answer,
 };
 use test_text::{Bytes, Memory, Room, Rows, Stack, Text, copy_bytes};
 
@@ -117,7 +117,7 @@ fn read_checked(
         return read_answer(l, q, got);
     }
     if 0 < q.given {
-        return failed(without_answer(q), Fault::NoAnswer);
+        return with_fault(without_answer(q), Fault::NoAnswer);
     }
     if is_call(l) {
         return read_call(l, q, got, t, b, k, m);

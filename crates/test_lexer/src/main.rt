@@ -231,18 +231,6 @@ fn lex_case(bits: u32, text: &[u8], size: usize, table: &mut Table) -> Answer {
     answer_of(lex_source::lex(width_of(bits), front(text, size), table))
 }
 
-// The word that a table must have at a place: the hash, and rows that are not listed, may be any.
-fn wanted(q: State, want: u32, word: u32, i: usize) -> u32 {
-    if q.want.rows <= i / 8 {
-        return 0;
-    }
-    if q.is_listed && i % 8 != 6 {
-        want
-    } else {
-        word
-    }
-}
-
 fn put_answer(a: Answer) {
     if a.number == 0 {
         put(b"tokens ");
@@ -296,19 +284,41 @@ fn put_rows(s: &[u8], q: State, want: &Table, table: &Table, row: usize)
     put(b"\n");
 }
 
-// Whether the case differs; prints how.
-fn is_wrong(s: &[u8], q: State, want: &Table, table: &Table, got: Answer) -> bool {
-    if q.want != got {
-        put_answers(s, q, got);
-        return true;
-    }
-    for i in 0..Machine::TOKEN_WORDS {
-        if table[i] != wanted(q, want[i], table[i], i) {
+// Whether a word of the rows in use differs, which end before a place; prints how. The hash may be any.
+fn is_unlike(s: &[u8], q: State, want: &Table, table: &Table, end: usize) -> bool
+    requires { end ≤ 32768 }
+{
+    for i in 0..end {
+        if i % 8 != 6 && table[i] != want[i] {
             put_rows(s, q, want, table, i / 8);
             return true;
         }
     }
     false
+}
+
+// Whether anything but zeros stands from a place on; prints how.
+fn is_filled(s: &[u8], q: State, want: &Table, table: &Table, from: usize) -> bool {
+    for i in from..Machine::TOKEN_WORDS {
+        if table[i] != 0 {
+            put_rows(s, q, want, table, i / 8);
+            return true;
+        }
+    }
+    false
+}
+
+// Whether the case differs; prints how. Rows that are not listed may be any.
+fn is_wrong(s: &[u8], q: State, want: &Table, table: &Table, got: Answer) -> bool {
+    if q.want != got {
+        put_answers(s, q, got);
+        return true;
+    }
+    let end = q.want.rows.min(Machine::TOKENS) * Machine::TOKEN_ROW;
+    if q.is_listed && is_unlike(s, q, want, table, end) {
+        return true;
+    }
+    is_filled(s, q, want, table, end)
 }
 
 // The end of a case: what the lexer makes of its source.

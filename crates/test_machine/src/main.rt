@@ -4,7 +4,7 @@
 ghost use Rattle.std.specs.Prelude.{◌≤◌, length};
 
 use test_lines::{Case, front, is_comment, line_end, one_more, starts_with};
-use test_state::{Fault, Progress, failed};
+use test_state::{Fault, Progress, with_fault};
 use test_text::{Bytes, Memory, Room, Rows, Stack, Text, clear_memory, clear_stack};
 
 // Room for the input: one byte more than it may have.
@@ -133,7 +133,7 @@ fn take_part(
     m: &mut Memory,
 ) -> Progress {
     if q.cases == 0 {
-        return report(s, l, failed(q, Fault::BadLine), got);
+        return report(s, l, with_fault(q, Fault::BadLine), got);
     }
     let read = test_cases::read_line(l, q, text, got, t, b, k, m);
     report(s, l, read, got)

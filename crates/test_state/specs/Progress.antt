@@ -1,11 +1,13 @@
 -- The state of a case, and one part of it set.
 -- Assumes nothing.
-use Rattle.std.specs.Prelude.{ℕ, Bool, true, false, List, None, Some}
+use Rattle.std.specs.Prelude.{ℕ, Bool, true, false, List, Option, None, Some}
+use Rattle.base_prelude.specs.Choice.{if_eq}
 use Rattle.base_limits.specs.declared.Machine.{Machine}
 use Rattle.base_limits.specs.Record.{fresh_of}
 use Rattle.test_lines.specs.Lines.{one_more}
 use Rattle.test_lines.specs.Sources.{Source}
 use Rattle.test_state.specs.declared.Fault.{Fault}
+use Rattle.test_state.specs.declared.Fault.TheVariants.{BadLine, NoAnswer, Differs}
 use Rattle.test_state.specs.declared.Lent.{Lent}
 use Rattle.test_state.specs.declared.Progress.{Progress}
 
@@ -60,6 +62,30 @@ opened_of q name =
       lent = all_lent;
       counts = record { statements = 0; labels = 0; bytes = 0 };
       machine = fresh_of 0 0 0;
+    }
+
+-- the fault of a number: none, a bad line, no answer; any other is a difference
+unfoldable pub fault_of : ℕ → Option Fault
+fault_of n = if_eq n 0 None (if_eq n 1 (Some BadLine) (if_eq n 2 (Some NoAnswer) (Some Differs)))
+
+unfoldable pub numbered_of : Progress → ℕ → Progress
+numbered_of q number =
+    record {
+      line = q.line;
+      cases = q.cases;
+      differ = q.differ;
+      name = q.name;
+      size = q.size;
+      is_body = q.is_body;
+      is_checked = q.is_checked;
+      is_wrong = q.is_wrong;
+      given = q.given;
+      told = q.told;
+      fault = fault_of number;
+      shown = q.shown;
+      lent = q.lent;
+      counts = q.counts;
+      machine = q.machine;
     }
 
 unfoldable pub failed_of : Progress → Fault → Progress

@@ -3,7 +3,7 @@
 
 ghost use Rattle.std.specs.Prelude.{◌≡◌};
 ghost use Rattle.test_lines.specs.Sources.{source};
-ghost use Rattle.test_state.specs.Progress.{on, all_lent, first_of, opened_of, failed_of, sized_of, bodied_of, checked_of, shown_of, answered_of, unanswered_of, counted_of, lent_of, machine_of};
+ghost use Rattle.test_state.specs.Progress.{on, all_lent, first_of, opened_of, fault_of, numbered_of, failed_of, sized_of, bodied_of, checked_of, shown_of, answered_of, unanswered_of, counted_of, lent_of, machine_of};
 ghost use Rattle.test_state.specs.Source.{with_size, open_body, close_body, read_body, read_source};
 ghost use Rattle.test_state.specs.Views.{stack_lent, memory_lent, read_memory, read_stack, compare_texts, compare_line, read_accepted, read_answer, view_words, view_bytes, add_change, read_view};
 ghost use Rattle.test_state.specs.Changes.{read_bytes, poke_statement, poke_label, poke_name, poke_stack, poke_machine, poked, read_poke, count_part, read_count, lend_part, read_lend, changed, read_change};
@@ -67,7 +67,29 @@ pub struct Progress {
     pub machine: Machine,
 }
 
-pub fn failed(mut q: Progress, fault: Fault) -> Progress
+// The fault of a number: none, a bad line, no answer; any other is a difference.
+#[tactic(auto, using(base_prelude::proofs::Choice::tests), unfolding(crate::specs::Progress::fault_of))]
+fn fault_of(number: u32) -> Option<Fault>
+    ensures { result ≡ fault_of number }
+{
+    match number {
+        0 => None,
+        1 => Some(Fault::BadLine),
+        2 => Some(Fault::NoAnswer),
+        _ => Some(Fault::Differs),
+    }
+}
+
+// The line came to the fault of a number, whichever that is.
+pub fn failed(mut q: Progress, fault: u32) -> Progress
+    ensures { result ≡ numbered_of q fault }
+{
+    q.fault = fault_of(fault);
+    q
+}
+
+// The line came to a fault.
+pub fn with_fault(mut q: Progress, fault: Fault) -> Progress
     ensures { result ≡ failed_of q fault }
 {
     q.fault = Some(fault);
@@ -149,10 +171,10 @@ fn with_size(q: Progress, size: usize) -> Progress
     ensures { result ≡ with_size q size }
 {
     if q.is_checked {
-        return failed(q, Fault::BadLine);
+        return with_fault(q, Fault::BadLine);
     }
     if Case::SOURCE <= size {
-        return failed(q, Fault::BadLine);
+        return with_fault(q, Fault::BadLine);
     }
     set_size(q, size)
 }
@@ -195,7 +217,7 @@ pub fn read_source(l: &[u8], q: Progress, text: &mut Text) -> Progress
     ensures { on result text.new ≡ read_source l.now q text.old }
 {
     if q.is_checked {
-        return failed(q, Fault::BadLine);
+        return with_fault(q, Fault::BadLine);
     }
     if starts_with(l, b"body ") {
         return read_body(l, q, text);
@@ -227,11 +249,11 @@ pub fn read_memory(l: &[u8], q: Progress, m: &mut Memory) -> Progress
     ensures { on result m.new ≡ read_memory l.now q m.old }
 {
     if count_fields(l) != 2 {
-        return failed(q, Fault::BadLine);
+        return with_fault(q, Fault::BadLine);
     }
     let n = value(l, 1);
     if 65537 < n {
-        return failed(q, Fault::BadLine);
+        return with_fault(q, Fault::BadLine);
     }
     clear_memory(m, n as usize);
     with_memory(q, n as usize)
@@ -242,11 +264,11 @@ pub fn read_stack(l: &[u8], q: Progress, k: &mut Stack) -> Progress
     ensures { on result k.new ≡ read_stack l.now q k.old }
 {
     if count_fields(l) != 2 {
-        return failed(q, Fault::BadLine);
+        return with_fault(q, Fault::BadLine);
     }
     let n = value(l, 1);
     if 16385 < n {
-        return failed(q, Fault::BadLine);
+        return with_fault(q, Fault::BadLine);
     }
     clear_stack(k, n as usize);
     with_stack(q, n as usize)
@@ -259,7 +281,7 @@ fn compare_texts(want: &Text, n: usize, q: Progress, got: &Text, size: usize) ->
     if base_prelude::same(front(want, n), front(got, size)) {
         return q;
     }
-    failed(set_shown(q, size), Fault::Differs)
+    with_fault(set_shown(q, size), Fault::Differs)
 }
 
 // Compares a line with what is given.
@@ -269,7 +291,7 @@ fn compare(l: &[u8], q: Progress, got: &Text, size: usize) -> Progress
     let mut want = [0u8; Case::SOURCE];
     let n = test_text::plain_line(l, &mut want);
     if Case::SOURCE <= n {
-        return failed(q, Fault::BadLine);
+        return with_fault(q, Fault::BadLine);
     }
     compare_texts(&want, n, q, got, size)
 }
@@ -282,7 +304,7 @@ fn read_accepted(l: &[u8], q: Progress, got: &mut Text) -> Progress
         let size = add_all(b"accepted", got, 0);
         return compare(l, q, got, size);
     }
-    failed(q, Fault::BadLine)
+    with_fault(q, Fault::BadLine)
 }
 
 // The answer of the last call.
@@ -302,7 +324,7 @@ fn view_words(l: &[u8], q: Progress, got: &mut Text, k: &Stack) -> Progress
 {
     let at = value(l, 1);
     if 16385 <= at {
-        return failed(q, Fault::BadLine);
+        return with_fault(q, Fault::BadLine);
     }
     let a = q.lent;
     let n = at_most(a.stack, Room::STACK);
@@ -316,7 +338,7 @@ fn view_bytes(l: &[u8], q: Progress, got: &mut Text, m: &Memory) -> Progress
 {
     let at = value(l, 1);
     if 65537 <= at {
-        return failed(q, Fault::BadLine);
+        return with_fault(q, Fault::BadLine);
     }
     let a = q.lent;
     let n = at_most(a.memory, Room::MEMORY);
@@ -367,13 +389,13 @@ fn read_bytes(l: &[u8], q: Progress, m: &mut Memory) -> Progress
 {
     let at = value(l, 1);
     if 65537 <= at {
-        return failed(q, Fault::BadLine);
+        return with_fault(q, Fault::BadLine);
     }
     let a = q.lent;
     if put_bytes(l, at as usize, a.memory, m) {
         return q;
     }
-    failed(q, Fault::BadLine)
+    with_fault(q, Fault::BadLine)
 }
 
 // `poke statement ROW WORD VALUE`
@@ -382,17 +404,17 @@ fn poke_statement(l: &[u8], q: Progress, t: &mut Rows) -> Progress
 {
     let row = value(l, 2);
     if 1024 <= row {
-        return failed(q, Fault::BadLine);
+        return with_fault(q, Fault::BadLine);
     }
     let word = value(l, 3);
     if 27 <= word {
-        return failed(q, Fault::BadLine);
+        return with_fault(q, Fault::BadLine);
     }
     if has_values(l, 4, 5) {
         t[(row * 27 + word) as usize] = narrow(value(l, 4));
         return q;
     }
-    failed(q, Fault::BadLine)
+    with_fault(q, Fault::BadLine)
 }
 
 // `poke label ROW WORD VALUE`
@@ -401,17 +423,17 @@ fn poke_label(l: &[u8], q: Progress, t: &mut Rows) -> Progress
 {
     let row = value(l, 2);
     if 256 <= row {
-        return failed(q, Fault::BadLine);
+        return with_fault(q, Fault::BadLine);
     }
     let word = value(l, 3);
     if 4 <= word {
-        return failed(q, Fault::BadLine);
+        return with_fault(q, Fault::BadLine);
     }
     if has_values(l, 4, 5) {
         t[(row * 4 + word + 27648) as usize] = narrow(value(l, 4));
         return q;
     }
-    failed(q, Fault::BadLine)
+    with_fault(q, Fault::BadLine)
 }
 
 // `poke name ROW BYTE VALUE`
@@ -420,18 +442,18 @@ fn poke_name(l: &[u8], q: Progress, b: &mut Bytes) -> Progress
 {
     let row = value(l, 2);
     if 256 <= row {
-        return failed(q, Fault::BadLine);
+        return with_fault(q, Fault::BadLine);
     }
     let place = value(l, 3);
     if 64 <= place {
-        return failed(q, Fault::BadLine);
+        return with_fault(q, Fault::BadLine);
     }
     if count_fields(l) != 5 {
-        return failed(q, Fault::BadLine);
+        return with_fault(q, Fault::BadLine);
     }
     let v = value(l, 4);
     if 255 < v {
-        return failed(q, Fault::BadLine);
+        return with_fault(q, Fault::BadLine);
     }
     b[(row * 64 + place) as usize] = v as u8;
     q
@@ -443,13 +465,13 @@ fn poke_stack(l: &[u8], q: Progress, k: &mut Stack) -> Progress
 {
     let at = value(l, 2);
     if 16385 <= at {
-        return failed(q, Fault::BadLine);
+        return with_fault(q, Fault::BadLine);
     }
     if has_values(l, 2, 4) {
         k[at as usize] = narrow(value(l, 3));
         return q;
     }
-    failed(q, Fault::BadLine)
+    with_fault(q, Fault::BadLine)
 }
 
 // `poke record FIELD VALUE`
@@ -461,7 +483,7 @@ fn poke_record(l: &[u8], q: Progress) -> Progress
         let poked = test_text::poke_record(l, r);
         return with_machine(q, poked);
     }
-    failed(q, Fault::BadLine)
+    with_fault(q, Fault::BadLine)
 }
 
 fn read_poke(l: &[u8], q: Progress, t: &mut Rows, b: &mut Bytes, k: &mut Stack) -> Progress
@@ -482,7 +504,7 @@ fn read_poke(l: &[u8], q: Progress, t: &mut Rows, b: &mut Bytes, k: &mut Stack) 
     if starts_with(l, b"poke record ") {
         return poke_record(l, q);
     }
-    failed(q, Fault::BadLine)
+    with_fault(q, Fault::BadLine)
 }
 
 // The count that a line names.
@@ -499,7 +521,7 @@ fn count_part(l: &[u8], q: Progress, n: u32) -> Progress
     if has_word(l, 1, b"data ") {
         return with_counts(q, c.statements, c.labels, n);
     }
-    failed(q, Fault::BadLine)
+    with_fault(q, Fault::BadLine)
 }
 
 // `count statements N`, `count labels N`, `count data N`
@@ -509,7 +531,7 @@ fn read_count(l: &[u8], q: Progress) -> Progress
     if has_values(l, 2, 3) {
         return count_part(l, q, narrow(value(l, 2)));
     }
-    failed(q, Fault::BadLine)
+    with_fault(q, Fault::BadLine)
 }
 
 // What is lent, with a part of n in it, at most so many.
@@ -517,7 +539,7 @@ fn lend_part(q: Progress, n: u64, most: u64, a: Lent) -> Progress
     ensures { result ≡ lend_part q n most a }
 {
     if most < n {
-        return failed(q, Fault::BadLine);
+        return with_fault(q, Fault::BadLine);
     }
     with_lent(q, a)
 }
@@ -527,7 +549,7 @@ fn read_lend(l: &[u8], q: Progress) -> Progress
     ensures { result ≡ read_lend l.now q }
 {
     if count_fields(l) != 3 {
-        return failed(q, Fault::BadLine);
+        return with_fault(q, Fault::BadLine);
     }
     let n = value(l, 2);
     let size = n as usize;
@@ -552,7 +574,7 @@ fn read_lend(l: &[u8], q: Progress) -> Progress
     if has_word(l, 1, b"data ") {
         return lend_part(q, n, 32768, Lent { bytes: size, ..a });
     }
-    failed(q, Fault::BadLine)
+    with_fault(q, Fault::BadLine)
 }
 
 // A change between calls.
@@ -578,7 +600,7 @@ pub fn read_change(
     if starts_with(l, b"lend ") {
         return read_lend(l, q);
     }
-    failed(q, Fault::BadLine)
+    with_fault(q, Fault::BadLine)
 }
 
 // All of each table, and 64 of stack and memory.

@@ -6,7 +6,7 @@ use Rattle.std.specs.Prelude.{ℕ, ◌+◌, ◌-◌, ◌*◌, ◌/◌, List, [],
 use Rattle.base_prelude.specs.Choice.{if_lt, if_eq, if_true}
 use Rattle.base_limits.specs.Width.{bits_of, bytes_of}
 use Rattle.base_limits.specs.declared.Width.{Width}
-use Rattle.base_word.specs.Word.{error_stop, add_of, sub_of, mul_of, div_of, mod_of, and_of, or_of, xor_of, not_of, shl_of, shr_of, bsr_of, asr_of, rol_of, ror_of}
+use Rattle.base_word.specs.Word.{stop_of, add_of, sub_of, mul_of, div_of, mod_of, and_of, or_of, xor_of, not_of, shl_of, shr_of, bsr_of, asr_of, rol_of, ror_of}
 use Rattle.base_word.specs.Word.{Answer}
 use Rattle.lang_words.specs.Numbers as op
 use Rattle.prog_tables.specs.Layout.{no_expression}
@@ -27,7 +27,7 @@ reserved w m top n = if_lt m (round_up w top + n) (Err 34) (valued (round_up w t
 -- an operator's answer, the auto top staying
 unfoldable pub answered : ℕ → Answer → Worked
 answered top (Ok v) = valued v top
-answered top (Err e) = Err (error_stop e)
+answered top (Err e) = Err (stop_of (Err e))
 
 -- a word read, the auto top staying
 unfoldable pub fetched : ℕ → Option ℕ → Worked

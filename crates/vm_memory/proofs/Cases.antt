@@ -1,12 +1,12 @@
 -- The ways through the stores: what is left to write gives the whole.
 -- Assumes nothing.
-use mathlib.Core.Path.{◌≡◌, refl, sym, ◌∙◌, ap}
+use mathlib.Core.Path.{◌≡◌, refl, sym, ◌∙◌, ap, subst}
 use mathlib.Core.List.{List, [], ◌∷◌, ◌++◌}
 use Prim.Native.Nat.{ℕ, suc, ◌+◌, ◌-◌, ◌/◌, ◌%◌, ◌<◌, ◌≤◌}
 use native.Mathlib.Numerals.{add-one}
 use native.Mathlib.Omega.{arith}
 use lib.ListN.{length, get_or, take, drop, set, replicate, length-set, length-take, length-replicate, get_or-replicate, drop_of_length-le}
-use lib.Seq.{drop-cons, set_out}
+use lib.Seq.{drop-cons, set_out, get_or-take}
 use Rattle.base_word.specs.Bytes.{word_bytes}
 use Rattle.vm_definitions.specs.Access.{store_from}
 use Rattle.vm_definitions.specs.Frames.{frame_words}
@@ -90,6 +90,31 @@ zeros-done l₀ at n l i h g = putting-done l₀ at (replicate n 0) l i h (omega
 pub ruleset zeroing = (words-start, zeros-more, zeros-done)
 
 -- bytes
+pub record Copying (m₀ : List ℕ) (bs : List ℕ) (n : ℕ) (m : List ℕ) (i : ℕ) : Type 0 where
+  pub have : n ≤ length bs
+  pub room : n ≤ length m
+  pub put : Putting m₀ 0 (take n bs) m i
+
+pub bytes-start : (m : List ℕ) (bs : List ℕ) (n : ℕ) → n ≤ length m → n ≤ length bs → Copying m bs n m 0
+bytes-start m bs n h g = record { have = g; room = h; put = putting-start m 0 (take n bs) }
+
+pub bytes-more : (m₀ : List ℕ) (bs : List ℕ) (n : ℕ) (m : List ℕ) (i : ℕ) → Copying m₀ bs n m i → i < n → Copying m₀ bs n (set m i (get_or bs i 0)) (i + 1)
+bytes-more m₀ bs n m i h g =
+    record {
+      have = h.have;
+      room = omega (arith, h.room, length-set m i (get_or bs i 0));
+      put =
+          (let z : 0 + i ≡ i = omega arith in
+          subst (λ (j : ℕ). Putting m₀ 0 (take n bs) (set m j (get_or bs i 0)) (i + 1)) z
+          (putting-more m₀ 0 (take n bs) m i (get_or bs i 0) h.put (omega (arith, length-take n bs, h.have)) (sym (get_or-take n bs i 0 g))));
+    }
+
+pub bytes-done : (m₀ : List ℕ) (bs : List ℕ) (n : ℕ) (m : List ℕ) (i : ℕ) → Copying m₀ bs n m i → n ≤ i → m ≡ store_from m₀ 0 (take n bs)
+bytes-done m₀ bs n m i h g = putting-done m₀ 0 (take n bs) m i h.put (omega (arith, length-take n bs, h.have))
+
+pub ruleset copying = (bytes-start, bytes-more, bytes-done)
+
+-- stores from the first place on stand in front
 front-cons : (x : ℕ) (m : List ℕ) (a : ℕ) (ys : List ℕ) → store_from (x ∷ m) (suc a) ys ≡ x ∷ store_from m a ys
 unfolding store_from
 front-cons x m a [] = refl
@@ -100,12 +125,6 @@ unfolding store_from
 front-stored m [] h = refl
 front-stored [] (y ∷ ys) h = absurd (omega arith)
 front-stored (x ∷ m) (y ∷ ys) h = front-cons y m 0 ys ∙ ap (λ (l : List ℕ). y ∷ l) (front-stored m ys (omega arith))
-
-pub front-copied : (m bs d : List ℕ) (n : ℕ) → n ≤ length m → n ≤ length bs → d ≡ take n bs → d ++ drop n m ≡ store_from m 0 (take n bs)
-front-copied m bs d n h g e =
-    let k : length (take n bs) ≡ n = omega (arith, length-take n bs) in
-    let l : length (take n bs) ≤ length m = omega arith in
-    rw e (sym (front-stored m (take n bs) l ∙ ap (λ (j : ℕ). take n bs ++ drop j m) k))
 
 -- ---- a frame
 

@@ -101,6 +101,8 @@ pub fn put_bytes(m: &mut [u8], bytes: &[u8], n: u32)
     requires n_in_bounds_2 { n ≤ length bytes.now }
     ensures { m.new ≡ store_from m.old 0 (take n bytes.now) }
 {
-    let k = n as usize;
-    m[..k].copy_from_slice(&bytes[..k]);
+    // By index: copy_from_slice would take memmove, and voodoo.h says that nothing but memcpy and memset is called.
+    for i in 0..n as usize {
+        m[i] = bytes[i];
+    }
 }

@@ -17,12 +17,12 @@ unfolding pair_of pair_one pair_end
 returns-in-Err-Err c =
     rw (c.in-Err-Err.is-0, c.in-Err-Err.is-1)
 
-pub returns-in_default : goal.returns-in_default
+pub returns-in-Ok-Err : goal.returns-in-Ok-Err
 unfolding pair_of pair_one pair_end
-returns-in_default c =
-    rw (c.in_default.is-0, c.in_default.is-1)
+returns-in-Ok-Err c =
+    rw (c.in-Ok-Err.is-0, c.in-Ok-Err.is-1)
 
-pub returns-in_default-2 : goal.returns-in_default-2
+pub returns-in-Err-Ok : goal.returns-in-Err-Ok
 unfolding pair_of pair_one pair_end
-returns-in_default-2 c =
-    rw (c.in_default.is-0, c.in_default.is-1)
+returns-in-Err-Ok c =
+    rw (c.in-Err-Ok.is-0, c.in-Err-Ok.is-1)

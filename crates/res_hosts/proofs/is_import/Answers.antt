@@ -9,6 +9,6 @@ pub returns-then-word_at-eq-IMPORT : goal.returns-then-word_at-eq-IMPORT
 returns-then-word_at-eq-IMPORT c =
     search importing
 
-pub returns-else-word_at-eq-IMPORT : goal.returns-else-word_at-eq-IMPORT
-returns-else-word_at-eq-IMPORT c =
+pub returns : goal.returns
+returns c =
     search importing

@@ -1,8 +1,7 @@
-use Rattle.test_state.specs.Progress.{failed_of}
-use mathlib.Core.Path.{refl}
+use Rattle.test_state.specs.Progress.{numbered_of}
 use Rattle.test_state.proofs.failed.Goals as goal
 
 pub returns : goal.returns
-unfolding failed_of
+unfolding numbered_of
 returns c =
-    refl
+    rw (← c.fault_of-q.ensures)

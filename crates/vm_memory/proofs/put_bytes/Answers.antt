@@ -1,6 +1,14 @@
-use Rattle.vm_memory.proofs.Cases.{front-copied}
+use Rattle.vm_memory.proofs.Cases.{copying}
 use Rattle.vm_memory.proofs.put_bytes.Goals as goal
+
+pub loop-i-init : goal.loop-i-init
+loop-i-init c =
+    search copying
+
+pub loop-i-preserved : goal.loop-i-preserved
+loop-i-preserved c =
+    search copying
 
 pub returns : goal.returns
 returns c =
-    front-copied _ _ _ _ c.requires.n_in_bounds c.requires.n_in_bounds_2 c.copy_from_slice.ensures.after
+    search copying
